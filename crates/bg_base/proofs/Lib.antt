@@ -1,0 +1,4 @@
+pub mod Ring
+pub mod Euclid
+pub mod Takes
+pub mod Totals
