@@ -1,0 +1,6 @@
+//! Programs as plain data, and how contracts see them.
+#![tactic(auto)]
+
+mod program;
+
+pub use program::{Clause, Expr, Name, Procedure, Program, Stmt, Variable};
