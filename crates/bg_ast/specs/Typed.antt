@@ -49,24 +49,19 @@ abbrev pub AreRoutines : List Routine → Type 0
 AreRoutines [] = Unit {0}
 AreRoutines (r ∷ rs) = IsRoutine r × AreRoutines rs
 
--- the clauses are numbered in their order, from k; this is the number behind the last
-abbrev pub AreNumbered : ℕ → List Line → ℕ → Type 0
-AreNumbered k [] end = k ≡ end
-AreNumbered k (Assigns x e ∷ ls) end = AreNumbered k ls end
-AreNumbered k (Asserts id pos e ∷ ls) end = (id ≡ k) × AreNumbered (suc k) ls end
+-- the clauses are numbered in their order, from k
+abbrev pub AreNumbered : ℕ → List Line → Type 0
+AreNumbered k [] = Unit {0}
+AreNumbered k (Assigns x e ∷ ls) = AreNumbered k ls
+AreNumbered k (Asserts id pos e ∷ ls) = (id ≡ k) × AreNumbered (suc k) ls
 
 -- the statements of all routines, one after the other
 abbrev pub all_lines : List Routine → List Line
 all_lines [] = []
 all_lines (r ∷ rs) = r.body ++ all_lines rs
 
-abbrev pub clauses_in : List Line → ℕ
-clauses_in [] = 0
-clauses_in (Assigns x e ∷ ls) = clauses_in ls
-clauses_in (Asserts id pos e ∷ ls) = suc (clauses_in ls)
-
 -- a program that keeps the rules
 pub record IsTyped (s : Source) : Type 0 where
   pub names : AreDistinct (map (λ r. r.name) s.routines)
   pub routines : AreRoutines s.routines
-  pub numbers : AreNumbered 0 (all_lines s.routines) (clauses_in (all_lines s.routines))
+  pub numbers : AreNumbered 0 (all_lines s.routines)
