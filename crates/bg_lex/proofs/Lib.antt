@@ -1,0 +1,3 @@
+mod Steps
+mod Front
+pub mod Whole

@@ -1,0 +1,10 @@
+mod Tokens
+mod Scopes
+mod Loops
+mod Distinct
+mod Marks
+mod Exprs
+mod Lines
+mod Formals
+mod Routines
+mod Whole

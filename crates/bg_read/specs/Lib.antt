@@ -1,0 +1,5 @@
+pub mod Spelling
+pub mod Program
+pub mod Reading
+pub mod Names
+pub mod Fronts
