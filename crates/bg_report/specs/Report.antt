@@ -1,0 +1,82 @@
+-- The text of a report.
+use Rattle.std.specs.Prelude.{ℕ, Bool, true, false, List, [], ◌∷◌, ◌++◌, codes, count_by}
+use Rattle.std.specs.Fmt.{decimal}
+use Rattle.bg_base.specs.declared.pos.Pos.{Pos}
+use Rattle.bg_ast.specs.Source.{Line, Assigns, Asserts, Routine, Source}
+use Rattle.bg_ast.specs.Typed.{scope_of}
+use Rattle.bg_check.specs.declared.node.Node.{Node}
+use Rattle.bg_check.specs.declared.node.Node.TheVariants.{Split, Closed, Open}
+use Rattle.bg_check.specs.declared.check.Verdict.{Verdict}
+use Rattle.bg_check.specs.declared.check.Verdict.TheVariants as verdict
+use Rattle.bg_report.specs.declared.word.Word.{Word}
+use Rattle.bg_report.specs.declared.word.Word.TheVariants.{Verified, Refuted, Unknown}
+use Rattle.bg_report.specs.Words.{word_of, count_of}
+
+-- a line is ended by one newline byte
+abbrev pub line : List ℕ → List ℕ
+line words = words ++ 10 ∷ []
+
+-- the texts of the pairs of two lists, as far as both go
+abbrev pub texts : {A B : Type 0} → (A → B → List ℕ) → List A → List B → List ℕ
+texts text [] ys = []
+texts text (x ∷ xs) [] = []
+texts text (x ∷ xs) (y ∷ ys) = text x y ++ texts text xs ys
+
+abbrev pub position_text : Pos → List ℕ
+position_text p = decimal p.line ++ codes ":" ++ decimal p.column
+
+abbrev pub truth_text : Bool → List ℕ
+truth_text true = codes "true"
+truth_text false = codes "false"
+
+abbrev pub word_text : Word → List ℕ
+word_text Verified = codes "verified"
+word_text Refuted = codes "refuted"
+word_text Unknown = codes "unknown"
+
+-- the entry value of a variable
+abbrev pub value_text : List ℕ → Bool → List ℕ
+value_text name value = line (codes "    var " ++ name ++ codes " = " ++ truth_text value)
+
+abbrev pub is_split : Node → Bool
+is_split (Split x) = true
+is_split Closed = false
+is_split Open = false
+
+-- a refuted place, with the entry values of its counterexample
+abbrev pub refuted_text : List (List ℕ) → Pos → List Bool → List ℕ
+refuted_text scope pos values = line (codes "  refuted assert " ++ position_text pos) ++ texts value_text scope values
+
+-- an unknown place, with the number of inner nodes of its partial tree
+abbrev pub unknown_text : Pos → List Node → List ℕ
+unknown_text pos nodes = line (codes "  unknown assert " ++ position_text pos ++ codes " nodes") ++ line (codes "    kept " ++ decimal (count_by is_split nodes))
+
+-- what is told of a place: nothing where it is proved
+abbrev pub place_text : List (List ℕ) → Pos → Verdict → List ℕ
+place_text scope pos (verdict.Proved nodes) = []
+place_text scope pos (verdict.Refuted values) = refuted_text scope pos values.items
+place_text scope pos (verdict.Unknown nodes) = unknown_text pos nodes.items
+
+-- the positions of the asserted clauses
+abbrev pub positions : List Line → List Pos
+positions [] = []
+positions (Assigns x e ∷ ls) = positions ls
+positions (Asserts id pos e ∷ ls) = pos ∷ positions ls
+
+abbrev pub head_text : Routine → Word → List ℕ
+head_text r word = line (codes "implementation " ++ r.name ++ codes " " ++ position_text r.pos ++ codes " " ++ word_text word)
+
+-- an implementation, and its places that aren't proved
+abbrev pub implementation_text : Routine → List Verdict → List ℕ
+implementation_text r vs = head_text r (word_of vs) ++ texts (place_text (scope_of r)) (positions r.body) vs
+
+abbrev pub summary_text : ℕ → ℕ → ℕ → List ℕ
+summary_text verified refuted unknown = line (codes "summary: 0 retained, 0 dropped; " ++ decimal verified ++ codes " verified, " ++ decimal refuted ++ codes " refuted, " ++ decimal unknown ++ codes " unknown")
+
+-- the report of a program without axioms and candidates
+abbrev pub result_text : Source → List (List Verdict) → List ℕ
+result_text s outcome =
+    line (codes "axioms: consistent")
+    ++ line (codes "retained set: greatest")
+    ++ texts implementation_text s.routines outcome
+    ++ summary_text (count_of Verified outcome) (count_of Refuted outcome) (count_of Unknown outcome)
