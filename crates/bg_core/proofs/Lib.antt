@@ -1,0 +1,5 @@
+pub mod Means
+pub mod Ties
+pub mod Tabulates
+pub mod Going
+pub mod Tabled
