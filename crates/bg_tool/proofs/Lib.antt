@@ -1,0 +1,4 @@
+pub mod ThreeWords
+pub mod Joined
+pub mod Safety
+pub mod Ends

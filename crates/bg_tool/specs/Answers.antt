@@ -1,0 +1,101 @@
+-- What the top call claims of how it ends.
+use Rattle.std.specs.Prelude.{◌≡◌, ◌<◌, ◌≤◌, ◌⊎◌, ℕ, List, [], ◌∷◌, ◌++◌, Option, Some, codes, length, take, IsTrue}
+use Rattle.bg_io.specs.Causes.{joined, IsTextOf, IsTextOver}
+use Rattle.bg_ast.specs.Source.{Source}
+use Rattle.bg_read.specs.Program.{IsProgramOf}
+use Rattle.bg_check.specs.declared.check.Verdict.{Verdict}
+use Rattle.bg_check.specs.Verdicts.{AreRight}
+use Rattle.bg_report.specs.Report.{result_text}
+use Rattle.bg_report.specs.Words.{word_for}
+use Rattle.bg_tool.specs.Safety.{VerifiedAreSafe}
+use Rattle.bg_tool.specs.declared.status.Status.{Status}
+use Rattle.bg_tool.specs.declared.status.Status.TheVariants as status
+use Rattle.bg_tool.specs.Statuses.{status_for, is_report}
+use Rattle.bg_tool.specs.Words.{Takes, third}
+
+-- the text is the report of the program that the bytes spell, with verdicts that are right; each implementation that it
+-- calls verified is safe; and the status is the one that the verdicts give
+pub record IsReport (budget : ℕ) (bytes : List ℕ) (ends : Status) (text : List ℕ) : Type 0 where
+  pub source : Source
+  pub spelled : IsProgramOf bytes source
+  pub outcome : List (List Verdict)
+  pub right : AreRight budget source outcome
+  pub safe : VerifiedAreSafe source 0 outcome
+  pub is : text ≡ result_text source outcome
+  pub gives : ends ≡ status_for (word_for outcome)
+
+-- a report was written, whole
+pub record Reported (budget : ℕ) (bytes : List ℕ) (ends : Status) (before now : Option (List ℕ)) : Type 0 where
+  pub text : List ℕ
+  pub report : IsReport budget bytes ends text
+  pub written : now ≡ joined before text
+
+-- nothing was written, or the first bytes of a report
+pub record ReportedFront (budget : ℕ) (bytes : List ℕ) (before now : Option (List ℕ)) : Type 0 where
+  pub ends : Status
+  pub text : List ℕ
+  pub report : IsReport budget bytes ends text
+  pub count : ℕ
+  pub written : now ≡ joined before (take count text)
+
+abbrev pub ReportedSome : ℕ → List ℕ → Option (List ℕ) → Option (List ℕ) → Type 0
+ReportedSome budget bytes before now = (now ≡ before) ⊎ ReportedFront budget bytes before now
+
+-- the bytes are the text of the file that the words name
+pub record IsRead (contents : Option (List ℕ → List ℕ)) (words : List (List ℕ)) (limit : ℕ) (bytes : List ℕ) : Type 0 where
+  pub takes : Takes words (third words)
+  pub read : IsTextOf contents (third words ∷ []) bytes
+  pub fits : length bytes ≤ limit
+
+-- a text that the call may write when it ends so
+pub record MayWrite (budget limit : ℕ) (contents : Option (List ℕ → List ℕ)) (words : List (List ℕ)) (ends : Status) (text : List ℕ) : Type 0 where
+  pub bytes : List ℕ
+  pub read : IsRead contents words limit bytes
+  pub report : IsReport budget bytes ends text
+
+-- such a text was written, whole
+pub record Wrote (budget limit : ℕ) (contents : Option (List ℕ → List ℕ)) (words : List (List ℕ)) (ends : Status) (before now : Option (List ℕ)) : Type 0 where
+  pub text : List ℕ
+  pub may : MayWrite budget limit contents words ends text
+  pub written : now ≡ joined before text
+
+-- nothing was written, or the first bytes of a text that the call may write when it ends with a report
+pub record WroteFrontOf (budget limit : ℕ) (contents : Option (List ℕ → List ℕ)) (words : List (List ℕ)) (before now : Option (List ℕ)) : Type 0 where
+  pub ends : Status
+  pub text : List ℕ
+  pub may : MayWrite budget limit contents words ends text
+  pub count : ℕ
+  pub written : now ≡ joined before (take count text)
+
+abbrev pub WroteSome : ℕ → ℕ → Option (List ℕ → List ℕ) → List (List ℕ) → Option (List ℕ) → Option (List ℕ) → Type 0
+WroteSome budget limit contents words before now = (now ≡ before) ⊎ WroteFrontOf budget limit contents words before now
+
+-- no typed program is spelled by the text of the file that the words name
+pub record IsNoProgram (contents : Option (List ℕ → List ℕ)) (words : List (List ℕ)) (limit : ℕ) : Type 0 where
+  pub bytes : List ℕ
+  pub read : IsRead contents words limit bytes
+  pub none : (s : Source) → IsProgramOf bytes s → ⊥
+
+-- the words name a file whose text is longer than the limit
+pub record IsOver (contents : Option (List ℕ → List ℕ)) (words : List (List ℕ)) (limit : ℕ) : Type 0 where
+  pub takes : Takes words (third words)
+  pub over : IsTextOver contents (third words ∷ []) limit
+
+-- the line that a refusal writes
+abbrev pub line_for : Status → List (List ℕ) → List ℕ
+line_for status.Text words = codes "error: 1:1 unsupported text\n"
+line_for status.Usage words = codes "usage: bg verify|annotate|certify|check|generate|bench ..\n"
+line_for status.Read words = codes "error: cannot read " ++ third words ++ codes "\n"
+line_for status.Limit words = codes "error: limit bytes 4194305\n"
+line_for _ words = []
+
+-- where no fault was counted, taken words of a text that is told: a text within the limit that a typed program spells gives a
+-- report, one that no typed program spells is refused, and so is one that is longer; unless memory ran out
+pub record Completes (contents : Option (List ℕ → List ℕ)) (words : List (List ℕ)) (limit : ℕ) (ends : Status) : Type 0 where
+  pub program : (held : List ℕ → List ℕ) (s : Source) → contents ≡ Some held → Takes words (third words) →
+      length (held (third words)) ≤ limit → IsProgramOf (held (third words)) s → IsTrue (is_report ends) ⊎ (ends ≡ status.Memory)
+  pub none : (held : List ℕ → List ℕ) → contents ≡ Some held → Takes words (third words) →
+      length (held (third words)) ≤ limit → ((s : Source) → IsProgramOf (held (third words)) s → ⊥) → (ends ≡ status.Text) ⊎ (ends ≡ status.Memory)
+  pub over : (held : List ℕ → List ℕ) → contents ≡ Some held → Takes words (third words) →
+      limit < length (held (third words)) → (ends ≡ status.Limit) ⊎ (ends ≡ status.Memory)
+  pub usage : ((file : List ℕ) → Takes words file → ⊥) → ends ≡ status.Usage

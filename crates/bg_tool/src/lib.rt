@@ -1,0 +1,12 @@
+//! The top call: from the words of a command line to a report and a status.
+#![tactic(auto)]
+
+mod driver;
+mod status;
+mod words;
+
+pub use driver::{LIMIT, NODES, run};
+pub use status::Status;
+
+#[cfg(test)]
+mod tests;
