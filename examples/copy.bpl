@@ -1,0 +1,1 @@
+procedure P(a: bool) { var b: bool; b := a; assert b == a; }

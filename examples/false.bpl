@@ -1,0 +1,3 @@
+procedure False() {
+  assert false;
+}

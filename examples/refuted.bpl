@@ -1,0 +1,3 @@
+procedure Wish(a: bool) {
+  assert a == true;
+}
