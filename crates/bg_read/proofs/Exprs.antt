@@ -4,8 +4,8 @@ use Rattle.std.specs.Prelude.{unwrap_or}
 use Rattle.std.proofs.lemmas.Option.{same_Some, option_and_then_some, slice_get_within}
 use Rattle.bg_ast.specs.Syntax.{Local, Global, Ex, Fact, Read, Binary, Equal}
 use Rattle.bg_ast.specs.Typed.{AreDistinct, IsAtom, IsFormula}
-use Rattle.bg_lex.specs.declared.token.Kind.TheVariants as kinds
-use Rattle.bg_lex.specs.Tokens.{Tok}
+use Rattle.bg_scan.specs.declared.token.Kind.TheVariants as kinds
+use Rattle.bg_scan.specs.Tokens.{Tok}
 use Rattle.bg_read.specs.Spelling.{Plain, Named, Begins, name_in, atom_marks, expr_marks}
 use Rattle.bg_read.specs.Reading.{is_kind, take_kind, branch, name_atom, place_of, atom_at, more_at, expr_at, Part, ◌>>=◌}
 use Rattle.bg_read.proofs.Marks.{begins_join, begins_split, taken, takes, skips}

@@ -3,9 +3,9 @@ use Rattle.std.proofs.Common.{◌≡◌, ℕ, zero, suc, ◌+◌, ◌<◌, ◌�
 use Rattle.std.specs.Prelude.{◌⊎◌}
 use Rattle.std.proofs.lemmas.Option.{same_Some, option_and_then_some}
 use Rattle.bg_ast.specs.Typed.{AreDistinct}
-use Rattle.bg_lex.specs.declared.token.Kind.{Kind}
-use Rattle.bg_lex.specs.declared.token.Kind.TheVariants as kinds
-use Rattle.bg_lex.specs.Tokens.{Tok}
+use Rattle.bg_scan.specs.declared.token.Kind.{Kind}
+use Rattle.bg_scan.specs.declared.token.Kind.TheVariants as kinds
+use Rattle.bg_scan.specs.Tokens.{Tok}
 use Rattle.bg_read.specs.Spelling.{Mark, Plain, Named, Begins, Formals, Params, Declarations, joined}
 use Rattle.bg_read.specs.Reading.{is_kind, take_kind, branch, with_name, goes_at, formal_at, on_goes, formals_at, params_at, declaration_at, locals_at, Part, ◌>>=◌}
 use Rattle.bg_read.proofs.Marks.{begins_join, begins_split, begins_length, taken, takes, skips}

@@ -5,9 +5,9 @@ use Rattle.std.proofs.lemmas.Bool.Decides.{nat_tests}
 use Rattle.std.proofs.lemmas.Option.{same_Some, option_and_then_some, slice_get_within}
 use Rattle.bg_ast.specs.Source.{Line, Assigns, Asserts}
 use Rattle.bg_ast.specs.Typed.{AreDistinct, IsLine, AreLines, AreNumbered}
-use Rattle.bg_lex.specs.declared.token.Kind.{Kind}
-use Rattle.bg_lex.specs.declared.token.Kind.TheVariants as kinds
-use Rattle.bg_lex.specs.Tokens.{Tok}
+use Rattle.bg_scan.specs.declared.token.Kind.{Kind}
+use Rattle.bg_scan.specs.declared.token.Kind.TheVariants as kinds
+use Rattle.bg_scan.specs.Tokens.{Tok}
 use Rattle.bg_read.specs.Spelling.{Plain, Begins, name_in, expr_marks, line_marks, body_marks}
 use Rattle.bg_read.specs.Reading.{is_kind, take_kind, branch, when, place_of, expr_at, assign_at, assert_at, line_at, body_at, Part, ◌>>=◌}
 use Rattle.bg_read.proofs.Marks.{begins_join, begins_split, begins_length, taken, takes, skips}

@@ -1,8 +1,8 @@
 -- Reading parts in a row, one after the other.
 use Rattle.std.proofs.Common.{◌≡◌, ℕ, suc, List, [], ◌∷◌, ◌++◌, true, false, Option, Some, None, refl, sym, ap, ◌∙◌}
 use Rattle.bg_ast.specs.Source.{Line, Routine}
-use Rattle.bg_lex.specs.declared.token.Kind.TheVariants as kinds
-use Rattle.bg_lex.specs.Tokens.{Tok}
+use Rattle.bg_scan.specs.declared.token.Kind.TheVariants as kinds
+use Rattle.bg_scan.specs.Tokens.{Tok}
 use Rattle.bg_read.specs.declared.error.ReadError.{ReadError}
 use Rattle.bg_read.specs.declared.error.ReadError.TheVariants as errors
 use Rattle.bg_read.specs.Reading.{take_kind, formal_at, formals_at, declaration_at, locals_at, line_at, body_at, routine_at, routines_at, Fails}

@@ -3,9 +3,9 @@ use Rattle.std.proofs.Common.{◌≡◌, ◌+◌, List, [], ◌∷◌, ◌++◌,
 use Rattle.std.proofs.lemmas.Bool.{eq-eqb}
 use Rattle.std.proofs.lemmas.Option.{same_Some}
 use denote.Enum.Bare.{same_true}
-use Rattle.bg_lex.specs.declared.token.Kind.{Kind}
-use Rattle.bg_lex.specs.contracts.token.Kind.{the_type}
-use Rattle.bg_lex.specs.Tokens.{Tok}
+use Rattle.bg_scan.specs.declared.token.Kind.{Kind}
+use Rattle.bg_scan.specs.contracts.token.Kind.{the_type}
+use Rattle.bg_scan.specs.Tokens.{Tok}
 use Rattle.bg_read.specs.Spelling.{Mark, Begins}
 use Rattle.bg_read.specs.Reading.{is_kind, take_kind, when}
 use Rattle.bg_read.proofs.Tokens.{same_is}

@@ -5,8 +5,8 @@ use Rattle.std.proofs.lemmas.Option.{same_Some, option_and_then_some}
 use Rattle.bg_base.specs.declared.pos.Pos.{Pos}
 use Rattle.bg_ast.specs.Source.{Line, Assigns, Asserts, Routine}
 use Rattle.bg_ast.specs.Typed.{AreDistinct, AreNumbered, IsRoutine, AreRoutines, all_lines, scope_of}
-use Rattle.bg_lex.specs.declared.token.Kind.TheVariants as kinds
-use Rattle.bg_lex.specs.Tokens.{Tok}
+use Rattle.bg_scan.specs.declared.token.Kind.TheVariants as kinds
+use Rattle.bg_scan.specs.Tokens.{Tok}
 use Rattle.bg_read.specs.Spelling.{Mark, Plain, Named, Placed, Begins, Params, Declarations, joined, line_marks, body_marks, Writes, WriteAll}
 use Rattle.bg_read.specs.Reading.{is_kind, take_kind, with_name, params_at, locals_at, scope_at, Front, front_at, routine_with, body_at, routine_at, routines_at}
 use Rattle.bg_read.proofs.Marks.{begins_join, begins_split, begins_length, taken, takes, skips}

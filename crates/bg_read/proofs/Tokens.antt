@@ -1,9 +1,9 @@
 -- The kinds of tokens as numbers.
 use Rattle.std.proofs.Common.{◌≡◌, refl}
 use denote.Enum.Bare.{sameb}
-use Rattle.bg_lex.specs.declared.token.Kind.{Kind}
-use Rattle.bg_lex.specs.declared.token.Kind.TheVariants as kinds
-use Rattle.bg_lex.specs.contracts.token.Kind.{the_type}
+use Rattle.bg_scan.specs.declared.token.Kind.{Kind}
+use Rattle.bg_scan.specs.declared.token.Kind.TheVariants as kinds
+use Rattle.bg_scan.specs.contracts.token.Kind.{the_type}
 use Rattle.bg_read.specs.Reading.{is_kind}
 
 pub same_is : (k j : Kind) → sameb the_type k j ≡ is_kind k j

@@ -3,9 +3,9 @@ use Rattle.std.proofs.Common.{◌≡◌, ℕ, ◌+◌, ◌^◌, ◌<◌, ◌≤�
 use Rattle.std.proofs.lemmas.Option.{same_Some}
 use Rattle.bg_base.specs.declared.pos.Pos.{Pos}
 use Rattle.bg_ast.specs.Source.{Routine, Source}
-use Rattle.bg_lex.specs.Tokens.{Tok, token_of}
-use Rattle.bg_lex.specs.Text.{TextFrom, Text, after_bytes}
-use Rattle.bg_lex.proofs.Whole.{one_text}
+use Rattle.bg_scan.specs.Tokens.{Tok, token_of}
+use Rattle.bg_scan.specs.Text.{TextFrom, Text, after_bytes}
+use Rattle.bg_scan.proofs.Whole.{one_text}
 use Rattle.bg_read.specs.Program.{IsProgramOf}
 use Rattle.std.specs.Prelude.{Err, IsErrOf}
 use Rattle.bg_ast.specs.declared.program.Program.{Program}

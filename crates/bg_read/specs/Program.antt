@@ -2,8 +2,8 @@
 use Rattle.std.specs.Prelude.{ℕ, List}
 use Rattle.bg_ast.specs.Source.{Source}
 use Rattle.bg_ast.specs.Typed.{IsTyped}
-use Rattle.bg_lex.specs.Tokens.{Tok}
-use Rattle.bg_lex.specs.Text.{Text}
+use Rattle.bg_scan.specs.Tokens.{Tok}
+use Rattle.bg_scan.specs.Text.{Text}
 use Rattle.bg_read.specs.Spelling.{Spells}
 
 -- the text holds the tokens of the program, which keeps the rules of names and numbers

@@ -5,9 +5,9 @@ use Rattle.std.specs.Str.{bytes_eq}
 use Rattle.bg_base.specs.declared.pos.Pos.{Pos}
 use Rattle.bg_ast.specs.Syntax.{Local, Ex, Fact, Read, Binary, Equal}
 use Rattle.bg_ast.specs.Source.{Line, Assigns, Asserts, Routine}
-use Rattle.bg_lex.specs.declared.token.Kind.{Kind}
-use Rattle.bg_lex.specs.declared.token.Kind.TheVariants as kinds
-use Rattle.bg_lex.specs.Tokens.{Tok}
+use Rattle.bg_scan.specs.declared.token.Kind.{Kind}
+use Rattle.bg_scan.specs.declared.token.Kind.TheVariants as kinds
+use Rattle.bg_scan.specs.Tokens.{Tok}
 use Rattle.bg_read.specs.declared.error.ReadError.{ReadError}
 use Rattle.bg_read.specs.declared.error.ReadError.TheVariants as errors
 

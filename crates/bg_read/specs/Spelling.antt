@@ -4,9 +4,9 @@ use Rattle.bg_base.specs.declared.pos.Pos.{Pos}
 use Rattle.bg_ast.specs.Syntax.{Var, Local, Global, Ex, Fact, Read, Binary}
 use Rattle.bg_ast.specs.Source.{Line, Assigns, Asserts, Routine, Source}
 use Rattle.bg_ast.specs.Typed.{scope_of}
-use Rattle.bg_lex.specs.declared.token.Kind.{Kind}
-use Rattle.bg_lex.specs.declared.token.Kind.TheVariants as kinds
-use Rattle.bg_lex.specs.Tokens.{Tok}
+use Rattle.bg_scan.specs.declared.token.Kind.{Kind}
+use Rattle.bg_scan.specs.declared.token.Kind.TheVariants as kinds
+use Rattle.bg_scan.specs.Tokens.{Tok}
 
 -- a token of a spelling: one of this kind, a name, or one of this kind at this position
 pub data Mark : Type 0 where

@@ -1,7 +1,7 @@
 //! Expressions.
 ghost use Rattle.std.specs.Prelude.{◌≡◌, ◌^◌, drop};
 ghost use Rattle.bg_ast.specs.View.{ex_of};
-ghost use Rattle.bg_lex.specs.Tokens.{views};
+ghost use Rattle.bg_scan.specs.Tokens.{views};
 ghost use Rattle.bg_read.specs.Names.{listed};
 ghost use Rattle.bg_read.specs.Reading.{Gives, atom_at, more_at, expr_at};
 
@@ -9,7 +9,7 @@ use crate::error::ReadError;
 use crate::names::{Names, place_of};
 use crate::next::take_kind;
 use bg_ast::{Expr, Variable};
-use bg_lex::{Kind, Token};
+use bg_scan::{Kind, Token};
 use std::alloc::Global;
 
 #[tactic(auto, unfolding(crate::specs::Reading::atom_at))]

@@ -1,7 +1,7 @@
 //! What stands in front of a procedure's statements.
 ghost use Rattle.std.specs.Prelude.{◌≡◌, ◌≤◌, length, drop, take, map, IfOk, IfErr, []};
 ghost use Rattle.bg_ast.specs.View.{routine_of, line_of};
-ghost use Rattle.bg_lex.specs.Tokens.{views};
+ghost use Rattle.bg_scan.specs.Tokens.{views};
 ghost use Rattle.bg_read.specs.Names.{listed};
 ghost use Rattle.bg_read.specs.Fronts.{front_of};
 ghost use Rattle.bg_read.specs.Reading.{Gives, goes_at, formal_at, formals_at, params_at, declaration_at, locals_at, scope_at, front_at, routine_with};
@@ -11,7 +11,7 @@ use crate::names::{Names, add, copies, copy, len, no_names};
 use crate::next::take_kind;
 use bg_ast::{Procedure, Stmt};
 use bg_base::Pos;
-use bg_lex::{Kind, Token};
+use bg_scan::{Kind, Token};
 use std::alloc::Global;
 
 /// Position and name of a procedure, and its scope, in which the parameters stand first.

@@ -1,7 +1,7 @@
 //! Statements.
 ghost use Rattle.std.specs.Prelude.{◌≡◌, ◌^◌, drop, map, []};
 ghost use Rattle.bg_ast.specs.View.{line_of};
-ghost use Rattle.bg_lex.specs.Tokens.{views};
+ghost use Rattle.bg_scan.specs.Tokens.{views};
 ghost use Rattle.bg_read.specs.Names.{listed};
 ghost use Rattle.bg_read.specs.Reading.{Gives, assign_at, assert_at, line_at, body_at};
 
@@ -11,7 +11,7 @@ use crate::names::{Names, place_of};
 use crate::next::take_kind;
 use bg_ast::{Clause, Stmt, Variable};
 use bg_base::Pos;
-use bg_lex::{Kind, Token};
+use bg_scan::{Kind, Token};
 use std::alloc::Global;
 
 /// An assignment behind its name. The first names of the scope are parameters, which aren't assigned.

@@ -1,9 +1,9 @@
 //! The next token.
 ghost use Rattle.std.specs.Prelude.{◌≡◌, ◌∷◌, [], MatchOption, option_map, drop};
-ghost use Rattle.bg_lex.specs.Tokens.{view, views};
+ghost use Rattle.bg_scan.specs.Tokens.{view, views};
 ghost use Rattle.bg_read.specs.Reading.{is_kind, take_kind};
 
-use bg_lex::{Kind, Token};
+use bg_scan::{Kind, Token};
 
 fn is_kind(k: Kind, j: Kind) -> bool
     ensures { result ≡ is_kind k j }

@@ -2,8 +2,8 @@
 ghost use Rattle.std.specs.Prelude.{◌≡◌, ◌<◌, ◌^◌, ℕ, List, [], length, drop, map, IfOk, IsErrOf};
 ghost use Rattle.bg_ast.specs.Source.{Source};
 ghost use Rattle.bg_ast.specs.View.{routine_of, source_of};
-ghost use Rattle.bg_lex.specs.Text.{Text};
-ghost use Rattle.bg_lex.specs.Tokens.{Tok, views};
+ghost use Rattle.bg_scan.specs.Text.{Text};
+ghost use Rattle.bg_scan.specs.Tokens.{Tok, views};
 ghost use Rattle.bg_read.specs.Names.{listed};
 ghost use Rattle.bg_read.specs.Program.{IsProgramOf};
 ghost use Rattle.bg_read.specs.Reading.{Gives, routine_at, routines_at};
@@ -14,7 +14,7 @@ use crate::line::body;
 use crate::names::{Names, add, no_names};
 use crate::next::first;
 use bg_ast::{Procedure, Program};
-use bg_lex::{LexError, Token, lex};
+use bg_scan::{LexError, Token, lex};
 use std::alloc::Global;
 
 /// A procedure of another name than these, and the number of the next clause.

@@ -1,5 +1,5 @@
 use Rattle.std.proofs.Common.{◌≡◌, ◌-◌, drop}
-use Rattle.bg_lex.specs.Tokens.{views}
+use Rattle.bg_scan.specs.Tokens.{views}
 use Rattle.bg_read.specs.Names.{listed}
 use Rattle.bg_read.specs.Reading.{locals_at}
 use Rattle.bg_read.proofs.front.locals.Given as goal

@@ -1,6 +1,6 @@
 use Rattle.std.proofs.Common.{◌≡◌, ◌-◌, ◌^◌, drop, map, []}
 use Rattle.bg_ast.specs.View.{routine_of}
-use Rattle.bg_lex.specs.Tokens.{views}
+use Rattle.bg_scan.specs.Tokens.{views}
 use Rattle.bg_read.specs.Names.{listed}
 use Rattle.bg_read.specs.Reading.{routines_at}
 use Rattle.bg_read.proofs.read.routines.Given as goal

@@ -1,11 +1,11 @@
 -- Tokens from left to right, each by its first bytes: what the code computes.
 use Rattle.std.specs.Prelude.{◌≡◌, ℕ, zero, suc, ◌+◌, List, [], ◌∷◌, ◌++◌, length, take, drop, Option, Some, None, if◌then◌else◌, take_while, option_and_then, Result, Ok, Err}
 use Rattle.bg_base.specs.declared.pos.Pos.{Pos}
-use Rattle.bg_lex.specs.declared.scan.LexError.{LexError}
-use Rattle.bg_lex.specs.declared.scan.LexError.TheVariants as errors
-use Rattle.bg_lex.specs.declared.token.Kind.{Kind}
-use Rattle.bg_lex.specs.Tokens.{Tok, is_space, is_letter, is_ident, kind_of_word, kind_of_byte, kind_of_bytes}
-use Rattle.bg_lex.specs.Text.{after_byte}
+use Rattle.bg_scan.specs.declared.scan.LexError.{LexError}
+use Rattle.bg_scan.specs.declared.scan.LexError.TheVariants as errors
+use Rattle.bg_scan.specs.declared.token.Kind.{Kind}
+use Rattle.bg_scan.specs.Tokens.{Tok, is_space, is_letter, is_ident, kind_of_word, kind_of_byte, kind_of_bytes}
+use Rattle.bg_scan.specs.Text.{after_byte}
 
 abbrev pub with_length : ℕ → Option Kind → Option (Kind × ℕ)
 with_length n k = option_and_then (λ k. Some (k, n)) k

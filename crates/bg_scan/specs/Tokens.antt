@@ -3,9 +3,9 @@ use Rattle.std.specs.Prelude.{ℕ, List, [], ◌∷◌, map, Bool, false, Option
 use Rattle.std.specs.List.{list_all}
 use Rattle.std.specs.Str.{bytes_eq}
 use Rattle.bg_base.specs.declared.pos.Pos.{Pos}
-use Rattle.bg_lex.specs.declared.token.Kind.{Kind}
-use Rattle.bg_lex.specs.declared.token.Kind.TheVariants as kinds
-use Rattle.bg_lex.specs.declared.token.Token.{Token}
+use Rattle.bg_scan.specs.declared.token.Kind.{Kind}
+use Rattle.bg_scan.specs.declared.token.Kind.TheVariants as kinds
+use Rattle.bg_scan.specs.declared.token.Token.{Token}
 
 -- a token, without where it lies in memory
 pub record Tok : Type 0 where

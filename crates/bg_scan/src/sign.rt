@@ -1,7 +1,7 @@
 //! Signs.
 ghost use Rattle.std.specs.Prelude.{◌≡◌};
-ghost use Rattle.bg_lex.specs.Tokens.{kind_of_byte, kind_of_bytes};
-ghost use Rattle.bg_lex.specs.Lexing.{sign_at};
+ghost use Rattle.bg_scan.specs.Tokens.{kind_of_byte, kind_of_bytes};
+ghost use Rattle.bg_scan.specs.Lexing.{sign_at};
 
 use crate::token::Kind;
 

@@ -1,8 +1,8 @@
 use Rattle.std.proofs.Common.{◌≡◌, ◌≤◌, ◌+◌, ◌-◌, length}
-use Rattle.bg_lex.specs.Lexing.{lex_at, with_front}
-use Rattle.bg_lex.specs.Text.{start}
-use Rattle.bg_lex.specs.Tokens.{views}
-use Rattle.bg_lex.proofs.scan.scan.Given as goal
+use Rattle.bg_scan.specs.Lexing.{lex_at, with_front}
+use Rattle.bg_scan.specs.Text.{start}
+use Rattle.bg_scan.specs.Tokens.{views}
+use Rattle.bg_scan.proofs.scan.scan.Given as goal
 
 abbrev pub invariant-loop : goal.invariant-loop
 invariant-loop l = record {

@@ -1,5 +1,5 @@
-use Rattle.bg_lex.proofs.Whole.{lex_ok, lex_none}
-use Rattle.bg_lex.proofs.scan.lex.Goals as goal
+use Rattle.bg_scan.proofs.Whole.{lex_ok, lex_none}
+use Rattle.bg_scan.proofs.scan.lex.Goals as goal
 
 pub returns-clause-ok : goal.returns-clause-ok
 returns-clause-ok c = lex_ok c.args.bytes.now c.scan.result c.scan.ensures

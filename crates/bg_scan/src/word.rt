@@ -2,7 +2,7 @@
 ghost use Rattle.std.specs.Prelude.{◌≡◌, ◌&&◌, ◌||◌, length, take_while};
 ghost use Rattle.std.specs.List.{list_all, list_any};
 ghost use Rattle.std.specs.Str.{bytes_eq};
-ghost use Rattle.bg_lex.specs.Tokens.{is_space, is_digit, is_letter, is_ident, is_one_of, later_words, reserved_words, is_bit_vector, keyword_or, value_or, kind_of_word};
+ghost use Rattle.bg_scan.specs.Tokens.{is_space, is_digit, is_letter, is_ident, is_one_of, later_words, reserved_words, is_bit_vector, keyword_or, value_or, kind_of_word};
 
 use crate::token::Kind;
 

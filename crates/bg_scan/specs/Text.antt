@@ -2,8 +2,8 @@
 use Rattle.std.specs.Prelude.{◌≡◌, ℕ, ◌+◌, ◌≤◌, List, [], ◌∷◌, ◌++◌, length, ◌==◌, if◌then◌else◌, Some, true}
 use Rattle.std.specs.List.{list_all}
 use Rattle.bg_base.specs.declared.pos.Pos.{Pos}
-use Rattle.bg_lex.specs.declared.token.Kind.{Kind}
-use Rattle.bg_lex.specs.Tokens.{Tok, is_space, token_of}
+use Rattle.bg_scan.specs.declared.token.Kind.{Kind}
+use Rattle.bg_scan.specs.Tokens.{Tok, is_space, token_of}
 
 -- lines end at byte 10, and columns count bytes
 abbrev pub after_byte : ℕ → Pos → Pos

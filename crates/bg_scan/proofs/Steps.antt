@@ -2,10 +2,10 @@
 use Rattle.std.proofs.Common.{◌≡◌, ℕ, zero, suc, List, [], ◌∷◌, ◌++◌, true, false, Option, Some, None, refl, sym, ap, append_assoc, append-nil, length, drop, take, get_or, arith, ◌≤◌, ◌<◌}
 use Rattle.std.specs.Prelude.{option_and_then}
 use Rattle.bg_base.specs.declared.pos.Pos.{Pos}
-use Rattle.bg_lex.specs.declared.token.Kind.{Kind}
-use Rattle.bg_lex.specs.Tokens.{Tok, is_space}
-use Rattle.bg_lex.specs.Text.{after_byte}
-use Rattle.bg_lex.specs.Lexing.{front_of, after_token, lex_at, with_front}
+use Rattle.bg_scan.specs.declared.token.Kind.{Kind}
+use Rattle.bg_scan.specs.Tokens.{Tok, is_space}
+use Rattle.bg_scan.specs.Text.{after_byte}
+use Rattle.bg_scan.specs.Lexing.{front_of, after_token, lex_at, with_front}
 
 front_front : (front : List Tok) (t : Tok) (read : Option (List Tok)) → with_front front (option_and_then (λ others. Some (t ∷ others)) read) ≡ with_front (front ++ t ∷ []) read
 front_front front t None = refl

@@ -5,18 +5,18 @@ use Rattle.std.proofs.lemmas.List.{take_at, drop_at}
 use Rattle.std.specs.Prelude.{◌&&◌, option_and_then, Result, Ok, Err, IfOk, IsErrOf}
 use Rattle.std.specs.List.{list_all}
 use Rattle.bg_base.specs.declared.pos.Pos.{Pos}
-use Rattle.bg_lex.specs.declared.token.Kind.{Kind}
-use Rattle.bg_lex.specs.Tokens.{Tok, is_space, is_letter, kind_of_byte, kind_of_bytes, token_of}
-use Rattle.bg_lex.specs.Text.{after_byte, after_bytes, start, IsToken, IsLongest, Holds, TextFrom, Text}
-use Rattle.bg_lex.specs.Lexing.{front_of, after_token, lex_at}
+use Rattle.bg_scan.specs.declared.token.Kind.{Kind}
+use Rattle.bg_scan.specs.Tokens.{Tok, is_space, is_letter, kind_of_byte, kind_of_bytes, token_of}
+use Rattle.bg_scan.specs.Text.{after_byte, after_bytes, start, IsToken, IsLongest, Holds, TextFrom, Text}
+use Rattle.bg_scan.specs.Lexing.{front_of, after_token, lex_at}
 use Rattle.std.specs.Prelude.{Vec}
 use Rattle.std.specs.declared.alloc.Global.{Global}
-use Rattle.bg_lex.specs.declared.scan.LexError.{LexError}
-use Rattle.bg_lex.specs.declared.scan.LexError.TheVariants as errors
-use Rattle.bg_lex.specs.declared.token.Token.{Token}
-use Rattle.bg_lex.specs.Tokens.{views}
-use Rattle.bg_lex.specs.Lexing.{Gives}
-use Rattle.bg_lex.proofs.Front.{space_is, Front, front_some, front_full}
+use Rattle.bg_scan.specs.declared.scan.LexError.{LexError}
+use Rattle.bg_scan.specs.declared.scan.LexError.TheVariants as errors
+use Rattle.bg_scan.specs.declared.token.Token.{Token}
+use Rattle.bg_scan.specs.Tokens.{views}
+use Rattle.bg_scan.specs.Lexing.{Gives}
+use Rattle.bg_scan.proofs.Front.{space_is, Front, front_some, front_full}
 
 and_more : (a b : Bool) → a ≡ true → b ≡ true → (a && b) ≡ true
 and_more true b h k = k

@@ -1,11 +1,11 @@
 use Rattle.std.proofs.Common.{◌≡◌, ◌∙◌, ◌+◌, ◌-◌, ℕ, suc, sym, ap, arith, length, drop, take, get_or, true, false, Some, None, subst, List, ◌<◌}
 use Rattle.std.proofs.lemmas.Grind.{common_steps}
-use Rattle.bg_lex.specs.Lexing.{front_of, lex_at, with_front}
-use Rattle.bg_lex.specs.Tokens.{is_space}
-use Rattle.bg_lex.specs.Tokens.{views}
-use Rattle.bg_lex.proofs.Steps.{step_space, step_token, lex_bad, lex_end, lex_out, lex_cut, cons_of, nil_of}
-use Rattle.bg_lex.proofs.scan.scan.Goals as goal
-use Rattle.bg_lex.proofs.scan.scan.Goals.{then-is_space, else-is_space+in-Some+in_ok-put}
+use Rattle.bg_scan.specs.Lexing.{front_of, lex_at, with_front}
+use Rattle.bg_scan.specs.Tokens.{is_space}
+use Rattle.bg_scan.specs.Tokens.{views}
+use Rattle.bg_scan.proofs.Steps.{step_space, step_token, lex_bad, lex_end, lex_out, lex_cut, cons_of, nil_of}
+use Rattle.bg_scan.proofs.scan.scan.Goals as goal
+use Rattle.bg_scan.proofs.scan.scan.Goals.{then-is_space, else-is_space+in-Some+in_ok-put}
 
 pub returns-in_default : goal.returns-in_default
 returns-in_default c =

@@ -1,8 +1,8 @@
 //! From bytes to tokens.
 ghost use Rattle.std.specs.Prelude.{◌≡◌, ◌<◌, ◌-◌, ◌^◌, length, ◌≤◌, ◌++◌, ◌∷◌, [], IfSome, IfErr, OnOk, IfOk, IsErrOf, List, ℕ};
-ghost use Rattle.bg_lex.specs.Lexing.{front_of, lex_at, Gives, after_token};
-ghost use Rattle.bg_lex.specs.Text.{after_byte, start, Text};
-ghost use Rattle.bg_lex.specs.Tokens.{Tok, view, views};
+ghost use Rattle.bg_scan.specs.Lexing.{front_of, lex_at, Gives, after_token};
+ghost use Rattle.bg_scan.specs.Text.{after_byte, start, Text};
+ghost use Rattle.bg_scan.specs.Tokens.{Tok, view, views};
 
 use crate::sign::sign_at;
 use crate::token::{Kind, Token};

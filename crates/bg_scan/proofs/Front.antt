@@ -7,10 +7,10 @@ use Rattle.std.specs.Prelude.{take_while, ◌&&◌, ◌||◌, ◌==◌}
 use Rattle.std.specs.List.{list_all}
 use Rattle.std.proofs.lemmas.List.Sums.{take_while-cons}
 use Rattle.bg_base.specs.declared.pos.Pos.{Pos}
-use Rattle.bg_lex.specs.declared.token.Kind.{Kind}
-use Rattle.bg_lex.specs.Tokens.{is_space, is_letter, is_digit, is_ident, kind_of_word, kind_of_byte, kind_of_bytes, sign_of, token_of}
-use Rattle.bg_lex.specs.Text.{after_byte, after_bytes, IsToken, IsLongest}
-use Rattle.bg_lex.specs.Lexing.{with_length, or_else, sign_at, first_of, front_of, after_token}
+use Rattle.bg_scan.specs.declared.token.Kind.{Kind}
+use Rattle.bg_scan.specs.Tokens.{is_space, is_letter, is_digit, is_ident, kind_of_word, kind_of_byte, kind_of_bytes, sign_of, token_of}
+use Rattle.bg_scan.specs.Text.{after_byte, after_bytes, IsToken, IsLongest}
+use Rattle.bg_scan.specs.Lexing.{with_length, or_else, sign_at, first_of, front_of, after_token}
 
 and_right : (a b : Bool) → (a && b) ≡ true → b ≡ true
 and_right true b h = h

@@ -1,0 +1,11 @@
+pub mod Pieces
+pub mod Tokens
+pub mod Text
+pub mod Trees
+pub mod Marks
+pub mod Spelling
+pub mod Types
+pub mod Statements
+pub mod Declarations
+pub mod Brackets
+pub mod Views
