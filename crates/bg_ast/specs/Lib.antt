@@ -4,3 +4,6 @@ pub mod Execution
 pub mod Source
 pub mod Typed
 pub mod View
+pub mod Resolved
+pub mod Meaning
+pub mod Views

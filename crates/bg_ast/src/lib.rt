@@ -2,5 +2,6 @@
 #![tactic(auto)]
 
 mod program;
+pub mod resolved;
 
 pub use program::{Clause, Expr, Name, Procedure, Program, Stmt, Variable};
