@@ -1,0 +1,12 @@
+pub mod Unique
+pub mod Steps
+pub mod Numbers
+pub mod Words
+pub mod Runs
+pub mod Quotes
+pub mod Comments
+pub mod Signs
+pub mod SignTables
+pub mod Bridges
+pub mod Whole
+pub mod Each

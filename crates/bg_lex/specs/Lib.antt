@@ -1,0 +1,6 @@
+pub mod Fronts
+pub mod Bytes
+pub mod Words
+pub mod Ends
+pub mod Signs
+pub mod Faults
