@@ -1,0 +1,11 @@
+pub mod Signs
+pub mod Chains
+pub mod Lists
+pub mod Atoms
+pub mod NestsOf
+pub mod Rungs
+pub mod Builds
+pub mod Whole
+pub mod Placed
+pub mod Said
+pub mod Small
