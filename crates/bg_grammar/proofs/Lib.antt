@@ -1,0 +1,4 @@
+pub mod Sets
+pub mod Choose
+pub mod Rule
+pub mod Loops

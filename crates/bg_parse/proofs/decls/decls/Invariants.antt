@@ -1,0 +1,10 @@
+use Rattle.std.proofs.Common.{◌≡◌, map, drop, ◌-◌}
+use Rattle.bg_text.specs.Tokens.{views}
+use Rattle.bg_reader.specs.Reading.{joined}
+use Rattle.bg_grammar.specs.Rules.{a_kind, rows}
+use Rattle.bg_text.specs.Views.{decl_of}
+use Rattle.bg_parse.specs.Declarations.{decl_kinds, decl_at, decls_at}
+use Rattle.bg_parse.proofs.decls.decls.Given as goal
+
+abbrev pub invariant-loop : goal.invariant-loop
+invariant-loop l = joined (map decl_of l.made.items) (rows (a_kind decl_kinds) (decl_at l.limit l.depth) (l.limit - l.counter) (views (drop l.rest l.tokens))) ≡ decls_at l.limit l.depth (views (drop l.at l.tokens))

@@ -1,0 +1,5 @@
+pub mod Types
+pub mod Parts
+pub mod Statements
+pub mod Declarations
+pub mod Programs
