@@ -1,0 +1,6 @@
+pub mod Docs
+pub mod Exprs
+pub mod Parts
+pub mod Stmts
+pub mod Printed
+pub mod Rows
