@@ -1,4 +1,3 @@
-pub mod ThreeWords
 pub mod Joined
 pub mod Safety
 pub mod Ends

@@ -1,6 +1,6 @@
 -- What the top call claims of how it ends.
-use Rattle.std.specs.Prelude.{◌≡◌, ◌<◌, ◌≤◌, ◌⊎◌, ℕ, List, [], ◌∷◌, ◌++◌, Option, Some, codes, length, take, IsTrue}
-use Rattle.bg_io.specs.Causes.{joined, IsTextOf, IsTextOver}
+use Rattle.std.specs.Prelude.{◌≡◌, ◌<◌, ◌≤◌, ◌+◌, ◌⊎◌, ℕ, List, [], ◌++◌, Option, Some, codes, length, take, slice_get, IsTrue}
+use Rattle.bg_io.specs.Causes.{joined, counted, joined_text, IsTextOf}
 use Rattle.bg_ast.specs.Source.{Source}
 use Rattle.bg_read.specs.Program.{IsProgramOf}
 use Rattle.bg_check.specs.declared.check.Verdict.{Verdict}
@@ -11,7 +11,7 @@ use Rattle.bg_tool.specs.Safety.{VerifiedAreSafe}
 use Rattle.bg_tool.specs.declared.status.Status.{Status}
 use Rattle.bg_tool.specs.declared.status.Status.TheVariants as status
 use Rattle.bg_tool.specs.Statuses.{status_for, is_report}
-use Rattle.bg_tool.specs.Words.{Takes, third}
+use Rattle.bg_cli.specs.Cli.{IsTaken, files_in}
 
 -- the text is the report of the program that the bytes spell, with verdicts that are right; each implementation that it
 -- calls verified is safe; and the status is the one that the verdicts give
@@ -41,61 +41,63 @@ pub record ReportedFront (budget : ℕ) (bytes : List ℕ) (before now : Option 
 abbrev pub ReportedSome : ℕ → List ℕ → Option (List ℕ) → Option (List ℕ) → Type 0
 ReportedSome budget bytes before now = (now ≡ before) ⊎ ReportedFront budget bytes before now
 
--- the bytes are the text of the file that the words name
-pub record IsRead (contents : Option (List ℕ → List ℕ)) (words : List (List ℕ)) (limit : ℕ) (bytes : List ℕ) : Type 0 where
-  pub takes : Takes words (third words)
-  pub read : IsTextOf contents (third words ∷ []) bytes
+-- the bytes are the text of these files
+pub record IsRead (contents : Option (List ℕ → List ℕ)) (names : List (List ℕ)) (limit : ℕ) (bytes : List ℕ) : Type 0 where
+  pub read : IsTextOf contents names bytes
   pub fits : length bytes ≤ limit
 
 -- a text that the call may write when it ends so
-pub record MayWrite (budget limit : ℕ) (contents : Option (List ℕ → List ℕ)) (words : List (List ℕ)) (ends : Status) (text : List ℕ) : Type 0 where
+pub record MayWrite (budget limit : ℕ) (contents : Option (List ℕ → List ℕ)) (names : List (List ℕ)) (ends : Status) (text : List ℕ) : Type 0 where
   pub bytes : List ℕ
-  pub read : IsRead contents words limit bytes
+  pub read : IsRead contents names limit bytes
   pub report : IsReport budget bytes ends text
 
 -- such a text was written, whole
-pub record Wrote (budget limit : ℕ) (contents : Option (List ℕ → List ℕ)) (words : List (List ℕ)) (ends : Status) (before now : Option (List ℕ)) : Type 0 where
+pub record Wrote (budget limit : ℕ) (contents : Option (List ℕ → List ℕ)) (names : List (List ℕ)) (ends : Status) (before now : Option (List ℕ)) : Type 0 where
   pub text : List ℕ
-  pub may : MayWrite budget limit contents words ends text
+  pub may : MayWrite budget limit contents names ends text
   pub written : now ≡ joined before text
 
 -- nothing was written, or the first bytes of a text that the call may write when it ends with a report
-pub record WroteFrontOf (budget limit : ℕ) (contents : Option (List ℕ → List ℕ)) (words : List (List ℕ)) (before now : Option (List ℕ)) : Type 0 where
+pub record WroteFrontOf (budget limit : ℕ) (contents : Option (List ℕ → List ℕ)) (names : List (List ℕ)) (before now : Option (List ℕ)) : Type 0 where
   pub ends : Status
   pub text : List ℕ
-  pub may : MayWrite budget limit contents words ends text
+  pub may : MayWrite budget limit contents names ends text
   pub count : ℕ
   pub written : now ≡ joined before (take count text)
 
 abbrev pub WroteSome : ℕ → ℕ → Option (List ℕ → List ℕ) → List (List ℕ) → Option (List ℕ) → Option (List ℕ) → Type 0
-WroteSome budget limit contents words before now = (now ≡ before) ⊎ WroteFrontOf budget limit contents words before now
+WroteSome budget limit contents names before now = (now ≡ before) ⊎ WroteFrontOf budget limit contents names before now
 
--- no typed program is spelled by the text of the file that the words name
-pub record IsNoProgram (contents : Option (List ℕ → List ℕ)) (words : List (List ℕ)) (limit : ℕ) : Type 0 where
+-- no typed program is spelled by the text of these files
+pub record IsNoProgram (contents : Option (List ℕ → List ℕ)) (names : List (List ℕ)) (limit : ℕ) : Type 0 where
   pub bytes : List ℕ
-  pub read : IsRead contents words limit bytes
+  pub read : IsRead contents names limit bytes
   pub none : (s : Source) → IsProgramOf bytes s → ⊥
 
--- the words name a file whose text is longer than the limit
-pub record IsOver (contents : Option (List ℕ → List ℕ)) (words : List (List ℕ)) (limit : ℕ) : Type 0 where
-  pub takes : Takes words (third words)
-  pub over : IsTextOver contents (third words ∷ []) limit
+-- the line that a refusal writes which names no file
+abbrev pub line_for : Status → List ℕ
+line_for status.Text = codes "error: 1:1 unsupported text\n"
+line_for status.Usage = codes "usage: bg verify|annotate|certify|check|generate|bench ..\n"
+line_for status.Limit = codes "error: limit bytes 4194305\n"
+line_for _ = []
 
--- the line that a refusal writes
-abbrev pub line_for : Status → List (List ℕ) → List ℕ
-line_for status.Text words = codes "error: 1:1 unsupported text\n"
-line_for status.Usage words = codes "usage: bg verify|annotate|certify|check|generate|bench ..\n"
-line_for status.Read words = codes "error: cannot read " ++ third words ++ codes "\n"
-line_for status.Limit words = codes "error: limit bytes 4194305\n"
-line_for _ words = []
+-- the line names the file with the number of the last start, counted from 0
+pub record NamesFile (names : List (List ℕ)) (starts started : Option ℕ) (before now : Option (List ℕ)) : Type 0 where
+  pub number : ℕ
+  pub name : List ℕ
+  pub there : slice_get names number ≡ Some name
+  pub is : started ≡ counted starts (number + 1)
+  pub written : now ≡ joined before (codes "error: cannot read " ++ name ++ codes "\n")
 
--- where no fault was counted, taken words of a text that is told: a text within the limit that a typed program spells gives a
--- report, one that no typed program spells is refused, and so is one that is longer; unless memory ran out
+-- where no fault was counted, a text that is told: within the limit and spelled by a typed program it gives a report, spelled by
+-- none it is refused, and so it is where it is longer; unless memory ran out
+pub record Judges (contents : Option (List ℕ → List ℕ)) (names : List (List ℕ)) (limit : ℕ) (ends : Status) : Type 0 where
+  pub program : (held : List ℕ → List ℕ) (s : Source) → contents ≡ Some held → length (joined_text held names) ≤ limit → IsProgramOf (joined_text held names) s → IsTrue (is_report ends) ⊎ (ends ≡ status.Memory)
+  pub none : (held : List ℕ → List ℕ) → contents ≡ Some held → length (joined_text held names) ≤ limit → ((s : Source) → IsProgramOf (joined_text held names) s → ⊥) → (ends ≡ status.Text) ⊎ (ends ≡ status.Memory)
+  pub over : (held : List ℕ → List ℕ) → contents ≡ Some held → limit < length (joined_text held names) → (ends ≡ status.Limit) ⊎ (ends ≡ status.Memory)
+
+-- the same of the files that taken words name; words that aren't taken are refused
 pub record Completes (contents : Option (List ℕ → List ℕ)) (words : List (List ℕ)) (limit : ℕ) (ends : Status) : Type 0 where
-  pub program : (held : List ℕ → List ℕ) (s : Source) → contents ≡ Some held → Takes words (third words) →
-      length (held (third words)) ≤ limit → IsProgramOf (held (third words)) s → IsTrue (is_report ends) ⊎ (ends ≡ status.Memory)
-  pub none : (held : List ℕ → List ℕ) → contents ≡ Some held → Takes words (third words) →
-      length (held (third words)) ≤ limit → ((s : Source) → IsProgramOf (held (third words)) s → ⊥) → (ends ≡ status.Text) ⊎ (ends ≡ status.Memory)
-  pub over : (held : List ℕ → List ℕ) → contents ≡ Some held → Takes words (third words) →
-      limit < length (held (third words)) → (ends ≡ status.Limit) ⊎ (ends ≡ status.Memory)
-  pub usage : ((file : List ℕ) → Takes words file → ⊥) → ends ≡ status.Usage
+  pub taken : IsTaken words → Judges contents (files_in words) limit ends
+  pub usage : (IsTaken words → ⊥) → (ends ≡ status.Usage) ⊎ (ends ≡ status.Memory)

@@ -30,6 +30,13 @@ is_report status.Refuted = true
 is_report status.Unknown = true
 is_report _ = false
 
+-- whether the status says that a line was written to the error sink which names no file
+abbrev pub is_line : Status → Bool
+is_line status.Text = true
+is_line status.Usage = true
+is_line status.Limit = true
+is_line _ = false
+
 -- whether the status says that a line was written to the error sink
 abbrev pub is_refusal : Status → Bool
 is_refusal status.Text = true

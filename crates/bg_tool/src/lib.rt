@@ -3,9 +3,8 @@
 
 mod driver;
 mod status;
-mod words;
 
-pub use driver::{LIMIT, NODES, run};
+pub use driver::{LIMIT, run};
 pub use status::Status;
 
 #[cfg(test)]

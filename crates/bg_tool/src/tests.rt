@@ -52,7 +52,7 @@ fn words_of(alloc: Global, words: &[&str]) -> Result<Vec<String>, AllocError> {
 #[test]
 fn each_text_gets_its_report_or_its_line(rt: HostRuntime) -> Result<(), Fail> {
     let verify_a: &[&str] = &["bg", "verify", "a.bpl"];
-    let table: [(&[&str], &str, Status, &str, &str); 9] = [
+    let table: [(&[&str], &str, Status, &str, &str); 13] = [
         (verify_a, COPY, Status::Verified, COPY_REPORT, ""),
         (
             verify_a,
@@ -85,6 +85,34 @@ fn each_text_gets_its_report_or_its_line(rt: HostRuntime) -> Result<(), Fail> {
         (&["bg", "verify"], COPY, Status::Usage, "", USAGE),
         (&["bg", "verify", "-x"], COPY, Status::Usage, "", USAGE),
         (&["bg", "check", "a.bpl"], COPY, Status::Usage, "", USAGE),
+        (
+            &["bg", "verify", "a.bpl", "a.bpl"],
+            " ",
+            Status::Verified,
+            "axioms: consistent\nretained set: greatest\nsummary: 0 retained, 0 dropped; 0 verified, 0 refuted, 0 unknown\n",
+            "",
+        ),
+        (
+            &["bg", "verify", "--nodes", "0", "a.bpl"],
+            "procedure P(a: bool) {\n assert a; }",
+            Status::Unknown,
+            "axioms: consistent\nretained set: greatest\nimplementation P 1:1 unknown\n  unknown assert 2:2 nodes\n    kept 0\nsummary: 0 retained, 0 dropped; 0 verified, 0 refuted, 1 unknown\n",
+            "",
+        ),
+        (
+            &["bg", "verify", "--nodes", "many", "a.bpl"],
+            COPY,
+            Status::Usage,
+            "",
+            USAGE,
+        ),
+        (
+            &["bg", "verify", "a.bpl", "b.bpl"],
+            COPY,
+            Status::Read,
+            "",
+            "error: cannot read b.bpl\n",
+        ),
         (
             &["bg", "verify", "b.bpl"],
             COPY,

@@ -1,0 +1,92 @@
+-- The command line: which words are taken, and what they ask.
+use Rattle.std.specs.Prelude.{◌≡◌, ◌==◌, ℕ, pos, true, false, if◌then◌else◌, List, [], ◌∷◌, map, codes, Option, Some, None, option_map, unwrap_or, String, string_bytes}
+use Rattle.std.specs.Str.Parse.{digits_value, without_leading_plus}
+use Rattle.std.specs.declared.alloc.Global.{Global}
+use Rattle.clap.specs.ValueTests.{accepts}
+use Rattle.clap.specs.Faults.{fault_of}
+use Rattle.clap.specs.Walk.{Row, Rule, Text, all_of, one_of}
+use Rattle.clap.specs.Simple.{App, new_app, new_rule, with_rule, with_subcommand, subcommand_of, subcommand_rows_of}
+use Rattle.clap.specs.declared.parser.matches.ArgMatches.{ArgMatches}
+use Rattle.clap.specs.Lexer.{usize_max}
+use Rattle.clap.specs.declared.builder.action.ArgAction.TheVariants.{Set, Append}
+use Rattle.clap.specs.declared.builder.value_parser.ValueParser.TheVariants as parser
+
+-- `--nodes N`, 20,000 where it isn't given
+abbrev pub nodes : Rule
+nodes =
+    record (new_rule (codes "nodes")) {
+      long = Some (codes "nodes");
+      parser = Some (parser.Signed (pos 0) (pos 4294967295));
+      action = Some Set;
+      defaults = codes "20000" ∷ [];
+    }
+
+-- one file or more
+abbrev pub files : Rule
+files =
+    record (new_rule (codes "FILE")) {
+      required = true;
+      range = Some (record { start_inclusive = 1; end_inclusive = usize_max });
+      action = Some Append;
+    }
+
+abbrev pub verify : App
+verify = with_rule (with_rule (new_app (codes "verify")) nodes) files
+
+abbrev pub required : App → App
+required a = record a { top = record a.top { subcommand_required = true } }
+
+-- the command: `bg verify [--nodes N] FILE..`
+unfoldable pub cli : App
+cli = with_subcommand (required (new_app (codes "bg"))) verify.top
+
+-- the bytes of the words
+abbrev pub texts_of : List (String Global) → List Text
+texts_of = map string_bytes
+
+-- the words are taken: a parse fails only for want of memory
+abbrev pub IsTaken : List Text → Type 0
+IsTaken words = fault_of cli words ≡ []
+
+-- what a parse finds for `verify`
+abbrev pub rows_in : List Text → List Row
+rows_in words = unwrap_or (option_map (λ p. p.1) (subcommand_of cli words)) []
+
+-- what a parse found for `verify`
+abbrev pub rows_for : ArgMatches → List Row
+rows_for m = unwrap_or (option_map (λ p. p.1) (subcommand_rows_of m)) []
+
+-- the files, in order
+abbrev pub files_of : List Row → List Text
+files_of rows = unwrap_or (all_of (codes "FILE") rows) []
+
+-- the decimal number, where it fits in 32 bits
+abbrev pub number_or : ℕ → Option Text → ℕ
+number_or other None = other
+number_or other (Some text) =
+    if accepts false (parser.Unsigned 0 4294967295) text then digits_value 10 (without_leading_plus text) else other
+
+-- the most inner nodes of a tree
+abbrev pub nodes_of : List Row → ℕ
+nodes_of rows = number_or 20000 (one_of (codes "nodes") rows)
+
+abbrev pub files_in : List Text → List Text
+files_in words = files_of (rows_in words)
+
+abbrev pub nodes_in : List Text → ℕ
+nodes_in words = nodes_of (rows_in words)
+
+-- a word that isn't empty and doesn't begin with a dash
+abbrev pub Plain : Text → Type 0
+Plain [] = ⊥
+Plain (b ∷ bs) = (b == 45) ≡ false
+
+-- such words
+abbrev pub AllPlain : List Text → Type 0
+AllPlain [] = Unit {0}
+AllPlain (w ∷ ws) = Plain w × AllPlain ws
+
+-- a number that `--nodes` takes, without a sign
+pub record IsBudget (n : Text) : Type 0 where
+  pub is_plain : Plain n
+  pub passes : accepts false (parser.Signed (pos 0) (pos 4294967295)) n ≡ true

@@ -1,0 +1,11 @@
+//! The command line.
+#![tactic(auto)]
+
+mod laws;
+mod line;
+
+pub use laws::{plain_words_are_taken, plain_words_with_a_number_are_taken};
+pub use line::{Line, LineError, NODES, cli, read_line};
+
+#[cfg(test)]
+mod tests;

@@ -1,0 +1,117 @@
+//! From the words of a command line to what is asked.
+ghost use Rattle.std.specs.Prelude.{◌≡◌, ◌≢◌, IfOk, IsErrOf, map, codes};
+ghost use Rattle.clap.specs.Words.{app_of, found_of, kind_of, rows_of};
+ghost use Rattle.bg_cli.specs.declared.line.LineError.TheVariants.{Memory};
+ghost use Rattle.bg_cli.specs.Cli.{cli, texts_of, IsTaken, files_in, nodes_in, files_of, nodes_of, rows_for};
+
+use clap::error::ErrorKind;
+use clap::{Arg, ArgAction, ArgMatches, Command, Error, value_parser};
+use std::alloc::{AllocError, Global};
+
+/// The most inner nodes of a certificate's tree, where the words say nothing of it.
+pub const NODES: u32 = 20_000;
+
+/// What a command line asks: the files in order, and the most inner nodes of a certificate's tree.
+#[derive(Drop)]
+pub struct Line<'a> {
+    pub files: Vec<&'a str>,
+    pub nodes: u32,
+}
+
+/// Why nothing is asked.
+#[derive(Debug, Drop)]
+pub enum LineError {
+    /// The words aren't taken.
+    Usage,
+    /// Memory ran out.
+    Memory,
+}
+
+/// The command `bg verify [--nodes N] FILE..`.
+pub fn cli<'a>(alloc: Global) -> Result<Command<'a>, AllocError>
+    ensures { IfOk result (λ c. app_of c ≡ cli) }
+{
+    let nodes = Arg::new(alloc, "nodes")
+        .long("nodes")
+        .value_parser(value_parser!(u32))
+        .action(ArgAction::Set)
+        .default_value("20000");
+    let files = Arg::new(alloc, "FILE")
+        .required(true)
+        .num_args(1..)
+        .action(ArgAction::Append);
+    let verify = Command::new(alloc, "verify").arg(nodes)?.arg(files)?;
+    Command::new(alloc, "bg")
+        .subcommand_required(true)
+        .subcommand(verify)
+}
+
+/// Why a parse failed.
+fn fault_of(error: &Error) -> LineError
+    ensures { result ≡ LineError.Usage → kind_of error.now ≢ ErrorKind.OutOfMemory }
+{
+    if error.kind() == ErrorKind::OutOfMemory {
+        LineError::Memory
+    } else {
+        LineError::Usage
+    }
+}
+
+/// The files that the matches of `verify` hold.
+fn files_of<'a>(alloc: Global, verify: &ArgMatches<'a>) -> Result<Vec<&'a str>, AllocError>
+    ensures { IfOk result (λ files. map (λ file. file.now) files.items ≡ files_of (rows_of (found_of verify.now))) }
+{
+    match verify.get_strs("FILE") {
+        Some(files) => files.to_vec(alloc),
+        None => Ok(Vec::new(alloc)),
+    }
+}
+
+/// The number of nodes that the matches of `verify` hold.
+fn nodes_of(verify: &ArgMatches<'_>) -> u32
+    ensures { result ≡ nodes_of (rows_of (found_of verify.now)) }
+{
+    verify.get_one::<u32>("nodes").unwrap_or(NODES)
+}
+
+/// What the matches ask.
+fn line_of<'a>(alloc: Global, matches: &ArgMatches<'a>) -> Result<Line<'a>, AllocError>
+    ensures files { IfOk result (λ line. map (λ file. file.now) line.files.items ≡ files_of (rows_for matches.now)) }
+    ensures nodes { IfOk result (λ line. line.nodes ≡ nodes_of (rows_for matches.now)) }
+{
+    let Some((_, verify)) = matches.subcommand() else {
+        return Ok(Line {
+            files: Vec::new(alloc),
+            nodes: NODES,
+        });
+    };
+    Ok(Line {
+        files: files_of(alloc, verify)?,
+        nodes: nodes_of(verify),
+    })
+}
+
+/// What the words of a command line ask; the first word is the program's own name.
+///
+/// # Errors
+/// `Usage` where the words aren't taken, and `Memory` where memory ran out.
+pub fn read_line<'a>(alloc: Global, words: &'a [String]) -> Result<Line<'a>, LineError>
+    ensures taken { IfOk result (λ line. IsTaken (texts_of words.now)) }
+    ensures files { IfOk result (λ line. map (λ file. file.now) line.files.items ≡ files_in (texts_of words.now)) }
+    ensures nodes { IfOk result (λ line. line.nodes ≡ nodes_in (texts_of words.now)) }
+    ensures refused { IsErrOf result LineError.Usage → IsTaken (texts_of words.now) → ⊥ }
+{
+    let matches = match cli(alloc)?.try_get_matches_from(words) {
+        Ok(matches) => matches,
+        Err(error) => return Err(fault_of(&error)),
+    };
+    Ok(line_of(alloc, &matches)?)
+}
+
+impl From<AllocError> for LineError {
+    ghost from_gives = { λ _ e. e ≡ Memory };
+
+    fn from(_e: AllocError) -> LineError {
+        LineError::Memory
+    }
+}
