@@ -1,0 +1,11 @@
+pub mod Places
+pub mod Orders
+pub mod Covers
+pub mod Rounds
+pub mod Pairs
+pub mod Sides
+pub mod Names
+pub mod Begins
+pub mod Derive
+pub mod Ends
+pub mod Follows

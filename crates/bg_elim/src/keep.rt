@@ -1,0 +1,81 @@
+//! Rows are kept once.
+ghost use Rattle.std.specs.Prelude.{◌≡◌, ◌≤◌, IfOk, OnOk, length, None, option_copied};
+ghost use Rattle.std.specs.BTreeMap.{get_by};
+ghost use Rattle.bg_rows.specs.Rows.{row_of};
+ghost use Rattle.bg_elim.specs.Keys.{key_cmp, key_of, pairs_of, place_of};
+ghost use Rattle.bg_elim.specs.Work.{work_of, with_row, IsIndexed, KeptAs, IsPlace};
+
+use crate::order::Reason;
+use crate::work::{Key, Work};
+use bg_rows::{Entry, Row};
+use std::alloc::{AllocError, Global};
+
+/// The variables with their coefficients.
+fn pairs(alloc: Global, entries: &[Entry]) -> Result<Vec<(u32, i128)>, AllocError>
+    ensures { IfOk result (λ v. v.items ≡ pairs_of entries.now) }
+{
+    let mut made = Vec::new(alloc);
+    for t in entries {
+        made.push((t.variable, t.by))?;
+    }
+    Ok(made)
+}
+
+/// The key of a row.
+pub fn key(alloc: Global, row: &Row) -> Result<Key, AllocError>
+    ensures { IfOk result (λ k. (k.0.items, k.1) ≡ key_of (row_of row.now)) }
+{
+    let entries = pairs(alloc, &row.entries)?;
+    Ok((entries, row.bound))
+}
+
+/// The number of the row with this key, if it is kept.
+fn find(work: &Work, key: &Key) -> Option<usize>
+    requires { IsIndexed work.now }
+    ensures { result ≡ place_of (key.now.0.items, key.now.1) 0 (work_of work.now).rows }
+{
+    work.at.get(key).copied()
+}
+
+/// One more row, with its key and its reason.
+fn push(work: &mut Work, key: Key, row: Row, reason: Reason) -> Result<(), AllocError>
+    requires indexed { IsIndexed work.old }
+    requires key { (key.0.items, key.1) ≡ key_of (row_of row) }
+    requires new { place_of (key_of (row_of row)) 0 (work_of work.old).rows ≡ None }
+    ensures indexed { OnOk result (IsIndexed work.new) }
+    ensures work { OnOk result (work_of work.new ≡ with_row (work_of work.old) (row_of row) reason) }
+{
+    let n = work.rows.len();
+    work.at.insert(key, n)?;
+    work.rows.push(row)?;
+    work.reasons.push(reason)?;
+    Ok(())
+}
+
+/// The number of a row that is kept, perhaps from now on; None where it isn't kept and there are
+/// as many as the budget says.
+pub fn keep(
+    alloc: Global,
+    work: &mut Work,
+    row: Row,
+    reason: Reason,
+    budget: u32,
+) -> Result<Option<usize>, AllocError>
+    requires indexed { IsIndexed work.old }
+    requires room { length (work_of work.old).rows ≤ budget }
+    ensures indexed { OnOk result (IsIndexed work.new) }
+    ensures room { OnOk result (length (work_of work.new).rows ≤ budget) }
+    ensures kept { OnOk result (KeptAs (work_of work.old) (row_of row) reason (work_of work.new)) }
+    ensures place { IfOk result (λ n. IsPlace budget (row_of row) (work_of work.new) n) }
+{
+    let key = key(alloc, &row)?;
+    if let Some(n) = find(work, &key) {
+        return Ok(Some(n));
+    }
+    let n = work.rows.len();
+    if n >= budget as usize {
+        return Ok(None);
+    }
+    push(work, key, row, reason)?;
+    Ok(Some(n))
+}

@@ -1,0 +1,20 @@
+//! Rows are refuted, or an order of their variables solves them.
+#![tactic(auto)]
+
+mod every;
+mod find;
+mod keep;
+pub mod laws;
+mod order;
+mod pair;
+mod refute;
+mod round;
+mod start;
+mod take;
+#[cfg(test)]
+mod tests;
+mod variables;
+mod work;
+
+pub use find::refute_or_order;
+pub use order::{Found, Further, Order, Reason, Stop};

@@ -1,0 +1,88 @@
+//! Rows by hand, with ample memory: answers, causes, and numbers at the ends of the range.
+use crate::{Found, Stop, refute_or_order};
+use bg_base::Op;
+use bg_rows::{Entry, Row, derives, make};
+use std::alloc::Global;
+use std::test::Fail;
+
+fn row(alloc: Global, entries: &[(u32, i128)], bound: i128) -> Result<Row, Fail> {
+    let mut made = Vec::new(alloc);
+    for (variable, by) in entries {
+        made.push(Entry {
+            variable: *variable,
+            by: *by,
+        })?;
+    }
+    Ok(make(made, bound).ok_or("no row")?)
+}
+
+// What is found: 'r' with the number of steps, 's', 'f' or 'l' with the number of kept rows.
+fn told(alloc: Global, rows: &[Row], budget: u32) -> Result<(char, usize), Fail> {
+    match refute_or_order(alloc, rows, budget)? {
+        Found::Refuted(steps) => {
+            if derives(alloc, rows, &steps)? {
+                Ok(('r', steps.len()))
+            } else {
+                Err("no derivation".into())
+            }
+        }
+        Found::Solvable(order) => Ok(('s', order.rows.len())),
+        Found::Unknown(Stop::Rows(order)) => Ok(('f', order.rows.len())),
+        Found::Unknown(Stop::Range(order, further)) => {
+            if further.operation.op == Op::Negate {
+                Ok(('n', order.rows.len()))
+            } else {
+                Ok(('l', order.rows.len()))
+            }
+        }
+    }
+}
+
+#[test]
+fn rows_are_refuted_or_ordered(rt: HostRuntime) -> Result<(), Fail> {
+    let alloc = rt.alloc();
+    // 5 <= 2x and 2x <= 5: no whole number
+    let mut parity = Vec::new(alloc);
+    parity.push(row(alloc, &[(0, -2)], -5)?)?;
+    parity.push(row(alloc, &[(0, 2)], 5)?)?;
+    assert_eq!(rt; told(alloc, &parity, 100)?.0, 'r');
+    assert_eq!(rt; told(alloc, &parity, 3)?, ('f', 3));
+    assert_eq!(rt; told(alloc, &parity, 1)?, ('f', 1));
+    // x < y, y < z, z < x
+    let mut circle = Vec::new(alloc);
+    circle.push(row(alloc, &[(0, 1), (1, -1)], -1)?)?;
+    circle.push(row(alloc, &[(1, 1), (2, -1)], -1)?)?;
+    circle.push(row(alloc, &[(0, -1), (2, 1)], -1)?)?;
+    assert_eq!(rt; told(alloc, &circle, 100)?.0, 'r');
+    // x <= y, y <= z, z <= x
+    let mut equal = Vec::new(alloc);
+    equal.push(row(alloc, &[(0, 1), (1, -1)], 0)?)?;
+    equal.push(row(alloc, &[(1, 1), (2, -1)], 0)?)?;
+    equal.push(row(alloc, &[(0, -1), (2, 1)], 0)?)?;
+    assert_eq!(rt; told(alloc, &equal, 100)?.0, 's');
+    // nothing, what is always true, and what is never
+    let mut bare = Vec::new(alloc);
+    assert_eq!(rt; told(alloc, &bare, 0)?, ('s', 0));
+    bare.push(row(alloc, &[], 0)?)?;
+    assert_eq!(rt; told(alloc, &bare, 0)?, ('s', 0));
+    bare.push(row(alloc, &[], -1)?)?;
+    assert_eq!(rt; told(alloc, &bare, 0)?, ('r', 1));
+    Ok(())
+}
+
+#[test]
+fn the_ends_of_the_range(rt: HostRuntime) -> Result<(), Fail> {
+    let alloc = rt.alloc();
+    // x + y <= 2^127 - 1 and y - x <= 2^127 - 1: their sum leaves the range
+    let mut wide = Vec::new(alloc);
+    wide.push(row(alloc, &[(0, 1), (1, 1)], i128::MAX)?)?;
+    wide.push(row(alloc, &[(0, -1), (1, 1)], i128::MAX)?)?;
+    wide.push(row(alloc, &[(1, -1)], 0)?)?;
+    assert_eq!(rt; told(alloc, &wide, 100)?.0, 'l');
+    // -2^127 x + y <= 0 and x + y <= 0: a multiplier of 2^127
+    let mut steep = Vec::new(alloc);
+    steep.push(row(alloc, &[(0, i128::MIN), (1, 1)], 0)?)?;
+    steep.push(row(alloc, &[(0, 1), (1, -1)], 0)?)?;
+    assert_eq!(rt; told(alloc, &steep, 100)?.0, 'n');
+    Ok(())
+}

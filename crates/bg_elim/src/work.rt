@@ -1,0 +1,65 @@
+//! The state of an elimination.
+
+use crate::order::{Further, Reason};
+use bg_base::OutOfRange;
+use bg_rows::Row;
+use std::collections::BTreeMap;
+
+/// A row as a key: its variables with their coefficients, and its bound.
+pub type Key = (Vec<(u32, i128)>, i128);
+
+/// The variables done, the kept rows with their reasons, where each row is found by its key, and
+/// the numbers of the rows that are still to be paired.
+#[derive(Drop)]
+pub struct Work {
+    pub order: Vec<u32>,
+    pub reasons: Vec<Reason>,
+    pub rows: Vec<Row>,
+    pub at: BTreeMap<Key, usize>,
+    pub live: Vec<usize>,
+}
+
+/// What taking a row in did.
+#[derive(Clone, Copy, PartialEq, Eq, Debug)]
+pub enum Taken {
+    /// It is kept, or implied by one that is, or always true.
+    Done,
+    /// It is false.
+    False,
+    /// As many rows are kept as the budget says.
+    Full,
+}
+
+/// What pairing two kept rows did.
+#[derive(Clone, Copy, PartialEq, Eq, Debug)]
+pub enum Paired {
+    /// The row without the variable is taken in.
+    Ready,
+    /// It is false.
+    Refutes,
+    /// As many rows are kept as the budget says.
+    NoRoom,
+    /// An operation of the elimination leaves the range.
+    Leaves(OutOfRange),
+}
+
+/// What a row of pairs did.
+#[derive(Clone, Copy, PartialEq, Eq, Debug)]
+pub enum Round {
+    /// All pairs are taken in.
+    Whole,
+    /// The reason makes a false row.
+    RefutedBy(Reason),
+    /// As many rows are kept as the budget says.
+    Filled,
+    /// An operation of an elimination leaves the range.
+    Left(Further),
+}
+
+/// A side of 0.
+#[derive(Clone, Copy, PartialEq, Eq, Debug)]
+pub enum Side {
+    Above,
+    Below,
+    Neither,
+}

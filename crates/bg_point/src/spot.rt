@@ -1,0 +1,39 @@
+//! What back-substitution answers.
+
+use bg_base::OutOfRange;
+
+/// A variable with its value, and the number of the kept row that keeps it from 0, where the value
+/// isn't 0.
+#[derive(Clone, Copy, PartialEq, Eq, Debug)]
+pub struct Spot {
+    pub variable: u32,
+    pub value: i128,
+    pub reason: usize,
+}
+
+/// No whole number fits between `below` and `below + 1`: row `low` keeps the variable above
+/// `below`, and row `up` below `below + 1`.
+#[derive(Clone, Copy, PartialEq, Eq, Debug)]
+pub struct Gap {
+    pub variable: u32,
+    pub below: i128,
+    pub low: usize,
+    pub up: usize,
+}
+
+/// An operation on kept row `row` at the variable leaves the range.
+#[derive(Clone, Copy, PartialEq, Eq, Debug)]
+pub struct Far {
+    pub variable: u32,
+    pub row: usize,
+    pub operation: OutOfRange,
+}
+
+/// What back-substitution finds, with the spots so far, the last variable first: a value for each
+/// variable, a gap, or an operation that leaves the range.
+#[derive(Debug, Drop)]
+pub enum Placed {
+    Point(Vec<Spot>),
+    Split(Vec<Spot>, Gap),
+    Unknown(Vec<Spot>, Far),
+}

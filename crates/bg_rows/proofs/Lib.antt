@@ -1,0 +1,7 @@
+pub mod Steps
+pub mod Meaning
+pub mod Divisors
+pub mod Agree
+pub mod Normal
+pub mod Places
+pub mod Sound

@@ -1,0 +1,8 @@
+//! Entries of rows.
+
+/// A variable with its coefficient.
+#[derive(Clone, Copy, PartialEq, Eq, PartialOrd, Ord, Debug)]
+pub struct Entry {
+    pub variable: u32,
+    pub by: i128,
+}
