@@ -1,0 +1,4 @@
+pub mod Passive
+pub mod Incarnations
+pub mod Arrivals
+pub mod ReadBack
