@@ -16,12 +16,12 @@ use Rattle.bg_reader.proofs.Samples.{sample}
 use Rattle.bg_expr.specs.Exprs.{expr_at}
 use Rattle.bg_grammar.specs.Rules.{a_kind, choose, below, room}
 use Rattle.bg_grammar.proofs.Rule.{nowhere, Spelled, Rule, Image, text_rule, both_rule, image_rule, iff_rule, via_rule, choose_rule, parts_ways, less_rule, Picker, sign_picker, text_picker, kind_picker, row_ok, rows_rule, at_rule, after_rule, before_rule, shut_rule, nothing_rule, commas_rule, list_closed_rule, Behind, NoRoom, Rooms, behind_rule, Within, Full, Room, inside_rule}
-use Rattle.bg_parse.specs.Parts.{clause}
+use Rattle.bg_parts.specs.Parts.{clause}
 use Rattle.bg_parse.specs.Declarations.{new_type_at, types_at, unique_at, constants, constants_at, named_arg, fun_arg_at, fun_args_in, fun_args_at, fun_result_at, fun_end_at, function, function_at, axiom_at, vars_at, params_in, params_at, sig_at, free_at, free_spec, spec_kinds, modifies_at, spec_at, specs_at, body_in, body_at, Tail, tail_at, procedure, procedure_at, implementation, implementation_at, decl_kinds, big_at, decl_at, decls_at}
-use Rattle.bg_parse.proofs.TypeRules.{id_rule, type_rule, UnnamedType, unnamed_rule}
-use Rattle.bg_parse.proofs.ExprRule.{expr_rule}
-use Rattle.bg_parse.proofs.PartRules.{attrs_rule, SomeIds, ids_rule, group_firsts, group_rule, SaysWell, says_marks, says_rule, clause_rule}
-use Rattle.bg_parse.proofs.StatementRules.{stmt_firsts, stmts_rule}
+use Rattle.bg_parts.proofs.TypeRules.{id_rule, type_rule, UnnamedType, unnamed_rule}
+use Rattle.bg_parts.proofs.ExprRule.{expr_rule}
+use Rattle.bg_parts.proofs.PartRules.{attrs_rule, SomeIds, ids_rule, group_firsts, group_rule, SaysWell, says_marks, says_rule, clause_rule}
+use Rattle.bg_stmts.proofs.StatementRules.{stmt_firsts, stmts_rule}
 
 -- a part that may be left out
 opt_to : {A : Type 0} (I : A → Type 0) (o : Option A) → Image Some I o ⊎ (o ≡ None) → IfThere I o

@@ -7,9 +7,9 @@ use Rattle.bg_text.specs.Trees.{Id, Ty, NamedType, Ex, Attr, Group, NewType, Fun
 use Rattle.bg_reader.specs.Reading.{Reader, with_read, both, one, a_sign, a_text, nothing}
 use Rattle.bg_expr.specs.Exprs.{expr_at}
 use Rattle.bg_grammar.specs.Rules.{a_kind, choose, rows, after, before, commas_at, opened, inside, shut, list_closed, below, room}
-use Rattle.bg_parse.specs.Types.{id_at, unnamed_at, type_in}
-use Rattle.bg_parse.specs.Parts.{attrs_at, ids_at, group_at, says_at, clause, clause_at}
-use Rattle.bg_parse.specs.Statements.{stmts_in}
+use Rattle.bg_parts.specs.Types.{id_at, unnamed_at, type_in}
+use Rattle.bg_parts.specs.Parts.{attrs_at, ids_at, group_at, says_at, clause, clause_at}
+use Rattle.bg_stmts.specs.Statements.{stmts_in}
 
 -- a type that is declared
 unfoldable pub new_type_at : ℕ → ℕ → Reader NewType

@@ -1,5 +1,3 @@
-pub mod Types
-pub mod Parts
-pub mod Statements
 pub mod Declarations
 pub mod Programs
+pub mod Nodes

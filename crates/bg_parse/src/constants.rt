@@ -7,9 +7,7 @@ ghost use Rattle.bg_reader.specs.Reading.{Gives};
 ghost use Rattle.bg_grammar.specs.Rules.{commas_at};
 ghost use Rattle.bg_parse.specs.Declarations.{new_type_at, types_at, unique_at, constants_at, axiom_at, vars_at};
 
-use crate::names::name;
-use crate::parts::{attributes, groups, names, says};
-use crate::types::ty;
+use bg_parts::{attributes, groups, name, names, says, ty};
 use bg_reader::{Refusal, after_kind, expect_kind};
 use bg_text::{Constants, Decl, Formals, Kind, Token, TypeDecl, Variables};
 use std::alloc::Global;

@@ -7,11 +7,9 @@ ghost use Rattle.bg_reader.specs.Reading.{Gives};
 ghost use Rattle.bg_grammar.specs.Rules.{commas_at, inside, room, below};
 ghost use Rattle.bg_parse.specs.Declarations.{fun_arg_at, fun_args_in, fun_args_at, fun_result_at, fun_end_at, function_at};
 
-use crate::names::{name, named};
-use crate::parts::attributes;
-use crate::types::{ty, unnamed};
 use bg_expr::read_expr;
 use bg_grammar::below;
+use bg_parts::{attributes, name, named, ty, unnamed};
 use bg_reader::{Refusal, after_kind, after_text, expect_kind};
 use bg_text::{Decl, Function, FunctionArg, FunctionResult, Kind, Token, TreeExpr, TreeType};
 use std::alloc::Global;

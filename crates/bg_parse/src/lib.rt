@@ -5,15 +5,15 @@ mod constants;
 mod decls;
 mod functions;
 mod laws;
-mod names;
-mod parts;
 mod procedures;
 mod program;
-mod simple;
-mod stmts;
 #[cfg(test)]
 mod tests;
-mod types;
+mod tree;
 
-pub use laws::{answers_exclude_one_another, there_is_one_refusal, tokens_spell_one_program};
-pub use program::{Tree, parse};
+pub use laws::{
+    answers_exclude_one_another, each_node_has_a_token, there_is_one_refusal,
+    tokens_spell_one_program,
+};
+pub use program::parse;
+pub use tree::Tree;

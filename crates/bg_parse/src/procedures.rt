@@ -8,11 +8,10 @@ ghost use Rattle.bg_grammar.specs.Rules.{rows, a_kind};
 ghost use Rattle.bg_parse.specs.Declarations.{vars_at, params_in, params_at, sig_at, free_at, free_spec, modifies_at, spec_kinds, spec_at, specs_at, body_in, body_at, tail_at, procedure_at, implementation_at};
 
 use crate::constants::variables;
-use crate::names::name;
-use crate::parts::{attributes, clause, groups, names, says};
-use crate::stmts::stmts;
 use bg_grammar::{after_one_of, below};
+use bg_parts::{attributes, clause, groups, name, names, says};
 use bg_reader::{Refusal, after_kind, expect_kind};
+use bg_stmts::stmts;
 use bg_text::{
     Attribute, Body, Decl, Formals, Implementation, Kind, Name, Procedure, Signature, Spec, Token,
     TreeClause, TreeExpr, Variables,
@@ -104,7 +103,7 @@ fn freed<'a>(
 }
 
 /// Names or none, and the semicolon.
-#[tactic(auto, unfolding(crate::specs::Declarations::modifies_at, crate::specs::Parts::ids_at))]
+#[tactic(auto, unfolding(crate::specs::Declarations::modifies_at, bg_parts::specs::Parts::ids_at))]
 fn modified<'a>(
     alloc: Global,
     limit: usize,

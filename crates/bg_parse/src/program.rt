@@ -7,15 +7,10 @@ ghost use Rattle.bg_reader.specs.Told.{IsTooDeep, IfRefused};
 ghost use Rattle.bg_parse.specs.Programs.{IsProgram, IsStopped};
 
 use crate::decls::decls;
+use crate::tree::Tree;
 use bg_reader::{Refusal, first, within};
-use bg_text::{Decl, Token};
+use bg_text::Token;
 use std::alloc::Global;
-
-/// A program as it is written: its declarations one after the other.
-#[derive(Drop)]
-pub struct Tree {
-    pub decls: Vec<Decl>,
-}
 
 /// The program that all of the tokens spell, with their positions. At most 200 brackets may be open at a place.
 /// `Syntax` names the first token with which no spelling of a program goes on, `TooDeep` the first bracket that is one

@@ -1,0 +1,4 @@
+pub mod TypeRules
+pub mod ExprRule
+pub mod PartRules
+mod Builds

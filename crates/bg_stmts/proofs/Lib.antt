@@ -1,0 +1,2 @@
+pub mod StatementRules
+mod Calls
