@@ -1,0 +1,2 @@
+pub mod StForms
+pub mod LabelForms

@@ -1,0 +1,4 @@
+pub mod Scopes
+pub mod Firsts
+pub mod Forms
+pub mod TypeForms

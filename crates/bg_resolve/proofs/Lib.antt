@@ -1,0 +1,5 @@
+pub mod Order
+pub mod Programs
+pub mod CallForms
+pub mod Recursions
+pub mod Resolved

@@ -1,0 +1,6 @@
+pub mod Program
+pub mod Examples
+pub mod Parts
+pub mod Pieces
+pub mod Calls
+pub mod Resolves

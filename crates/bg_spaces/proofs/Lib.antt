@@ -1,0 +1,3 @@
+pub mod Joins
+pub mod SpaceForms
+pub mod Noted

@@ -1,0 +1,4 @@
+pub mod Declarations
+pub mod Views
+pub mod SpaceViews
+pub mod Pieces
