@@ -1,0 +1,9 @@
+pub mod Faults
+pub mod Kinds
+pub mod Rows
+pub mod Synonyms
+pub mod Owned
+pub mod Views
+pub mod KindViews
+pub mod FaultViews
+pub mod Texts

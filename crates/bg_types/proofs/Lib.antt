@@ -1,0 +1,3 @@
+pub mod Same
+pub mod Least
+pub mod Judgement

@@ -1,0 +1,5 @@
+pub mod Programs
+pub mod Verdicts
+pub mod Checks
+pub mod Tables
+pub mod Examples

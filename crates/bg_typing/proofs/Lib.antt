@@ -1,0 +1,4 @@
+pub mod Signs
+pub mod Forms
+pub mod Judged
+pub mod Steps

@@ -1,0 +1,5 @@
+pub mod Sides
+pub mod Exprs
+pub mod Stmts
+pub mod Chains
+pub mod SideViews
