@@ -1,0 +1,6 @@
+pub mod Later
+pub mod Limits
+pub mod Refusals
+pub mod Lines
+pub mod Trees
+pub mod Programs

@@ -1,0 +1,60 @@
+-- The program of a text, and why it has none.
+use Rattle.std.specs.Prelude.{◌≡◌, ◌≤◌, ◌<◌, ℕ, List, [], ◌++◌, length}
+use Rattle.bg_text.specs.Tokens.{Tok}
+use Rattle.bg_text.specs.Trees.{Decl}
+use Rattle.bg_ast.specs.Resolved as r
+use Rattle.bg_names.specs.Faults as n
+use Rattle.bg_resolve.specs.Program.{plain_faults, named}
+use Rattle.bg_resolve.specs.Resolves.{Recursion}
+use Rattle.bg_types.specs.Verdicts.{IsWellTyped, IsFault}
+use Rattle.bg_front.specs.Later.{AreJudged, IsUnjudged}
+use Rattle.bg_front.specs.Limits.{most_bytes, most_implementations}
+use Rattle.bg_front.specs.Refusals as f
+use Rattle.bg_front.specs.Refusals.{refusal_of}
+use Rattle.bg_front.specs.Trees.{IsTreeOf, HasNoTree}
+use Rattle.bg_front.specs.declared.refusal.ReadError.{ReadError}
+use Rattle.bg_front.specs.declared.refusal.ReadError.TheVariants as errors
+
+-- the declarations break no rule of names
+abbrev pub AreNamed : List Decl → Type 0
+AreNamed ds = (plain_faults ds ≡ []) × Recursion ds []
+
+-- their first fault of names
+abbrev pub IsNameFault : List Decl → n.Fault → Type 0
+IsNameFault ds fault = (rs : List n.Fault) × Recursion ds rs × n.IsFirst fault (plain_faults ds ++ rs)
+
+-- the bytes, few enough, hold these tokens, which spell declarations that break no rule of names, and mean this program
+pub record IsMeaningOf (bytes : List ℕ) (ts : List Tok) (program : r.Program) : Type 0 where
+  pub decls : List Decl
+  pub short : length bytes ≤ most_bytes
+  pub tree : IsTreeOf bytes ts decls
+  pub names : AreNamed decls
+  pub meant : program ≡ named decls
+
+-- the bytes spell the program: it has a type everywhere, each of its tokens is judged, and it has few implementations
+pub record IsProgramOf (bytes : List ℕ) (program : r.Program) : Type 0 where
+  pub tokens : List Tok
+  pub spelled : IsMeaningOf bytes tokens program
+  pub typed : IsWellTyped program
+  pub judged : AreJudged tokens
+  pub few : length program.implementations ≤ most_implementations
+
+-- why a text has no program; each reason stands only where none before it does
+abbrev pub IsRefusedBy : List ℕ → f.Refusal → Type 0
+IsRefusedBy bytes f.TooLong = most_bytes < length bytes
+IsRefusedBy bytes (f.Names fault) = (length bytes ≤ most_bytes) × (ts : List Tok) × (ds : List Decl) × IsTreeOf bytes ts ds × IsNameFault ds fault
+IsRefusedBy bytes (f.Types ds fault) = (ts : List Tok) × (p : r.Program) × IsMeaningOf bytes ts p × IsFault p fault × (ds ≡ p.types)
+IsRefusedBy bytes (f.Later pos word) = (ts : List Tok) × (p : r.Program) × IsMeaningOf bytes ts p × IsWellTyped p × IsUnjudged ts pos word
+IsRefusedBy bytes (f.Implementations count) =
+    (ts : List Tok) × (p : r.Program) × IsMeaningOf bytes ts p × IsWellTyped p × AreJudged ts × (most_implementations < count) × (count ≡ length p.implementations)
+IsRefusedBy bytes reason = (length bytes ≤ most_bytes) × HasNoTree bytes reason
+
+-- a refusal, the name of a fault of names apart
+abbrev pub without_name : f.Refusal → f.Refusal
+without_name (f.Names fault) = f.Names (record fault { name = [] })
+without_name reason = reason
+
+-- what is said of an answer, unless memory ran out
+abbrev pub IsRefused : List ℕ → ReadError → Type 0
+IsRefused bytes (errors.Refused e) = IsRefusedBy bytes (refusal_of e)
+IsRefused bytes errors.Memory = Unit {0}

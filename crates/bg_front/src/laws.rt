@@ -1,0 +1,45 @@
+//! What holds of all texts.
+ghost use Rattle.std.specs.Prelude.{◌≡◌, ℕ, List};
+ghost use Rattle.bg_base.specs.declared.pos.Pos as place;
+ghost use Rattle.bg_text.specs.Tokens.{Tok};
+ghost use Rattle.bg_text.specs.Trees.{Decl};
+ghost use Rattle.bg_ast.specs.Resolved.{Program};
+ghost use Rattle.bg_front.specs.Later.{AreJudged, IsUnjudged};
+ghost use Rattle.bg_front.specs.Programs.{IsProgramOf, IsRefusedBy, without_name};
+ghost use Rattle.bg_front.specs.Refusals.{Refusal};
+ghost use Rattle.bg_front.specs.Trees.{IsTreeOf, HasNoTree};
+
+/// Tokens that aren't judged have one first, and none where all are judged.
+pub fn there_is_one_first_unjudged()
+    ensures one { (ts : List Tok) (p q : place.Pos) (w x : List ℕ) → IsUnjudged ts p w → IsUnjudged ts q x → (p ≡ q) × (w ≡ x) }
+    ensures none { (ts : List Tok) (p : place.Pos) (w : List ℕ) → AreJudged ts → IsUnjudged ts p w → ⊥ }
+{}
+
+/// A text has one tree, or it is refused for one reason, and never both.
+pub fn a_text_has_one_tree_or_one_refusal()
+    ensures tree { (bytes : List ℕ) (ts us : List Tok) (ds es : List Decl) → IsTreeOf bytes ts ds → IsTreeOf bytes us es → (ts ≡ us) × (ds ≡ es) }
+    ensures both { (bytes : List ℕ) (ts : List Tok) (ds : List Decl) (r : Refusal) → IsTreeOf bytes ts ds → HasNoTree bytes r → ⊥ }
+    ensures refusal { (bytes : List ℕ) (r s : Refusal) → HasNoTree bytes r → HasNoTree bytes s → r ≡ s }
+{
+    bg_lex::laws::a_text_holds_one_list_of_tokens();
+    bg_lex::laws::a_text_has_one_refusal();
+    bg_lex::laws::a_text_that_holds_tokens_is_not_refused();
+    bg_parse::tokens_spell_one_program();
+    bg_parse::answers_exclude_one_another();
+    bg_parse::there_is_one_refusal();
+}
+
+/// A text has one program, or it is refused for one reason, and never both. Of a fault of names the reason is its kind and
+/// its position: no rule says which of several names is named at one position.
+pub fn a_text_has_one_program_or_one_refusal()
+    ensures program { (bytes : List ℕ) (p q : Program) → IsProgramOf bytes p → IsProgramOf bytes q → p ≡ q }
+    ensures both { (bytes : List ℕ) (p : Program) (r : Refusal) → IsProgramOf bytes p → IsRefusedBy bytes r → ⊥ }
+    ensures refusal { (bytes : List ℕ) (r s : Refusal) → IsRefusedBy bytes r → IsRefusedBy bytes s → without_name r ≡ without_name s }
+{
+    bg_lex::laws::a_text_holds_one_list_of_tokens();
+    bg_lex::laws::a_text_has_one_refusal();
+    bg_lex::laws::a_text_that_holds_tokens_is_not_refused();
+    bg_parse::tokens_spell_one_program();
+    bg_parse::answers_exclude_one_another();
+    bg_parse::there_is_one_refusal();
+}

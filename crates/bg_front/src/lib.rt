@@ -1,0 +1,22 @@
+//! From the bytes of a text to its program, or to the one line that refuses it.
+#![tactic(auto)]
+
+mod faults;
+mod later;
+pub mod laws;
+mod limits;
+mod lines;
+mod refusal;
+mod text;
+mod tree;
+
+pub use later::first_unjudged;
+pub use limits::{MOST_BYTES, MOST_IMPLEMENTATIONS};
+pub use refusal::{ReadError, Refusal};
+pub use text::read_program;
+pub use tree::{Read, tree_of};
+
+#[cfg(test)]
+mod names_tests;
+#[cfg(test)]
+mod tests;

@@ -1,0 +1,7 @@
+//! How large a text may be.
+
+/// The most bytes that a text may have.
+pub const MOST_BYTES: u64 = 4_194_304;
+
+/// The most implementations that a program may have.
+pub const MOST_IMPLEMENTATIONS: usize = 10_000;

@@ -1,0 +1,115 @@
+//! The program of a text.
+ghost use Rattle.std.specs.Prelude.{◌≤◌, length, IfOk, IfErr};
+ghost use Rattle.bg_text.specs.Tokens.{views};
+ghost use Rattle.bg_text.specs.Views.{decls_of};
+ghost use Rattle.bg_ast.specs.Views.{program_of};
+ghost use Rattle.bg_types.specs.Verdicts.{IsWellTyped};
+ghost use Rattle.bg_front.specs.Later.{AreJudged};
+ghost use Rattle.bg_front.specs.Limits.{most_bytes};
+ghost use Rattle.bg_front.specs.Programs.{IsMeaningOf, IsProgramOf, IsRefused};
+ghost use Rattle.bg_front.specs.Trees.{IsTreeOf};
+
+use crate::later::first_unjudged;
+use crate::limits::{MOST_BYTES, MOST_IMPLEMENTATIONS};
+use crate::refusal::{ReadError, Refusal};
+use crate::tree::{Read, tree_of};
+use bg_ast::resolved::Resolved;
+use bg_resolve::{ResolveError, resolve};
+use bg_text::{Decl, Token};
+use bg_types::{TypeFault, Typed, check_types};
+use std::alloc::Global;
+
+/// The tokens and the tree of a text that isn't too long.
+fn read<'a>(alloc: Global, bytes: &'a [u8]) -> Result<Read<'a>, ReadError<'a>>
+    ensures short { IfOk result (λ _. length bytes.now ≤ most_bytes) }
+    ensures read { IfOk result (λ r. IsTreeOf bytes.now (views r.tokens.items) (decls_of r.tree.decls.items)) }
+    ensures refused { IfErr result (λ e. IsRefused bytes.now e) }
+{
+    if bytes.len() as u64 > MOST_BYTES {
+        return Err(ReadError::Refused(Refusal::TooLong));
+    }
+    tree_of(alloc, bytes)
+}
+
+/// What the declarations mean.
+fn meaning<'a>(
+    alloc: Global,
+    bytes: &'a [u8],
+    tokens: &[Token<'a>],
+    decls: &[Decl],
+) -> Result<Resolved, ReadError<'a>>
+    requires short { length bytes.now ≤ most_bytes }
+    requires tree { IsTreeOf bytes.now (views tokens.now) (decls_of decls.now) }
+    ensures meant { IfOk result (λ p. IsMeaningOf bytes.now (views tokens.now) (program_of p)) }
+    ensures refused { IfErr result (λ e. IsRefused bytes.now e) }
+{
+    match resolve(alloc, decls) {
+        Ok(program) => Ok(program),
+        Err(ResolveError::Fault(fault)) => Err(ReadError::Refused(Refusal::Names(fault))),
+        Err(ResolveError::Memory) => Err(ReadError::Memory),
+    }
+}
+
+/// The same, where it has a type everywhere.
+fn typed<'a>(
+    alloc: Global,
+    bytes: &'a [u8],
+    tokens: &[Token<'a>],
+    program: Resolved,
+) -> Result<Typed, ReadError<'a>>
+    requires meant { IsMeaningOf bytes.now (views tokens.now) (program_of program) }
+    ensures meant { IfOk result (λ t. IsMeaningOf bytes.now (views tokens.now) (program_of t.program)) }
+    ensures typed { IfOk result (λ t. IsWellTyped (program_of t.program)) }
+    ensures refused { IfErr result (λ e. IsRefused bytes.now e) }
+{
+    match check_types(alloc, program) {
+        Ok(typed) => Ok(typed),
+        Err(TypeFault::Refused(refusal)) => Err(ReadError::Refused(Refusal::Types(refusal))),
+        Err(TypeFault::Memory) => Err(ReadError::Memory),
+    }
+}
+
+/// The same, where it has few implementations.
+fn counted<'a>(bytes: &'a [u8], tokens: &[Token<'a>], typed: Typed) -> Result<Typed, ReadError<'a>>
+    requires meant { IsMeaningOf bytes.now (views tokens.now) (program_of typed.program) }
+    requires typed { IsWellTyped (program_of typed.program) }
+    requires judged { AreJudged (views tokens.now) }
+    ensures program { IfOk result (λ t. IsProgramOf bytes.now (program_of t.program)) }
+    ensures refused { IfErr result (λ e. IsRefused bytes.now e) }
+{
+    let count = typed.program.implementations.len();
+    if count > MOST_IMPLEMENTATIONS {
+        return Err(ReadError::Refused(Refusal::Implementations(count)));
+    }
+    Ok(typed)
+}
+
+/// The same, where each token is judged.
+fn judged<'a>(bytes: &'a [u8], tokens: &[Token<'a>], typed: Typed) -> Result<Typed, ReadError<'a>>
+    requires meant { IsMeaningOf bytes.now (views tokens.now) (program_of typed.program) }
+    requires typed { IsWellTyped (program_of typed.program) }
+    ensures program { IfOk result (λ t. IsProgramOf bytes.now (program_of t.program)) }
+    ensures refused { IfErr result (λ e. IsRefused bytes.now e) }
+{
+    match first_unjudged(tokens) {
+        Some((pos, word)) => Err(ReadError::Refused(Refusal::Later(pos, word))),
+        None => counted(bytes, tokens, typed),
+    }
+}
+
+/// The program of a text.
+///
+/// # Errors
+/// `Refused` with the first of these that holds: there are too many bytes (`TooLong`); the bytes hold no tokens (`Bytes`);
+/// the tokens spell no program (`Syntax`) or open a 201st bracket (`Nesting`), whichever comes first; a rule of names
+/// (`Names`) or of types (`Types`) is broken; a token isn't judged yet (`Later`); there are too many implementations
+/// (`Implementations`). `Memory` where memory ran out. Positions are lines and byte columns from 1.
+pub fn read_program<'a>(alloc: Global, bytes: &'a [u8]) -> Result<Typed, ReadError<'a>>
+    ensures program { IfOk result (λ t. IsProgramOf bytes.now (program_of t.program)) }
+    ensures refused { IfErr result (λ e. IsRefused bytes.now e) }
+{
+    let read = read(alloc, bytes)?;
+    let program = meaning(alloc, bytes, &read.tokens, &read.tree.decls)?;
+    let typed = typed(alloc, bytes, &read.tokens, program)?;
+    judged(bytes, &read.tokens, typed)
+}
