@@ -1,0 +1,5 @@
+pub mod Chains
+pub mod Decls
+pub mod Marks
+pub mod Typing
+pub mod Programs

@@ -1,0 +1,110 @@
+//! Expressions of truth values.
+ghost use Rattle.std.specs.Prelude.{◌≡◌, ◌&&◌, map};
+ghost use Rattle.bg_ast.specs.Meaning.{ex_of};
+ghost use Rattle.bg_ast.specs.Views as view;
+ghost use Rattle.bg_ast.specs.Views.{link_view, var_of};
+ghost use Rattle.bg_fits.specs.Plain.{is_none, is_local, is_truth_sign, is_not, are_nots, is_plain, are_plain_links};
+
+use bg_ast::resolved::{Expr, Link, Variable};
+use bg_text::{InfixSign, PrefixSign, TreePrefix};
+
+/// Whether there is nothing.
+pub fn is_none<T>(xs: &[T]) -> bool
+    ensures { result ≡ is_none xs.now }
+{
+    xs.is_empty()
+}
+
+/// Whether a variable is one of a frame of this many.
+fn is_local(width: usize, x: Variable) -> bool
+    ensures { result ≡ is_local width (var_of x) }
+{
+    match x {
+        Variable::Local(x) => (x as usize) < width,
+        Variable::Global(_) => false,
+    }
+}
+
+/// Whether a sign may stand between truth values, and gives one.
+fn is_truth_sign(sign: InfixSign) -> bool
+    ensures { result ≡ is_truth_sign sign }
+{
+    match sign {
+        InfixSign::Iff => true,
+        InfixSign::Implies => true,
+        InfixSign::Explies => true,
+        InfixSign::And => true,
+        InfixSign::Or => true,
+        InfixSign::Equal => true,
+        InfixSign::Unequal => true,
+        InfixSign::Less => false,
+        InfixSign::AtMost => false,
+        InfixSign::Greater => false,
+        InfixSign::AtLeast => false,
+        InfixSign::Plus => false,
+        InfixSign::Minus => false,
+        InfixSign::Times => false,
+    }
+}
+
+fn is_not(sign: PrefixSign) -> bool
+    ensures { result ≡ is_not sign }
+{
+    match sign {
+        PrefixSign::Not => true,
+        PrefixSign::Minus => false,
+    }
+}
+
+fn are_nots(signs: &[TreePrefix]) -> bool
+    ensures { result ≡ are_nots signs.now }
+{
+    for sign in signs {
+        if !is_not(sign.sign) {
+            return false;
+        }
+    }
+    true
+}
+
+fn both(a: bool, b: bool) -> bool
+    ensures { result ≡ (a && b) }
+{
+    a && b
+}
+
+/// Whether an expression has a truth value, where the frame has this many variables, all of type `bool`.
+#[cycle(is_plain)]
+#[tactic(auto, using(crate::proofs::Chains::prefix_expr))]
+pub fn is_plain(width: usize, e: &Expr) -> bool
+    ensures { result ≡ is_plain width (ex_of (view.ex_of e.now)) }
+{
+    match e {
+        Expr::Truth(_, _) => true,
+        Expr::Read(_, x) => is_local(width, *x),
+        Expr::Parens(_, e) => is_plain(width, e),
+        Expr::Prefix(signs, e) => both(are_nots(signs), is_plain(width, e)),
+        Expr::Chain(first, links) => both(is_plain(width, first), are_plain(width, links)),
+        Expr::Postfix(e, brackets) => both(is_none(brackets), is_plain(width, e)),
+        Expr::Number(_, _) => false,
+        Expr::Constant(_, _) => false,
+        Expr::Apply(_, _, _) => false,
+        Expr::Old(_, _) => false,
+    }
+}
+
+/// Whether each operand of a chain has a truth value, and each sign takes one.
+#[cycle(is_plain)]
+fn are_plain(width: usize, links: &[Link]) -> bool
+    ensures { result ≡ are_plain_links width (map link_view links.now) }
+{
+    for link in links {
+        if !is_truth_sign(link.sign) {
+            return false;
+        }
+        if !is_plain(width, &link.operand) {
+            return false;
+        }
+    }
+    true
+}

@@ -1,0 +1,13 @@
+pub mod Chains
+pub mod Puts
+pub mod Trails
+pub mod Lengths
+pub mod Leads
+pub mod Machine
+pub mod Sound
+pub mod Taken
+pub mod Known
+pub mod Bridge
+pub mod Facts
+pub mod Goods
+pub mod Safe

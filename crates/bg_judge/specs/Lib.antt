@@ -1,0 +1,11 @@
+pub mod Lines
+pub mod Straight
+pub mod Syms
+pub mod Sights
+pub mod Trees
+pub mod Trails
+pub mod Founds
+pub mod Runs
+pub mod Endings
+pub mod Goods
+pub mod Verdicts

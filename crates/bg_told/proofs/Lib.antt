@@ -1,0 +1,5 @@
+pub mod Texts
+pub mod Cuts
+pub mod Apart
+pub mod Decided
+pub mod Verified

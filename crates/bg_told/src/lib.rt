@@ -1,0 +1,15 @@
+//! The report of a program over truth values: the text of what is known of each implementation and place.
+#![tactic(auto)]
+
+mod laws;
+mod places;
+mod put;
+mod report;
+mod word;
+
+pub use laws::{equal_reports_say_equal_words, verified_is_all_proved, verified_is_each_verified};
+pub use report::result_text;
+pub use word::{Word, word_of};
+
+#[cfg(test)]
+mod tests;

@@ -1,0 +1,44 @@
+//! Parts of a line.
+ghost use Rattle.std.specs.Prelude.{◌≡◌, ◌++◌, OnOk};
+ghost use Rattle.std.specs.Fmt.{decimal};
+ghost use Rattle.bg_told.specs.Report.{position_text, truth_text, word_text};
+
+use crate::word::Word;
+use bg_base::Pos;
+use itoa::Buffer;
+use std::alloc::AllocError;
+
+pub fn put_number(out: &mut Vec<u8>, n: usize) -> Result<(), AllocError>
+    ensures { OnOk result (out.new.items ≡ out.old.items ++ decimal n) }
+{
+    let mut buffer = Buffer::new();
+    out.extend_from_slice(buffer.format(n).as_bytes())
+}
+
+pub fn put_position(out: &mut Vec<u8>, pos: Pos) -> Result<(), AllocError>
+    ensures { OnOk result (out.new.items ≡ out.old.items ++ position_text pos) }
+{
+    put_number(out, pos.line as usize)?;
+    out.push(b':')?;
+    put_number(out, pos.column as usize)
+}
+
+pub fn put_truth(out: &mut Vec<u8>, value: bool) -> Result<(), AllocError>
+    ensures { OnOk result (out.new.items ≡ out.old.items ++ truth_text value) }
+{
+    if value {
+        out.extend_from_slice(b"true")
+    } else {
+        out.extend_from_slice(b"false")
+    }
+}
+
+pub fn put_word(out: &mut Vec<u8>, word: Word) -> Result<(), AllocError>
+    ensures { OnOk result (out.new.items ≡ out.old.items ++ word_text word) }
+{
+    match word {
+        Word::Verified => out.extend_from_slice(b"verified"),
+        Word::Refuted => out.extend_from_slice(b"refuted"),
+        Word::Unknown => out.extend_from_slice(b"unknown"),
+    }
+}
