@@ -1,68 +1,116 @@
 -- How the top call ends.
-use Rattle.std.proofs.Common.{◌≡◌, ◌⊎◌, inl, inr, ℕ, List, Option, Some, length, refl, sym, ap, subst, arith}
-use Rattle.std.specs.Prelude.{codes, IsTrue, ◌≢◌}
-use Rattle.bg_io.specs.Causes.{joined, joined_text, IsTextOf, IsTextOver}
-use Rattle.bg_ast.specs.Source.{Source}
-use Rattle.bg_read.specs.Program.{IsProgramOf}
+use Rattle.std.proofs.Common.{◌≡◌, ◌⊎◌, inl, inr, ◌<◌, ℕ, suc, List, length, replicate, Option, Some, None, Bool, true, false, refl, sym, ap, ◌∙◌, subst, arith}
+use Rattle.std.specs.Prelude.{IsTrue, ◌≢◌}
+use Rattle.std.proofs.lemmas.List.{length-replicate}
+use Rattle.bg_io.specs.Causes.{joined_text, IsTextOf, IsTextOver}
+use Rattle.bg_ast.specs.Resolved.{Program}
+use Rattle.bg_front.specs.Programs.{IsProgramOf, IsRefusedBy, without_name}
+use Rattle.bg_front.specs.Refusals.{Refusal, TooLong, Bytes, Syntax, Nesting, Names, Types, Later, Implementations, is_limit}
 use Rattle.bg_tool.specs.declared.status.Status.{Status}
 use Rattle.bg_tool.specs.declared.status.Status.TheVariants as status
-use Rattle.bg_tool.specs.Statuses.{is_report, is_line}
-use Rattle.bg_tool.specs.Answers.{IsRead, WroteSome, Reported, ReportedSome, line_for, Judges}
+use Rattle.bg_tool.specs.Statuses.{refusal_status, is_report, is_refused}
+use Rattle.bg_tool.specs.Answers.{WroteSome, Reported, ReportedSome, RefusedFor, Judges}
 
-pub line_limit : (ends : Status) (w n : Option (List ℕ)) → (ends ≡ status.Limit) ⊎ (ends ≡ status.Write) → (ends ≡ status.Limit → ends ≢ status.Write → n ≡ joined w (codes "error: limit bytes 4194305\n")) → IsTrue (is_line ends) → n ≡ joined w (line_for ends)
-line_limit status.Limit w n e h r = h refl (λ q. absurd cc)
-line_limit status.Verified w n e h r = absurd cc
-line_limit status.Refuted w n e h r = absurd cc
-line_limit status.Unknown w n e h r = absurd cc
-line_limit status.Text w n (inl e) h r = absurd cc
-line_limit status.Text w n (inr e) h r = absurd cc
-line_limit status.Usage w n (inl e) h r = absurd cc
-line_limit status.Usage w n (inr e) h r = absurd cc
-line_limit status.Read w n (inl e) h r = absurd cc
-line_limit status.Read w n (inr e) h r = absurd cc
-line_limit status.Write w n e h r = absurd cc
-line_limit status.Memory w n e h r = absurd cc
+-- the status of a refusal is one of refusals
+abbrev status_with : Bool → Status
+status_with true = status.Limit
+status_with false = status.Text
 
-not_fault : {A : Type 0} (ends : Status) → (ends ≡ status.Limit) ⊎ (ends ≡ status.Write) → (ends ≡ status.Write → A) → (A → ⊥) → ends ≡ status.Limit
-not_fault ends (inl e) h n = e
-not_fault ends (inr e) h n = absurd (n (h e))
+refuses : (b : Bool) → IsTrue (is_refused (status_with b))
+refuses true = refl
+refuses false = refl
 
-pub completes_over : {A : Type 0} (contents : Option (List ℕ → List ℕ)) (names : List (List ℕ)) (limit : ℕ) (ends : Status) → IsTextOver contents names limit → (ends ≡ status.Limit) ⊎ (ends ≡ status.Write) → (ends ≡ status.Write → status.Limit ≢ status.Write → A) → (A → ⊥) → Judges contents names limit ends
-completes_over contents names limit ends over e cause quiet = record {
-  program = λ held s told fits p. absurd (let o = subst (λ c. IsTextOver c names limit) told over in omega (arith, o, fits));
-  none = λ held told fits p. absurd (let o = subst (λ c. IsTextOver c names limit) told over in omega (arith, o, fits));
-  over = λ held told o. inl (not_fault ends e (λ q. cause q (λ z. absurd cc)) quiet);
-}
+with_is : (r : Refusal) → refusal_status r ≡ status_with (is_limit r)
+with_is TooLong = refl
+with_is (Bytes p f) = refl
+with_is (Syntax p) = refl
+with_is Nesting = refl
+with_is (Names f) = refl
+with_is (Types ds f) = refl
+with_is (Later p w) = refl
+with_is (Implementations n) = refl
 
-pub wrote_some : (budget limit : ℕ) (contents : Option (List ℕ → List ℕ)) (names : List (List ℕ)) (bytes : List ℕ) (before now : Option (List ℕ)) → IsRead contents names limit bytes → ReportedSome budget bytes before now → WroteSome budget limit contents names before now
-wrote_some budget limit contents names bytes before now r (inl e) = inl e
-wrote_some budget limit contents names bytes before now r (inr f) =
+pub status_refuses : (r : Refusal) → IsTrue (is_refused (refusal_status r))
+status_refuses r = subst (λ s. IsTrue (is_refused s)) (sym (with_is r)) (refuses (is_limit r))
+
+-- the name of a fault of names says nothing of the status
+nameless : (r : Refusal) → refusal_status (without_name r) ≡ refusal_status r
+nameless TooLong = refl
+nameless (Bytes p f) = refl
+nameless (Syntax p) = refl
+nameless Nesting = refl
+nameless (Names f) = refl
+nameless (Types ds f) = refl
+nameless (Later p w) = refl
+nameless (Implementations n) = refl
+
+-- what is known of texts
+pub record Known : Type 0 where
+  pub both : (bytes : List ℕ) (p : Program) (r : Refusal) → IsProgramOf bytes p → IsRefusedBy bytes r → ⊥
+  pub refusal : (bytes : List ℕ) (r s : Refusal) → IsRefusedBy bytes r → IsRefusedBy bytes s → without_name r ≡ without_name s
+
+one_status : Known → (bytes : List ℕ) (r s : Refusal) → IsRefusedBy bytes r → IsRefusedBy bytes s → refusal_status r ≡ refusal_status s
+one_status k bytes r s a b = sym (nameless r) ∙ ap refusal_status (k.refusal bytes r s a b) ∙ nameless s
+
+-- a text that is longer than n, where it is told; any one where it isn't
+pub long_text : (contents : Option (List ℕ → List ℕ)) (names : List (List ℕ)) (n : ℕ) → IsTextOver contents names n → (bytes : List ℕ) × (IsTextOf contents names bytes × (n < length bytes))
+long_text None names n h =
+    let byte : ℕ = 0 in
+    let e = length-replicate (suc n) byte in
+    (replicate (suc n) byte, (tt, omega (arith, e)))
+long_text (Some held) names n h = (joined_text held names, (refl, h))
+
+pub wrote_some : (budget : ℕ) (contents : Option (List ℕ → List ℕ)) (names : List (List ℕ)) (bytes : List ℕ) (before now : Option (List ℕ)) → IsTextOf contents names bytes → ReportedSome budget bytes before now → WroteSome budget contents names before now
+wrote_some budget contents names bytes before now r (inl e) = inl e
+wrote_some budget contents names bytes before now r (inr f) =
     inr (record { ends = f.ends; text = f.text; may = record { bytes = bytes; read = r; report = f.report }; count = f.count; written = f.written })
 
 held_is : (contents : Option (List ℕ → List ℕ)) (held : List ℕ → List ℕ) (names : List (List ℕ)) (bytes : List ℕ) → contents ≡ Some held → IsTextOf contents names bytes → bytes ≡ joined_text held names
 held_is contents held names bytes told r = subst (λ c. IsTextOf c names bytes) told r
 
-module _ {A B : Type 0} (budget limit : ℕ) (contents : Option (List ℕ → List ℕ)) (names : List (List ℕ)) (bytes : List ℕ) (before now : Option (List ℕ)) where
-  only_none : (ends : Status) → (IsTrue (is_report ends) → Reported budget bytes ends before now) → (ends ≡ status.Write → A ⊎ B) → (A → ⊥) → (B → ⊥) → (ends ≢ status.Usage) × (ends ≢ status.Read) × (ends ≢ status.Limit) → ((s : Source) → IsProgramOf bytes s → ⊥) → (ends ≡ status.Text) ⊎ (ends ≡ status.Memory)
-  only_none status.Verified r w a b o n = let q = r refl in absurd (n q.report.source q.report.spelled)
-  only_none status.Refuted r w a b o n = let q = r refl in absurd (n q.report.source q.report.spelled)
-  only_none status.Unknown r w a b o n = let q = r refl in absurd (n q.report.source q.report.spelled)
-  only_none status.Text r w a b o n = inl refl
-  only_none status.Usage r w a b o n = absurd (o.0 refl)
-  only_none status.Read r w a b o n = absurd (o.1 refl)
-  only_none status.Write r w a b o n = absurd (elim (w refl) [ inl x ↦ a x | inr y ↦ b y ])
-  only_none status.Memory r w a b o n = inr refl
-  only_none status.Limit r w a b o n = absurd (o.2 refl)
+-- what an answer says of its text, where no fault was counted: it has a program, it is refused, or memory ran out
+pub data Said (bytes : List ℕ) (ends : Status) : Type 0 where
+  Spelled : (p : Program) → IsProgramOf bytes p → IsTrue (is_report ends) → Said bytes ends
+  Denied : (r : Refusal) → IsRefusedBy bytes r → ends ≡ refusal_status r → Said bytes ends
+  Short : ends ≡ status.Memory → Said bytes ends
 
-  only_program : (ends : Status) → ((s : Source) → IsProgramOf bytes s → ⊥) ⊎ (IsTrue (is_report ends) ⊎ ((ends ≡ status.Write) ⊎ (ends ≡ status.Memory))) → (ends ≡ status.Write → A ⊎ B) → (A → ⊥) → (B → ⊥) → (s : Source) → IsProgramOf bytes s → IsTrue (is_report ends) ⊎ (ends ≡ status.Memory)
-  only_program ends (inl n) w a b s p = absurd (n s p)
-  only_program ends (inr (inl r)) w a b s p = inl r
-  only_program ends (inr (inr (inl e))) w a b s p = absurd (elim (w e) [ inl x ↦ a x | inr y ↦ b y ])
-  only_program ends (inr (inr (inr m))) w a b s p = inr m
+said_program : Known → (bytes : List ℕ) (ends : Status) → Said bytes ends → (p : Program) → IsProgramOf bytes p → IsTrue (is_report ends) ⊎ (ends ≡ status.Memory)
+said_program k bytes ends (Spelled q s h) p t = inl h
+said_program k bytes ends (Denied r d e) p t = absurd (k.both bytes p r t d)
+said_program k bytes ends (Short e) p t = inr e
 
-  pub completes_ok : (ends : Status) → IsRead contents names limit bytes → (IsTrue (is_report ends) → Reported budget bytes ends before now) → ((s : Source) → IsProgramOf bytes s → ⊥) ⊎ (IsTrue (is_report ends) ⊎ ((ends ≡ status.Write) ⊎ (ends ≡ status.Memory))) → (ends ≡ status.Write → A ⊎ B) → (A → ⊥) → (B → ⊥) → (ends ≢ status.Usage) × (ends ≢ status.Read) × (ends ≢ status.Limit) → Judges contents names limit ends
-  completes_ok ends r report program w a b o = record {
-    program = λ held s told fits p. only_program ends program w a b s (subst (λ bs. IsProgramOf bs s) (sym (held_is contents held names bytes told r.read)) p);
-    none = λ held told fits n. only_none ends report w a b o (λ s p. n s (subst (λ bs. IsProgramOf bs s) (held_is contents held names bytes told r.read) p));
-    over = λ held told l. absurd (let e = ap length (held_is contents held names bytes told r.read) in omega (arith, l, e, r.fits));
-  }
+said_refused : Known → (bytes : List ℕ) (ends : Status) → Said bytes ends → (r : Refusal) → IsRefusedBy bytes r → (ends ≡ refusal_status r) ⊎ (ends ≡ status.Memory)
+said_refused k bytes ends (Spelled q s h) r t = absurd (k.both bytes q r s t)
+said_refused k bytes ends (Denied d a e) r t = inl (e ∙ one_status k bytes d r a t)
+said_refused k bytes ends (Short e) r t = inr e
+
+said_none : (bytes : List ℕ) (ends : Status) → Said bytes ends → ((p : Program) → IsProgramOf bytes p → ⊥) → IsTrue (is_refused ends) ⊎ (ends ≡ status.Memory)
+said_none bytes ends (Spelled q s h) n = absurd (n q s)
+said_none bytes ends (Denied r d e) n = inl (subst (λ s. IsTrue (is_refused s)) (sym e) (status_refuses r))
+said_none bytes ends (Short e) n = inr e
+
+pub judges : Known → (contents : Option (List ℕ → List ℕ)) (names : List (List ℕ)) (bytes : List ℕ) (ends : Status) → IsTextOf contents names bytes → Said bytes ends → Judges contents names ends
+judges k contents names bytes ends read s = record {
+  program = λ held p told t. said_program k bytes ends s p (subst (λ bs. IsProgramOf bs p) (sym (held_is contents held names bytes told read)) t);
+  refused = λ held r told t. said_refused k bytes ends s r (subst (λ bs. IsRefusedBy bs r) (sym (held_is contents held names bytes told read)) t);
+  none = λ held told n. said_none bytes ends s (λ p t. n p (subst (λ bs. IsProgramOf bs p) (held_is contents held names bytes told read) t));
+}
+
+module _ {A B : Type 0} (budget : ℕ) (bytes : List ℕ) (before now lines line : Option (List ℕ)) where
+  -- what the answer over a text within the limit says of it
+  pub said : (ends : Status) → (IsTrue (is_report ends) → Reported budget bytes ends before now) → (IsTrue (is_refused ends) → RefusedFor bytes ends lines line) → (ends ≡ status.Write → A ⊎ B) → (A → ⊥) → (B → ⊥) → (ends ≢ status.Usage) × (ends ≢ status.Read) → Said bytes ends
+  said status.Verified r f w a b o = let q = r refl in Spelled q.report.program q.report.spelled refl
+  said status.Refuted r f w a b o = let q = r refl in Spelled q.report.program q.report.spelled refl
+  said status.Unknown r f w a b o = let q = r refl in Spelled q.report.program q.report.spelled refl
+  said status.Text r f w a b o = let q = f refl in Denied q.reason q.refused q.gives
+  said status.Limit r f w a b o = let q = f refl in Denied q.reason q.refused q.gives
+  said status.Usage r f w a b o = absurd (o.0 refl)
+  said status.Read r f w a b o = absurd (o.1 refl)
+  said status.Write r f w a b o = absurd (elim (w refl) [ inl x ↦ a x | inr y ↦ b y ])
+  said status.Memory r f w a b o = Short refl
+
+-- the same of a text that is refused without being read
+pub said_refusal : {A : Type 0} (bytes : List ℕ) (ends : Status) (lines line : Option (List ℕ)) → (IsTrue (is_refused ends) → RefusedFor bytes ends lines line) → IsTrue (is_refused ends) ⊎ ((ends ≡ status.Write) ⊎ (ends ≡ status.Memory)) → (ends ≡ status.Write → A) → (A → ⊥) → Said bytes ends
+said_refusal bytes ends lines line f (inl h) w a = let q = f h in Denied q.reason q.refused q.gives
+said_refusal bytes ends lines line f (inr (inl e)) w a = absurd (a (w e))
+said_refusal bytes ends lines line f (inr (inr e)) w a = Short e

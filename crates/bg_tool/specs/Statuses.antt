@@ -1,7 +1,8 @@
 -- What the statuses stand for.
-use Rattle.std.specs.Prelude.{ℕ, Bool, true, false}
-use Rattle.bg_report.specs.declared.word.Word.{Word}
-use Rattle.bg_report.specs.declared.word.Word.TheVariants as word
+use Rattle.std.specs.Prelude.{ℕ, Bool, true, false, if◌then◌else◌}
+use Rattle.bg_front.specs.Refusals.{Refusal, is_limit}
+use Rattle.bg_told.specs.declared.word.Word.{Word}
+use Rattle.bg_told.specs.declared.word.Word.TheVariants as word
 use Rattle.bg_tool.specs.declared.status.Status.{Status}
 use Rattle.bg_tool.specs.declared.status.Status.TheVariants as status
 
@@ -23,6 +24,10 @@ status_for word.Verified = status.Verified
 status_for word.Refuted = status.Refuted
 status_for word.Unknown = status.Unknown
 
+-- the status that a refusal of a text gives
+abbrev pub refusal_status : Refusal → Status
+refusal_status r = if is_limit r then status.Limit else status.Text
+
 -- whether the status says that a report was written
 abbrev pub is_report : Status → Bool
 is_report status.Verified = true
@@ -30,12 +35,11 @@ is_report status.Refuted = true
 is_report status.Unknown = true
 is_report _ = false
 
--- whether the status says that a line was written to the error sink which names no file
-abbrev pub is_line : Status → Bool
-is_line status.Text = true
-is_line status.Usage = true
-is_line status.Limit = true
-is_line _ = false
+-- whether the status says that the text is refused
+abbrev pub is_refused : Status → Bool
+is_refused status.Text = true
+is_refused status.Limit = true
+is_refused _ = false
 
 -- whether the status says that a line was written to the error sink
 abbrev pub is_refusal : Status → Bool

@@ -1,25 +1,24 @@
 //! The top call.
-ghost use Rattle.std.specs.Prelude.{◌≡◌, ◌≤◌, ◌⊎◌, ◌<◌, ◌^◌, ℕ, List, [], ◌∷◌, ◌++◌, IsTrue, IsFalse, IfOk, length, map, string_bytes, codes, OnOk, OnErr, ◌≢◌};
+ghost use Rattle.std.specs.Prelude.{◌≡◌, ◌⊎◌, ◌<◌, ◌≤◌, ℕ, List, ◌++◌, IsTrue, IfOk, map, string_bytes, codes, length, ◌≢◌};
 ghost use Rattle.bg_io.specs.Causes.{Rose, joined, IsTextOf, IsTextOver};
 ghost use Rattle.bg_cli.specs.Cli.{IsTaken, texts_of, files_in, nodes_in};
-ghost use Rattle.bg_ast.specs.Source.{Source};
-ghost use Rattle.bg_ast.specs.View.{source_of};
-ghost use Rattle.bg_ast.specs.Typed.{IsTyped};
-ghost use Rattle.bg_read.specs.Program.{IsProgramOf};
-ghost use Rattle.bg_tool.specs.Statuses.{status_for, is_report, is_refusal, is_line};
-ghost use Rattle.bg_tool.specs.Answers.{Reported, ReportedSome, IsReport, IsRead, MayWrite, Wrote, WroteSome, IsNoProgram, line_for, NamesFile, Judges, Completes};
+ghost use Rattle.bg_ast.specs.Views.{program_of};
+ghost use Rattle.bg_front.specs.Programs.{IsProgramOf, IsRefusedBy};
+ghost use Rattle.bg_front.specs.Refusals.{refusal_of};
+ghost use Rattle.bg_front.specs.Lines.{line_of};
+ghost use Rattle.bg_tool.specs.Statuses.{status_for, refusal_status, is_report, is_refused, is_refusal};
+ghost use Rattle.bg_tool.specs.Answers.{Reported, ReportedSome, RefusedFor, IsReport, Wrote, WroteSome, Refuses, usage_line, NamesFile, Judges, Completes};
 
 use crate::status::Status;
-use bg_ast::Program;
-use bg_check::{check_program, proved_is_safe};
+use bg_ast::resolved::Resolved;
 use bg_cli::{LineError, read_line};
+use bg_fits::is_judged;
+use bg_front::laws::a_text_has_one_program_or_one_refusal;
+use bg_front::{MOST_BYTES, ReadError as TextError, Refusal, read_program};
 use bg_io::{Files, ReadError, Sink, read_all, write_all};
-use bg_read::{ReadError as TextError, read_program};
-use bg_report::{Word, result_text, word_of};
+use bg_judge::{check_program, proved_is_safe};
+use bg_told::{Word, result_text, verified_is_all_proved, word_of};
 use std::alloc::{AllocError, Global};
-
-/// The most bytes that a text may have.
-pub const LIMIT: u64 = 4_194_304;
 
 /// The status that verdicts give.
 fn status_of(word: Word) -> Status
@@ -33,14 +32,18 @@ fn status_of(word: Word) -> Status
     }
 }
 
-/// The report of a typed program, and the status that its verdicts give.
-fn report_of(alloc: Global, program: &Program, nodes: u32) -> Result<(Status, Vec<u8>), AllocError>
-    requires typed { IsTyped (source_of program.now) }
-    ensures report { IfOk result (λ r. (bytes : List ℕ) → IsProgramOf bytes (source_of program.now) → IsReport nodes bytes r.0 r.1.items) }
+/// The report of a program, and the status that its verdicts give. A program whose forms aren't judged yet has none: its text is
+/// refused before, and here it is want of memory.
+fn report_of(alloc: Global, program: &Resolved, nodes: u32) -> Result<(Status, Vec<u8>), AllocError>
+    ensures report { IfOk result (λ r. (bytes : List ℕ) → IsProgramOf bytes (program_of program.now) → IsReport nodes bytes r.0 r.1.items) }
     ensures ends { IfOk result (λ r. IsTrue (is_report r.0)) }
 {
+    if !is_judged(alloc, program)? {
+        return Err(AllocError);
+    }
     let outcome = check_program(alloc, program, nodes)?;
     proved_is_safe();
+    verified_is_all_proved();
     let text = result_text(alloc, program, &outcome)?;
     Ok((status_of(word_of(&outcome)), text))
 }
@@ -77,6 +80,40 @@ fn refuse_file<E: Sink>(err: &mut E, file: &str) -> Status
     }
 }
 
+/// The status of a refusal: whether it names a limit.
+fn status_of_refusal(refusal: &Refusal<'_>) -> Status
+    ensures { result ≡ refusal_status (refusal_of refusal.now) }
+{
+    if refusal.is_limit() {
+        Status::Limit
+    } else {
+        Status::Text
+    }
+}
+
+/// Writes the line of a refusal.
+fn refuse_text<E: Sink>(alloc: Global, refusal: &Refusal<'_>, err: &mut E) -> Status
+    ensures wrote { result ≡ refusal_status (refusal_of refusal.now) → E.written err.new ≡ joined (E.written err.old) (line_of (refusal_of refusal.now)) }
+    ensures ends { (result ≡ refusal_status (refusal_of refusal.now)) ⊎ ((result ≡ Status.Write) ⊎ (result ≡ Status.Memory)) }
+    ensures quiet { result ≡ Status.Memory → E.written err.new ≡ E.written err.old }
+    ensures cause { result ≡ Status.Write → Rose (E.faults err.old) (E.faults err.new) }
+{
+    let Ok(line) = refusal.line(alloc) else {
+        return Status::Memory;
+    };
+    refuse(err, &line, status_of_refusal(refusal))
+}
+
+/// Refuses a text.
+fn refuse_bytes<E: Sink>(alloc: Global, refusal: &Refusal<'_>, err: &mut E) -> Status
+    ensures refused { IsTrue (is_refused result) → (bytes : List ℕ) → IsRefusedBy bytes (refusal_of refusal.now) → RefusedFor bytes result (E.written err.old) (E.written err.new) }
+    ensures ends { IsTrue (is_refused result) ⊎ ((result ≡ Status.Write) ⊎ (result ≡ Status.Memory)) }
+    ensures quiet { result ≡ Status.Memory → E.written err.new ≡ E.written err.old }
+    ensures cause { result ≡ Status.Write → Rose (E.faults err.old) (E.faults err.new) }
+{
+    refuse_text(alloc, refusal, err)
+}
+
 /// Judges the program of a text, and writes its report.
 fn verify<S: Sink, E: Sink>(
     alloc: Global,
@@ -85,25 +122,20 @@ fn verify<S: Sink, E: Sink>(
     out: &mut S,
     err: &mut E,
 ) -> Status
-    requires fits { length bytes.now ≤ LIMIT }
     ensures report { IsTrue (is_report result) → Reported nodes bytes.now result (S.written out.old) (S.written out.new) }
     ensures quiet { (IsTrue (is_report result) ⊎ (result ≡ Status.Memory)) → E.written err.new ≡ E.written err.old }
-    ensures none { result ≡ Status.Text → (s : Source) → IsProgramOf bytes.now s → ⊥ }
-    ensures line { result ≡ Status.Text → E.written err.new ≡ joined (E.written err.old) (codes "error: 1:1 unsupported text\n") }
-    ensures still { result ≡ Status.Text → S.written out.new ≡ S.written out.old }
+    ensures refused { IsTrue (is_refused result) → RefusedFor bytes.now result (E.written err.old) (E.written err.new) }
+    ensures still { IsTrue (is_refused result) → S.written out.new ≡ S.written out.old }
     ensures part { ((result ≡ Status.Write) ⊎ (result ≡ Status.Memory)) → ReportedSome nodes bytes.now (S.written out.old) (S.written out.new) }
     ensures cause { result ≡ Status.Write → Rose (S.faults out.old) (S.faults out.new) ⊎ Rose (E.faults err.old) (E.faults err.new) }
-    ensures program { ((s : Source) → IsProgramOf bytes.now s → ⊥) ⊎ (IsTrue (is_report result) ⊎ ((result ≡ Status.Write) ⊎ (result ≡ Status.Memory))) }
-    ensures others { (result ≢ Status.Usage) × (result ≢ Status.Read) × (result ≢ Status.Limit) }
+    ensures others { (result ≢ Status.Usage) × (result ≢ Status.Read) }
 {
-    let program = match read_program(alloc, bytes) {
-        Ok(program) => program,
+    let typed = match read_program(alloc, bytes) {
+        Ok(typed) => typed,
         Err(TextError::Memory) => return Status::Memory,
-        Err(TextError::Unsupported) => {
-            return refuse(err, b"error: 1:1 unsupported text\n", Status::Text);
-        }
+        Err(TextError::Refused(refusal)) => return refuse_bytes(alloc, &refusal, err),
     };
-    let Ok((ends, text)) = report_of(alloc, &program, nodes) else {
+    let Ok((ends, text)) = report_of(alloc, &typed.program, nodes) else {
         return Status::Memory;
     };
     match write_all(out, &text) {
@@ -121,24 +153,21 @@ fn judge<F: Files, S: Sink, E: Sink>(
     out: &mut S,
     err: &mut E,
 ) -> Status
-    ensures report { IsTrue (is_report result) → Wrote nodes LIMIT (F.contents files.old) (map string_bytes names.now) result (S.written out.old) (S.written out.new) }
+    ensures report { IsTrue (is_report result) → Wrote nodes (F.contents files.old) (map string_bytes names.now) result (S.written out.old) (S.written out.new) }
     ensures quiet { (IsTrue (is_report result) ⊎ (result ≡ Status.Memory)) → E.written err.new ≡ E.written err.old }
-    ensures text { result ≡ Status.Text → IsNoProgram (F.contents files.old) (map string_bytes names.now) LIMIT }
-    ensures limit { result ≡ Status.Limit → IsTextOver (F.contents files.old) (map string_bytes names.now) LIMIT }
+    ensures refused { IsTrue (is_refused result) → Refuses (F.contents files.old) (map string_bytes names.now) result (E.written err.old) (E.written err.new) }
     ensures read { result ≡ Status.Read → Rose (F.faults files.old) (F.faults files.new) }
     ensures write { result ≡ Status.Write → Rose (S.faults out.old) (S.faults out.new) ⊎ Rose (E.faults err.old) (E.faults err.new) }
-    ensures line { IsTrue (is_line result) → E.written err.new ≡ joined (E.written err.old) (line_for result) }
     ensures file { result ≡ Status.Read → NamesFile (map string_bytes names.now) (F.starts files.old) (F.starts files.new) (E.written err.old) (E.written err.new) }
     ensures still { IsTrue (is_refusal result) → S.written out.new ≡ S.written out.old }
-    ensures prefix { ((result ≡ Status.Write) ⊎ (result ≡ Status.Memory)) → WroteSome nodes LIMIT (F.contents files.old) (map string_bytes names.now) (S.written out.old) (S.written out.new) }
-    ensures complete { (Rose (F.faults files.old) (F.faults files.new) → ⊥) → (Rose (S.faults out.old) (S.faults out.new) → ⊥) → (Rose (E.faults err.old) (E.faults err.new) → ⊥) → Judges (F.contents files.old) (map string_bytes names.now) LIMIT result }
+    ensures prefix { ((result ≡ Status.Write) ⊎ (result ≡ Status.Memory)) → WroteSome nodes (F.contents files.old) (map string_bytes names.now) (S.written out.old) (S.written out.new) }
+    ensures complete { (Rose (F.faults files.old) (F.faults files.new) → ⊥) → (Rose (S.faults out.old) (S.faults out.new) → ⊥) → (Rose (E.faults err.old) (E.faults err.new) → ⊥) → Judges (F.contents files.old) (map string_bytes names.now) result }
     ensures words { result ≢ Status.Usage }
 {
-    match read_all(alloc, files, names, LIMIT) {
+    a_text_has_one_program_or_one_refusal();
+    match read_all(alloc, files, names, MOST_BYTES) {
         Err(ReadError::ReadFault { file }) => refuse_file(err, names[file].as_str()),
-        Err(ReadError::TooLong { .. }) => {
-            refuse(err, b"error: limit bytes 4194305\n", Status::Limit)
-        }
+        Err(ReadError::TooLong { .. }) => refuse_bytes(alloc, &Refusal::TooLong, err),
         Err(ReadError::Memory) => Status::Memory,
         Ok(bytes) => verify(alloc, &bytes, nodes, out, err),
     }
@@ -164,19 +193,18 @@ pub fn run<R: AllocGlobal, F: Files, S: Sink, E: Sink>(
     out: &mut S,
     err: &mut E,
 ) -> Status
-    ensures taken { (IsTrue (is_report result) ⊎ ((result ≡ Status.Text) ⊎ ((result ≡ Status.Limit) ⊎ (result ≡ Status.Read)))) → IsTaken (texts_of words.now) }
-    ensures report { IsTrue (is_report result) → Wrote (nodes_in (texts_of words.now)) LIMIT (F.contents files.old) (files_in (texts_of words.now)) result (S.written out.old) (S.written out.new) }
+    ensures taken { (IsTrue (is_report result) ⊎ (IsTrue (is_refused result) ⊎ (result ≡ Status.Read))) → IsTaken (texts_of words.now) }
+    ensures report { IsTrue (is_report result) → Wrote (nodes_in (texts_of words.now)) (F.contents files.old) (files_in (texts_of words.now)) result (S.written out.old) (S.written out.new) }
     ensures quiet { (IsTrue (is_report result) ⊎ (result ≡ Status.Memory)) → E.written err.new ≡ E.written err.old }
-    ensures text { result ≡ Status.Text → IsNoProgram (F.contents files.old) (files_in (texts_of words.now)) LIMIT }
+    ensures text { IsTrue (is_refused result) → Refuses (F.contents files.old) (files_in (texts_of words.now)) result (E.written err.old) (E.written err.new) }
     ensures usage { result ≡ Status.Usage → IsTaken (texts_of words.now) → ⊥ }
-    ensures limit { result ≡ Status.Limit → IsTextOver (F.contents files.old) (files_in (texts_of words.now)) LIMIT }
     ensures read { result ≡ Status.Read → Rose (F.faults files.old) (F.faults files.new) }
     ensures write { result ≡ Status.Write → Rose (S.faults out.old) (S.faults out.new) ⊎ Rose (E.faults err.old) (E.faults err.new) }
-    ensures line { IsTrue (is_line result) → E.written err.new ≡ joined (E.written err.old) (line_for result) }
+    ensures line { result ≡ Status.Usage → E.written err.new ≡ joined (E.written err.old) usage_line }
     ensures file { result ≡ Status.Read → NamesFile (files_in (texts_of words.now)) (F.starts files.old) (F.starts files.new) (E.written err.old) (E.written err.new) }
     ensures still { IsTrue (is_refusal result) → S.written out.new ≡ S.written out.old }
-    ensures prefix { ((result ≡ Status.Write) ⊎ (result ≡ Status.Memory)) → WroteSome (nodes_in (texts_of words.now)) LIMIT (F.contents files.old) (files_in (texts_of words.now)) (S.written out.old) (S.written out.new) }
-    ensures complete { (Rose (F.faults files.old) (F.faults files.new) → ⊥) → (Rose (S.faults out.old) (S.faults out.new) → ⊥) → (Rose (E.faults err.old) (E.faults err.new) → ⊥) → Completes (F.contents files.old) (texts_of words.now) LIMIT result }
+    ensures prefix { ((result ≡ Status.Write) ⊎ (result ≡ Status.Memory)) → WroteSome (nodes_in (texts_of words.now)) (F.contents files.old) (files_in (texts_of words.now)) (S.written out.old) (S.written out.new) }
+    ensures complete { (Rose (F.faults files.old) (F.faults files.new) → ⊥) → (Rose (S.faults out.old) (S.faults out.new) → ⊥) → (Rose (E.faults err.old) (E.faults err.new) → ⊥) → Completes (F.contents files.old) (texts_of words.now) result }
 {
     let line = match read_line(rt.alloc(), words) {
         Ok(line) => line,

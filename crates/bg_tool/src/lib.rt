@@ -4,7 +4,7 @@
 mod driver;
 mod status;
 
-pub use driver::{LIMIT, run};
+pub use driver::run;
 pub use status::Status;
 
 #[cfg(test)]

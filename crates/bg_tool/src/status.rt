@@ -11,7 +11,7 @@ pub enum Status {
     Refuted,
     /// No place was refuted, and one ended unknown.
     Unknown,
-    /// No program is spelled by the text.
+    /// The text breaks a rule, or has what isn't judged yet.
     Text,
     /// The words aren't taken.
     Usage,
@@ -21,7 +21,7 @@ pub enum Status {
     Write,
     /// There was no memory.
     Memory,
-    /// The text is too long.
+    /// The text goes past a limit.
     Limit,
 }
 

@@ -1,5 +1,8 @@
 use super::*;
+use bg_fits::is_judged;
+use bg_front::read_program;
 use bg_io::{MemFiles, MemSink, StoredFile};
+use bg_judge::{Ending, Node, accepts, entry_width, replay};
 use std::alloc::{AllocError, Global};
 use std::test::Fail;
 
@@ -7,6 +10,14 @@ const COPY: &str = "procedure P(a: bool) { var b: bool; b := a; assert b == a; }
 
 const COPY_REPORT: &str =
     "axioms: consistent\nretained set: greatest\nimplementation P 1:1 verified\nsummary: 0 retained, 0 dropped; 1 verified, 0 refuted, 0 unknown\n";
+
+const EMPTY_REPORT: &str =
+    "axioms: consistent\nretained set: greatest\nsummary: 0 retained, 0 dropped; 0 verified, 0 refuted, 0 unknown\n";
+
+const FOUR_CLAUSES: &str =
+    "procedure P(a: bool, b: bool) {\n  assume (a || b) && (a || !b) && (!a || b) && (!a || !b);\n  assert false; }";
+
+const BAD: &str = "procedure P(a: bool, b: bool, c: bool) { assert a && b || c; }";
 
 const USAGE: &str = "usage: bg verify|annotate|certify|check|generate|bench ..\n";
 
@@ -49,18 +60,30 @@ fn words_of(alloc: Global, words: &[&str]) -> Result<Vec<String>, AllocError> {
     Ok(all)
 }
 
+// `assert true`, with the formula in so many brackets.
+fn nested(rt: &HostRuntime, brackets: usize) -> Result<String, AllocError> {
+    let mut text = String::from_str(rt.alloc(), "procedure P() { assert ")?;
+    for _ in 0..brackets {
+        text.push_str("(")?;
+    }
+    text.push_str("true")?;
+    for _ in 0..brackets {
+        text.push_str(")")?;
+    }
+    text.push_str("; }")?;
+    Ok(text)
+}
+
 #[test]
 fn each_text_gets_its_report_or_its_line(rt: HostRuntime) -> Result<(), Fail> {
+    let deep = nested(&rt, 199)?;
+    let deeper = nested(&rt, 200)?;
     let verify_a: &[&str] = &["bg", "verify", "a.bpl"];
-    let table: [(&[&str], &str, Status, &str, &str); 13] = [
+    let one_node: &[&str] = &["bg", "verify", "--nodes", "1", "a.bpl"];
+    let table: [(&[&str], &str, Status, &str, &str); 24] = [
         (verify_a, COPY, Status::Verified, COPY_REPORT, ""),
-        (
-            verify_a,
-            "",
-            Status::Verified,
-            "axioms: consistent\nretained set: greatest\nsummary: 0 retained, 0 dropped; 0 verified, 0 refuted, 0 unknown\n",
-            "",
-        ),
+        (verify_a, "", Status::Verified, EMPTY_REPORT, ""),
+        (verify_a, "// forall", Status::Verified, EMPTY_REPORT, ""),
         (
             verify_a,
             "procedure P() { assert false; }",
@@ -70,41 +93,93 @@ fn each_text_gets_its_report_or_its_line(rt: HostRuntime) -> Result<(), Fail> {
         ),
         (
             verify_a,
-            "procedure P(a: bool) {\n assert a; }",
-            Status::Refuted,
-            "axioms: consistent\nretained set: greatest\nimplementation P 1:1 refuted\n  refuted assert 2:2\n    var a = false\nsummary: 0 retained, 0 dropped; 0 verified, 1 refuted, 0 unknown\n",
+            "procedure P() { assume false; assert false; }",
+            Status::Verified,
+            COPY_REPORT,
             "",
         ),
         (
             verify_a,
-            "procedure P() { ",
+            "procedure P() returns (r: bool) { havoc r; assert r; }",
+            Status::Refuted,
+            "axioms: consistent\nretained set: greatest\nimplementation P 1:1 refuted\n  refuted assert 1:44\n    var r = false\n    choice false\nsummary: 0 retained, 0 dropped; 0 verified, 1 refuted, 0 unknown\n",
+            "",
+        ),
+        (verify_a, FOUR_CLAUSES, Status::Verified, COPY_REPORT, ""),
+        (
+            one_node,
+            FOUR_CLAUSES,
+            Status::Unknown,
+            "axioms: consistent\nretained set: greatest\nimplementation P 1:1 unknown\n  unknown assert 3:3 nodes\n    kept 1\nsummary: 0 retained, 0 dropped; 0 verified, 0 refuted, 1 unknown\n",
+            "",
+        ),
+        (verify_a, deep.as_str(), Status::Verified, COPY_REPORT, ""),
+        (
+            verify_a,
+            deeper.as_str(),
+            Status::Limit,
+            "",
+            "error: limit nesting 201\n",
+        ),
+        (verify_a, BAD, Status::Text, "", "error: 1:56 syntax\n"),
+        (
+            verify_a,
+            "procedure P() { assert (forall x: int :: x == x); }",
             Status::Text,
             "",
-            "error: 1:1 unsupported text\n",
+            "error: 1:25 unsupported forall\n",
+        ),
+        (
+            verify_a,
+            "procedure P() { x := true; }",
+            Status::Text,
+            "",
+            "error: 1:17 unknown x\n",
+        ),
+        (
+            verify_a,
+            "procedure P() { assert 1; }",
+            Status::Text,
+            "",
+            "error: 1:24 type bool int\n",
+        ),
+        (
+            verify_a,
+            "procedure P() { assert 1 == 1; }",
+            Status::Text,
+            "",
+            "error: 1:24 unsupported number\n",
         ),
         (&["bg", "verify"], COPY, Status::Usage, "", USAGE),
+        (
+            &["bg", "verify", "--workers", "0", "a.bpl"],
+            COPY,
+            Status::Usage,
+            "",
+            USAGE,
+        ),
         (&["bg", "verify", "-x"], COPY, Status::Usage, "", USAGE),
         (&["bg", "check", "a.bpl"], COPY, Status::Usage, "", USAGE),
-        (
-            &["bg", "verify", "a.bpl", "a.bpl"],
-            " ",
-            Status::Verified,
-            "axioms: consistent\nretained set: greatest\nsummary: 0 retained, 0 dropped; 0 verified, 0 refuted, 0 unknown\n",
-            "",
-        ),
-        (
-            &["bg", "verify", "--nodes", "0", "a.bpl"],
-            "procedure P(a: bool) {\n assert a; }",
-            Status::Unknown,
-            "axioms: consistent\nretained set: greatest\nimplementation P 1:1 unknown\n  unknown assert 2:2 nodes\n    kept 0\nsummary: 0 retained, 0 dropped; 0 verified, 0 refuted, 1 unknown\n",
-            "",
-        ),
         (
             &["bg", "verify", "--nodes", "many", "a.bpl"],
             COPY,
             Status::Usage,
             "",
             USAGE,
+        ),
+        (
+            &["bg", "verify", "a.bpl", "a.bpl"],
+            " ",
+            Status::Verified,
+            EMPTY_REPORT,
+            "",
+        ),
+        (
+            &["bg", "verify", "a.bpl", "a.bpl"],
+            "procedure P();",
+            Status::Text,
+            "",
+            "error: 2:11 duplicate P\n",
         ),
         (
             &["bg", "verify", "a.bpl", "b.bpl"],
@@ -145,12 +220,64 @@ fn each_fault_has_its_status_and_leaves_a_front(rt: HostRuntime) -> Result<(), F
             Status::Write,
             "axioms: consistent\nretained set:",
         ),
-        ("x", [0, 0, 1], Status::Write, ""),
+        (BAD, [0, 0, 1], Status::Write, ""),
     ];
     for (text, fails, status, out) in table {
         let ended = verify(&rt, verify_a, text, fails, Some(16))?;
         assert_eq!(rt; ended.status, status, "{fails:?}");
         assert_eq!(rt; ended.out.as_slice(), out.as_bytes(), "{fails:?}");
+    }
+    Ok(())
+}
+
+#[test]
+fn a_certificate_is_accepted_and_half_of_one_is_not(rt: HostRuntime) -> Result<(), Fail> {
+    let alloc = rt.alloc();
+    let text = b"procedure P(a: bool, b: bool) { assert a == a; assert a == b; }";
+    let Ok(typed) = read_program(alloc, text) else {
+        panic!(rt; "the text spells a program");
+    };
+    let Some(first) = typed.program.implementations.first() else {
+        panic!(rt; "there is an implementation");
+    };
+    let table: [(usize, &[Node], bool); 5] = [
+        (0, &[Node::Closed], true),
+        (0, &[Node::Split(1), Node::Closed, Node::Closed], true),
+        (0, &[Node::Split(1), Node::Closed], false),
+        (1, &[Node::Closed], false),
+        (0, &[Node::Open], false),
+    ];
+    for (target, nodes, want) in table {
+        let got = accepts(alloc, &first.body, 2, target, nodes)?;
+        assert_eq!(rt; got, want, "{target} {nodes:?}");
+    }
+    Ok(())
+}
+
+#[test]
+fn a_counterexample_is_replayed(rt: HostRuntime) -> Result<(), Fail> {
+    let alloc = rt.alloc();
+    let text = b"procedure P(a: bool) { var b: bool; havoc b; assume b; assert true; assert a; }";
+    let Ok(typed) = read_program(alloc, text) else {
+        panic!(rt; "the text spells a program");
+    };
+    if !is_judged(alloc, &typed.program)? {
+        panic!(rt; "the program is judged");
+    }
+    if typed.program.implementations.is_empty() {
+        panic!(rt; "there is an implementation");
+    }
+    let width = entry_width(&typed.program, 0)?;
+    let table: [(bool, &[bool], Ending); 4] = [
+        (false, &[true], Ending::Failed(1)),
+        (true, &[true], Ending::Ended),
+        (true, &[false], Ending::Blocked),
+        (true, &[], Ending::BadChoice),
+    ];
+    for (value, choices, want) in table {
+        let entry = vec![in alloc; value; width]?;
+        let got = replay(alloc, &typed.program, 0, &entry, choices)?;
+        assert_eq!(rt; got, want, "{value} {choices:?}");
     }
     Ok(())
 }

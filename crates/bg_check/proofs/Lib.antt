@@ -1,9 +1,0 @@
-pub mod Trails
-pub mod Leads
-pub mod Machine
-pub mod Sound
-pub mod Typed
-pub mod Bridge
-pub mod Lengths
-pub mod Goods
-pub mod Safe

@@ -1,9 +1,0 @@
-pub mod Syms
-pub mod Sights
-pub mod Trees
-pub mod Trails
-pub mod Founds
-pub mod Runs
-pub mod Endings
-pub mod Goods
-pub mod Verdicts

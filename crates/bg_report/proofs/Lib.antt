@@ -1,5 +1,0 @@
-pub mod Texts
-pub mod Cuts
-pub mod Apart
-pub mod Decided
-pub mod Verified

@@ -1,5 +1,0 @@
-use Rattle.bg_report.proofs.Decided.{text_decides}
-use Rattle.bg_report.proofs.laws.equal_reports_say_equal_words.Goals as goal
-
-pub returns : goal.returns
-returns c = text_decides

@@ -1,5 +1,0 @@
-use Rattle.bg_report.proofs.Verified.{verified_exactly}
-use Rattle.bg_report.proofs.laws.verified_is_all_proved.Goals as goal
-
-pub returns : goal.returns
-returns c = verified_exactly

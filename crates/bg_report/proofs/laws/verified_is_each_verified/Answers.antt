@@ -1,5 +1,0 @@
-use Rattle.bg_report.proofs.Verified.{program_exactly}
-use Rattle.bg_report.proofs.laws.verified_is_each_verified.Goals as goal
-
-pub returns : goal.returns
-returns c = program_exactly

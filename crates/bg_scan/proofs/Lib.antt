@@ -1,3 +1,0 @@
-mod Steps
-mod Front
-pub mod Whole
