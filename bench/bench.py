@@ -1,5 +1,5 @@
 #!/usr/bin/env python3
-"""Times of programs of doubling size, as ratios: a body of assignments, and a list of procedures."""
+"""Times of programs of doubling size, as ratios: bodies of assignments and of checks, lists of procedures, and reading alone."""
 import argparse
 import os
 import subprocess
@@ -24,6 +24,41 @@ def checks(n):
     return "\n".join(lines + ["assert b == a;"] * n + ["}", ""])
 
 
+PART = """procedure P{0}(a: bool, b: bool, n: int) returns (r: bool)
+  requires a ==> b;
+  ensures r || !a;
+{{
+  var x: int, y: [int]bool;
+  x := x + 1 * 2 - 3;
+  y[x] := a && b && r;
+  while (x < n) invariant x <= n + 10; {{
+    x := x + 1;
+    if (y[x]) {{ r := true; }} else if (a) {{ call r := P0(a, b, x); }}
+  }}
+  assert r ==> a == b;
+}}
+"""
+
+
+def parts(size):
+    made, k = [], 0
+    while size > 0:
+        made.append(PART.format(k))
+        size -= len(made[-1])
+        k += 1
+    return "".join(made)
+
+
+def tokens(size):
+    """No program begins with the first token: the others are only taken apart."""
+    return "; " + parts(size)
+
+
+def tree(size):
+    """The last token is the first with which no program goes on."""
+    return parts(size) + ";"
+
+
 def measure(bg, text, folder):
     path = os.path.join(folder, "a.bpl")
     with open(path, "w") as file:
@@ -34,7 +69,7 @@ def measure(bg, text, folder):
         ran = subprocess.run([bg, "verify", path], capture_output=True)
         took = time.perf_counter() - start
         best = took if best is None else min(best, took)
-    return best, ran.returncode, ran.stdout.decode().splitlines()[-1]
+    return best, ran.returncode, (ran.stdout + ran.stderr).decode().splitlines()[-1]
 
 
 def main():
@@ -45,6 +80,9 @@ def main():
         ("assignments", body, [10_000, 20_000, 40_000]),
         ("checks", checks, [10_000, 20_000, 40_000]),
         ("procedures", procedures, [1_000, 2_000, 4_000]),
+        ("bytes into tokens", tokens, [1_000_000, 2_000_000, 4_000_000]),
+        ("bytes into a tree", tree, [1_000_000, 2_000_000, 4_000_000]),
+        ("bytes through types", parts, [1_000_000, 2_000_000, 4_000_000]),
     ]
     with tempfile.TemporaryDirectory() as folder:
         for what, make, sizes in rows:
@@ -52,7 +90,7 @@ def main():
             for n in sizes:
                 took, status, last = measure(bg, make(n), folder)
                 ratio = "" if before is None else f" ratio {took / before:.2f}"
-                print(f"{n:6} {what}: {took:.3f} s{ratio}; status {status}; {last}")
+                print(f"{n:7} {what}: {took:.3f} s{ratio}; status {status}; {last}")
                 before = took
 
 

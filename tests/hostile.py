@@ -2,6 +2,8 @@
 """Bad input through bg: the status, the report and the error line that the rules give, and no crash."""
 import argparse
 import os
+import re
+import resource
 import subprocess
 import sys
 import tempfile
@@ -9,8 +11,76 @@ import tempfile
 FRONT = b"axioms: consistent\nretained set: greatest\n"
 NONE = FRONT + b"summary: 0 retained, 0 dropped; 0 verified, 0 refuted, 0 unknown\n"
 ONE = b"summary: 0 retained, 0 dropped; 1 verified, 0 refuted, 0 unknown\n"
-TEXT = b"error: 1:1 unsupported text\n"
 USAGE = b"usage: bg verify|annotate|certify|check|generate|bench ..\n"
+NAMES = b"ABCDEFGHIJKLMNOPQRSTUVWXYZabcdefghijklmnopqrstuvwxyz'~#$^_.?`"
+SIGNS = b"()[]{},;:=<>!+-*"
+MOST_MEMORY = 1_000_000  # kilobytes
+LINE = re.compile(rb"error: [1-9][0-9]*:[1-9][0-9]* [^\n]+\n")
+
+# Each construct of the language, on about 60 lines.
+PROGRAM = b"""type Ref;
+type Field, Heap = [Ref,Field]int;
+const unique null: Ref;
+const {:existential true} keep, more: bool;
+function size(r: Ref): int;
+function {:inline} twice(x: int) returns (y: int) { 2 * x }
+axiom (size(null) == 0 && twice(2) >= 4) || !(true <==> false);
+var heap: Heap, count: int;
+procedure Swap(x: int, y: int) returns (a: int, b: int);
+  requires x <= y;
+  free requires x + y < 100;
+  ensures a == y && b == x;
+procedure Work(n: int, r: Ref, f: Field) returns (i: int)
+  requires n >= 0;
+  modifies heap, count;
+  ensures i >= n ==> count >= old(count);
+  free ensures i != -1;
+{
+  var m: [int]bool, k: int;
+  var z: bool;
+  // a comment
+  i := 0;
+  k, z := 1, m[0 := true][0];
+  havoc m, k;
+  assume {:note "text", i} k > 0;
+  while (i < n)
+    invariant keep ==> i <= n;
+    invariant more ==> 0 <= i;
+    free invariant k > 0;
+  {
+    i := i + 1;
+    heap[r, f] := i - 1;
+    if (*) {
+      call i, k := Swap(k, k);
+    } else if (z) {
+      goto done;
+    } else {
+      while (true) {
+        if (i == 3) {
+          break;
+        }
+        m[i] := !m[i];
+      }
+    }
+    count := count + 1;
+    done:
+    assert (i <= n) <== z;
+  }
+  /* and
+     /* another */ one */
+  if (z) {
+    goto a, b;
+  }
+  a:
+  assert z ==> z ==> true;
+  b:
+  return;
+}
+implementation Work(n: int, r: Ref, f: Field) returns (i: int)
+{
+  i := n;
+}
+"""
 
 
 def own_lines(err):
@@ -47,6 +117,21 @@ class Trial:
                 shown = (cut(wanted), cut(had)) if isinstance(wanted, bytes) else (wanted, had)
                 print(f"  {part}: wanted {shown[0]!r}, got {shown[1]!r}")
 
+    def front(self, name, data):
+        """A text that is cut off: refused by one line, or taken, where nothing of it is missing."""
+        path = os.path.join(self.folder, "front.bpl")
+        with open(path, "wb") as f:
+            f.write(data)
+        done = subprocess.run([self.bg, "verify", path], capture_output=True, timeout=600, stdin=subprocess.DEVNULL)
+        line = own_lines(done.stderr)
+        good = (done.returncode, done.stdout, line) == (0, NONE, b"") or (
+            done.returncode == 3 and done.stdout == b"" and LINE.fullmatch(line)
+        )
+        self.passed += bool(good)
+        self.failed += not good
+        if not good:
+            print(f"failed: {name}: {done.returncode} {cut(done.stdout)!r} {cut(line)!r}")
+
     def text(self, name, data, status, out, err):
         file = name.replace(" ", "-") + ".bpl"
         with open(os.path.join(self.folder, file), "wb") as f:
@@ -55,25 +140,53 @@ class Trial:
         os.remove(os.path.join(self.folder, file))
 
 
+def alone(b):
+    """What a text of this byte alone gives: status, report, error line."""
+    if b in b" \t\r\n":
+        return 0, NONE, b""
+    if b in NAMES or b in b"0123456789" or b in SIGNS:
+        return 3, b"", b"error: 1:1 syntax\n"
+    if b in b"/%\\":
+        return 3, b"", b"error: 1:1 unsupported %c\n" % b
+    return 3, b"", b"error: 1:1 bad byte\n"
+
+
+def procedures(count):
+    return b"".join(b"procedure P%d() { }\n" % i for i in range(count))
+
+
 def trials(t):
     for b in range(256):
-        if b in b" \t\r\n":
-            t.text(f"byte {b}", bytes([b]), 0, NONE, b"")
-        else:
-            t.text(f"byte {b}", bytes([b]), 3, b"", TEXT)
+        t.text(f"byte {b}", bytes([b]), *alone(b))
     name = b"n" * 1_000_000
     t.text("empty text", b"", 0, NONE, b"")
-    t.text("unclosed body", b"procedure P() { assert true;", 3, b"", TEXT)
-    t.text("long name alone", name, 3, b"", TEXT)
+    t.text("unclosed body", b"procedure P() { assert true;", 3, b"", b"error: 1:29 syntax\n")
+    t.text("long name alone", name, 3, b"", b"error: 1:1 syntax\n")
     t.text("long name", b"procedure " + name + b"() { }", 0, FRONT + b"implementation " + name + b" 1:1 verified\n" + ONE, b"")
     t.text("spaces at the limit", b" " * 4_194_304, 0, NONE, b"")
     t.text("spaces over the limit", b" " * 4_194_305, 8, b"", b"error: limit bytes 4194305\n")
+    t.text("nested comments", b"/*" * 100_000 + b" @ " + b"*/" * 100_000, 0, NONE, b"")
+    t.text("an open comment", b"/*" * 100_000 + b"*/" * 99_999, 3, b"", b"error: 1:1 open comment\n")
+    one = FRONT + b"implementation P 1:1 verified\n" + ONE
+    t.text("a row of signs", b"procedure P() { assert " + b"!" * 100_000 + b"true; }", 0, one, b"")
+    t.text("a chain", b"procedure P() { assert true" + b" && true" * 100_000 + b"; }", 0, one, b"")
+    sums = b"procedure P() { assert 0 == 1" + b" + 1" * 100_000 + b"; }"
+    t.text("a chain of sums", sums, 3, b"", b"error: 1:24 unsupported number\n")
+    t.text("many procedures", procedures(10_000), 0, FRONT + many(10_000), b"")
+    t.text("too many procedures", procedures(10_001), 8, b"", b"error: limit implementations 10001\n")
+    t.text("each construct", PROGRAM, 3, b"", b"error: 1:1 unsupported type\n")
+    for i in range(len(PROGRAM)):
+        t.front(f"prefix {i}", PROGRAM[:i])
     t.run("absent file", ["verify", "absent.bpl"], 5, b"", b"error: cannot read absent.bpl\n")
     t.run("no file", ["verify"], 4, b"", USAGE)
     t.run("no word", [], 4, b"", USAGE)
     t.run("a dash", ["verify", "-a.bpl"], 4, b"", USAGE)
-    t.run("empty file name", ["verify", ""], 4, b"", USAGE)
     t.run("word that is no UTF-8", ["verify", b"\xff.bpl"], 4, b"", USAGE)
+
+
+def many(count):
+    lines = b"".join(b"implementation P%d %d:1 verified\n" % (i, i + 1) for i in range(count))
+    return lines + b"summary: 0 retained, 0 dropped; %d verified, 0 refuted, 0 unknown\n" % count
 
 
 def main():
@@ -83,6 +196,10 @@ def main():
     with tempfile.TemporaryDirectory() as folder:
         t = Trial(os.path.abspath(given.bg), folder)
         trials(t)
+    peak = resource.getrusage(resource.RUSAGE_CHILDREN).ru_maxrss
+    t.passed += peak < MOST_MEMORY
+    t.failed += peak >= MOST_MEMORY
+    print(f"peak memory {peak // 1000} MB")
     print(f"{t.passed} passed, {t.failed} failed")
     sys.exit(1 if t.failed else 0)
 
