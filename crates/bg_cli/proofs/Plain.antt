@@ -227,12 +227,12 @@ unsigned : (n : Text) → IsBudget n → accepts false (parser.Unsigned 0 429496
 unsigned n k =
     let s = no_sign n (as_plain n k.is_plain).1 in
     let z : ℤ = signed_digits_value 10 n in
-    let a = both (is_numeral (without_leading_sign n)) (fits_i64 z && (int_le (pos 0) z && int_le z (pos 4294967295))) k.passes in
-    let b = both (fits_i64 z) (int_le (pos 0) z && int_le z (pos 4294967295)) a.1 in
-    let high : int_le z (pos 4294967295) ≡ true = (both (int_le (pos 0) z) (int_le z (pos 4294967295)) b.1).1 in
-    let most : digits_value 10 (without_leading_plus n) ≤ 4294967295 = leb-true _ _ (subst (λ z. int_le z (pos 4294967295) ≡ true) s.1 high) in
-    let numeral = subst (IsNumeral 10) s.0 (accepts-Accepts false (parser.Signed (pos 0) (pos 4294967295)) n k.passes).0 in
-    Accepts-accepts false (parser.Unsigned 0 4294967295) n (numeral, omega (arith, most), omega arith, most)
+    let a = both (is_numeral (without_leading_sign n)) (fits_i64 z && (int_le (pos 1) z && int_le z (pos 1000000))) k.passes in
+    let b = both (fits_i64 z) (int_le (pos 1) z && int_le z (pos 1000000)) a.1 in
+    let high : int_le z (pos 1000000) ≡ true = (both (int_le (pos 1) z) (int_le z (pos 1000000)) b.1).1 in
+    let most : digits_value 10 (without_leading_plus n) ≤ 1000000 = leb-true _ _ (subst (λ z. int_le z (pos 1000000) ≡ true) s.1 high) in
+    let numeral = subst (IsNumeral 10) s.0 (accepts-Accepts false (parser.Signed (pos 1) (pos 1000000)) n k.passes).0 in
+    Accepts-accepts false (parser.Unsigned 0 4294967295) n (numeral, omega (arith, most), omega arith, omega (arith, most))
 
 pub option_nodes : (own n f : Text) (fs : List Text) → IsBudget n → AllPlain (f ∷ fs) → nodes_in (own ∷ codes "verify" ∷ asks n (f ∷ fs)) ≡ digits_value 10 (without_leading_plus n)
 option_nodes own n f fs k h = ap nodes_of (option_rows own n f fs k h) ∙ ap (λ t. number_or 20000 (Some t)) (as_plain n k.is_plain).0 ∙ rw (unsigned n k) refl

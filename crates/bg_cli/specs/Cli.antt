@@ -11,12 +11,12 @@ use Rattle.clap.specs.Lexer.{usize_max}
 use Rattle.clap.specs.declared.builder.action.ArgAction.TheVariants.{Set, Append}
 use Rattle.clap.specs.declared.builder.value_parser.ValueParser.TheVariants as parser
 
--- `--nodes N`, 20,000 where it isn't given
+-- `--nodes N`, 1 to 1,000,000; 20,000 where it isn't given
 abbrev pub nodes : Rule
 nodes =
     record (new_rule (codes "nodes")) {
       long = Some (codes "nodes");
-      parser = Some (parser.Signed (pos 0) (pos 4294967295));
+      parser = Some (parser.Signed (pos 1) (pos 1000000));
       action = Some Set;
       defaults = codes "20000" ∷ [];
     }
@@ -89,4 +89,4 @@ AllPlain (w ∷ ws) = Plain w × AllPlain ws
 -- a number that `--nodes` takes, without a sign
 pub record IsBudget (n : Text) : Type 0 where
   pub is_plain : Plain n
-  pub passes : accepts false (parser.Signed (pos 0) (pos 4294967295)) n ≡ true
+  pub passes : accepts false (parser.Signed (pos 1) (pos 1000000)) n ≡ true

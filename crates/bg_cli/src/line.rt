@@ -33,7 +33,7 @@ pub fn cli<'a>(alloc: Global) -> Result<Command<'a>, AllocError>
 {
     let nodes = Arg::new(alloc, "nodes")
         .long("nodes")
-        .value_parser(value_parser!(u32))
+        .value_parser(value_parser!(u32).range(1..=1_000_000))
         .action(ArgAction::Set)
         .default_value("20000");
     let files = Arg::new(alloc, "FILE")

@@ -4,21 +4,14 @@ use std::test::Fail;
 #[test]
 fn words_are_taken_or_not(rt: HostRuntime) -> Result<(), Fail> {
     let alloc = rt.alloc();
-    let table: [(&[&str], &str, u32); 16] = [
+    let table: [(&[&str], &str, u32); 17] = [
         (&["bg", "verify", "a.bpl"], "a.bpl", 20_000),
         (&["bg", "verify", "a", "b", "help"], "a b help", 20_000),
         (&["bg", "verify", "--nodes", "7", "a"], "a", 7),
-        (
-            &["bg", "verify", "a", "--nodes", "4294967295"],
-            "a",
-            4_294_967_295,
-        ),
+        (&["bg", "verify", "a", "--nodes", "1000000"], "a", 1_000_000),
         (&["bg", "verify", "--nodes=1", "--", "-a"], "-a", 1),
-        (
-            &["bg", "verify", "--nodes", "4294967296", "a"],
-            "refused",
-            0,
-        ),
+        (&["bg", "verify", "--nodes", "1000001", "a"], "refused", 0),
+        (&["bg", "verify", "--nodes", "0", "a"], "refused", 0),
         (&["bg", "verify", "--nodes", "x", "a"], "refused", 0),
         (
             &["bg", "verify", "--nodes", "1", "--nodes", "2", "a"],
