@@ -1,0 +1,9 @@
+pub mod Bits
+pub mod Good
+pub mod Nodes
+pub mod Infix
+pub mod Judged
+pub mod Matched
+pub mod Typings
+pub mod Assigned
+pub mod Statements
