@@ -1,14 +1,13 @@
 -- How each form of the code's resolved programs is read, at the lists that code meets.
-use Rattle.std.proofs.Common.{◌≡◌, ℕ, List, [], ◌∷◌, map, Option, Some, None, refl, sym, ap, ◌∙◌, Vec, Box, Global}
+use Rattle.std.proofs.Common.{◌≡◌, ℕ, map, Some, None, refl, sym, ap, ◌∙◌, Vec, Box, Global}
 use mathlib.Core.Former.{Count}
 use Rattle.bg_base.specs.declared.pos.Pos.{Pos}
-use Rattle.bg_text.specs.declared.expr.InfixSign.{InfixSign}
 use Rattle.bg_ast.specs.declared.resolved.Expr.{Expr, Row_of-Expr, end_of-Expr, more_of-Expr, items-the_row-Expr, items_hidden-the_row-Expr-0, Row_of-Link, end_of-Link, more_of-Link, items-the_row-Link, items_hidden-the_row-Link-2, Row_of-Bracket, end_of-Bracket, more_of-Bracket, items-the_row-Bracket, items_hidden-the_row-Bracket-1}
 use Rattle.bg_ast.specs.declared.resolved.Expr.TheVariants as expr
 use Rattle.bg_ast.specs.declared.resolved.Bracket.{Bracket}
 use Rattle.bg_ast.specs.declared.resolved.Bracket.TheVariants as bracket
 use Rattle.bg_ast.specs.declared.resolved.Link.{Link}
-use Rattle.bg_ast.specs.declared.resolved.WrittenType.{WrittenType, Row_of-WrittenType, end_of-WrittenType, more_of-WrittenType, items-the_row-WrittenType, items_hidden-the_row-WrittenType-0, items_shown-the_row-WrittenType-0, Row_of-IndexTypes, end_of-IndexTypes, more_of-IndexTypes, items-the_row-IndexTypes, items_hidden-the_row-IndexTypes-1}
+use Rattle.bg_ast.specs.declared.resolved.WrittenType.{WrittenType, Row_of-WrittenType, end_of-WrittenType, more_of-WrittenType, items-the_row-WrittenType, items_shown-the_row-WrittenType-0, Row_of-IndexTypes, end_of-IndexTypes, more_of-IndexTypes, items-the_row-IndexTypes, items_hidden-the_row-IndexTypes-1}
 use Rattle.bg_ast.specs.declared.resolved.WrittenType.TheVariants as type
 use Rattle.bg_ast.specs.declared.resolved.IndexTypes.{IndexTypes}
 use Rattle.bg_ast.specs.declared.resolved.Clause.{Clause}
@@ -17,7 +16,7 @@ use Rattle.bg_ast.specs.declared.resolved.Arm.{Arm}
 use Rattle.bg_ast.specs.declared.resolved.Stmt.{Stmt, Row_of-Stmt, end_of-Stmt, more_of-Stmt, items-the_row-Stmt, items_hidden-the_row-Stmt-0, items_shown-the_row-Stmt-0, Row_of-Arm, end_of-Arm, more_of-Arm, items-the_row-Arm, items_hidden-the_row-Arm-1}
 use Rattle.bg_ast.specs.declared.resolved.Stmt.TheVariants as stmt
 use Rattle.bg_ast.specs.Resolved as t
-use Rattle.bg_ast.specs.Views.{ex_of, row_of, chain_of, behind_of, with_bracket, exs_of, link_view, links_of, Behind, behind_parts, brackets_of, bracket_view, type_of, types_of, indices_of, tys_of, Indexed, indexed_of, index_view, guard_of, clause_of, st_of, sts_of, sts_from, arms_of, Armed, arms_from, arm_view}
+use Rattle.bg_ast.specs.Views.{ex_of, row_of, chain_of, behind_of, with_bracket, exs_of, link_view, links_of, behind_parts, brackets_of, bracket_view, type_of, types_of, indices_of, tys_of, indexed_of, index_view, guard_of, clause_of, st_of, sts_of, sts_from, arms_of, arms_from, arm_view}
 
 exs_row : (n : _) (row : Row_of-Expr n) → row_of row ≡ exs_of (map ex_of (items-the_row-Expr n row))
 exs_row n end_of-Expr = refl

@@ -1,9 +1,6 @@
 pub mod Values
 pub mod Syntax
 pub mod Execution
-pub mod Source
-pub mod Typed
-pub mod View
 pub mod Resolved
 pub mod Meaning
 pub mod Views

@@ -1,7 +1,5 @@
-//! Programs as plain data, and how contracts see them.
+//! Programs as plain data, how contracts see them, and what they mean.
 #![tactic(auto)]
 
-mod program;
+pub mod laws;
 pub mod resolved;
-
-pub use program::{Clause, Expr, Name, Procedure, Program, Stmt, Variable};

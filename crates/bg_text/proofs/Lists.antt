@@ -1,15 +1,14 @@
 -- How each form of the code's trees is read, at the lists that code meets.
-use Rattle.std.proofs.Common.{◌≡◌, ℕ, List, [], ◌∷◌, map, Option, Some, None, refl, sym, ap, ◌∙◌, Vec, Box, Global}
+use Rattle.std.proofs.Common.{◌≡◌, map, Some, None, refl, sym, ap, ◌∙◌, Vec, Box, Global}
 use mathlib.Core.Former.{Count}
 use Rattle.bg_base.specs.declared.pos.Pos.{Pos}
 use Rattle.bg_text.specs.declared.expr.Name.{Name}
-use Rattle.bg_text.specs.declared.expr.InfixSign.{InfixSign}
 use Rattle.bg_text.specs.declared.expr.TreeExpr.{TreeExpr, Row_of-TreeExpr, end_of-TreeExpr, more_of-TreeExpr, items-the_row-TreeExpr, items_hidden-the_row-TreeExpr-0, Row_of-TreeLink, end_of-TreeLink, more_of-TreeLink, items-the_row-TreeLink, items_hidden-the_row-TreeLink-2, Row_of-TreeBracket, end_of-TreeBracket, more_of-TreeBracket, items-the_row-TreeBracket, items_hidden-the_row-TreeBracket-1}
 use Rattle.bg_text.specs.declared.expr.TreeExpr.TheVariants as expr
 use Rattle.bg_text.specs.declared.expr.TreeBracket.{TreeBracket}
 use Rattle.bg_text.specs.declared.expr.TreeBracket.TheVariants as bracket
 use Rattle.bg_text.specs.declared.expr.TreeLink.{TreeLink}
-use Rattle.bg_text.specs.declared.tree.TreeType.{TreeType, Row_of-TreeType, end_of-TreeType, more_of-TreeType, items-the_row-TreeType, items_hidden-the_row-TreeType-0, items_shown-the_row-TreeType-0, Row_of-TypeBracket, end_of-TypeBracket, more_of-TypeBracket, items-the_row-TypeBracket, items_hidden-the_row-TypeBracket-1}
+use Rattle.bg_text.specs.declared.tree.TreeType.{TreeType, Row_of-TreeType, end_of-TreeType, more_of-TreeType, items-the_row-TreeType, items_shown-the_row-TreeType-0, Row_of-TypeBracket, end_of-TypeBracket, more_of-TypeBracket, items-the_row-TypeBracket, items_hidden-the_row-TypeBracket-1}
 use Rattle.bg_text.specs.declared.tree.TreeType.TheVariants as type
 use Rattle.bg_text.specs.declared.tree.TypeBracket.{TypeBracket}
 use Rattle.bg_text.specs.declared.tree.TreeClause.{TreeClause}
@@ -18,7 +17,7 @@ use Rattle.bg_text.specs.declared.tree.TreeArm.{TreeArm}
 use Rattle.bg_text.specs.declared.tree.TreeStmt.{TreeStmt, Row_of-TreeStmt, end_of-TreeStmt, more_of-TreeStmt, items-the_row-TreeStmt, items_hidden-the_row-TreeStmt-0, items_shown-the_row-TreeStmt-0, Row_of-TreeArm, end_of-TreeArm, more_of-TreeArm, items-the_row-TreeArm, items_hidden-the_row-TreeArm-1}
 use Rattle.bg_text.specs.declared.tree.TreeStmt.TheVariants as stmt
 use Rattle.bg_text.specs.Trees as t
-use Rattle.bg_text.specs.Views.{id_of, ex_of, row_of, chain_of, behind_of, with_bracket, exs_of, link_view, links_of, Bracket, bracket_of_parts, brackets_of, bracket_view, type_of, types_of, indices_of, tys_of, Indexed, indexed_of, index_view, guard_of, clause_of, st_of, sts_of, sts_from, arms_of, Armed, arms_from, arm_view}
+use Rattle.bg_text.specs.Views.{ex_of, row_of, chain_of, behind_of, with_bracket, exs_of, link_view, links_of, bracket_of_parts, brackets_of, bracket_view, type_of, types_of, indices_of, tys_of, indexed_of, index_view, guard_of, clause_of, st_of, sts_of, sts_from, arms_of, arms_from, arm_view}
 
 exs_row : (n : _) (row : Row_of-TreeExpr n) → row_of row ≡ exs_of (map ex_of (items-the_row-TreeExpr n row))
 exs_row n end_of-TreeExpr = refl

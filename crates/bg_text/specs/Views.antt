@@ -1,5 +1,5 @@
 -- How the code's trees are read.
-use Rattle.std.specs.Prelude.{ℕ, List, [], ◌∷◌, map, Option, Some, None}
+use Rattle.std.specs.Prelude.{List, [], ◌∷◌, map, Option, Some, None}
 use Rattle.bg_base.specs.declared.pos.Pos.{Pos}
 use Rattle.bg_text.specs.declared.expr.Name.{Name}
 use Rattle.bg_text.specs.declared.expr.InfixSign.{InfixSign}
