@@ -1,3 +1,4 @@
 pub mod Agreement
 pub mod Naming
 pub mod Bodies
+pub mod Programs
