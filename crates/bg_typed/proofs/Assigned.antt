@@ -97,7 +97,7 @@ variable_good g w h a =
     }
 
 -- a pair of sides that fit
-fitting : (k l : Kind) (b : Side) (u : v.Ty) → k ≡ Some u → b.kind ≡ l → is_typed_kind l ≡ true → is_none (pair_faults k b) ≡ true → l ≡ Some u
+pub fitting : (k l : Kind) (b : Side) (u : v.Ty) → k ≡ Some u → b.kind ≡ l → is_typed_kind l ≡ true → is_none (pair_faults k b) ≡ true → l ≡ Some u
 fitting None l b u h e t n = nothing u h
 fitting (Some t') l b u h e t n =
     let kind = wanted_kind b.start t' b.kind (ap is_typed_kind e ∙ t) n in

@@ -1,4 +1,6 @@
+pub mod Depth
 pub mod Bits
+pub mod Unfolded
 pub mod Good
 pub mod Nodes
 pub mod Infix
@@ -7,3 +9,7 @@ pub mod Matched
 pub mod Typings
 pub mod Assigned
 pub mod Statements
+pub mod Declared
+pub mod Declarations
+pub mod Fitting
+pub mod Typed

@@ -7,7 +7,7 @@ use Rattle.bg_sense.specs.Types.{const_types}
 use Rattle.bg_sense.specs.Typing.{Sig, sig_in}
 use Rattle.bg_sense.specs.Typed.{HasNoOld, Around, around}
 use Rattle.bg_typed.specs.Naming.{IsNamed}
-use Rattle.bg_typed.specs.Bodies.{AreNamedClauses, AreNamedStatements}
+use Rattle.bg_typed.specs.Bodies.{AreNamedStatements}
 
 -- where no `old` stands, either
 abbrev pub IsNamedPlain : Sig → r.Ex → Type 0

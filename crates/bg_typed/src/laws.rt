@@ -1,16 +1,23 @@
 //! Laws that hold of what is judged.
-ghost use Rattle.std.specs.Prelude.{◌≡◌, [], Some};
+ghost use Rattle.std.specs.Prelude.{◌≡◌, ◌<◌, ◌≤◌, ℕ, List, [], Some, length};
+ghost use Rattle.bg_graph.specs.Graphs.{Graph, IsEdge, IsGraph, IsAcyclic};
 ghost use Rattle.bg_ast.specs.Values.{Ty};
+ghost use Rattle.bg_ast.specs.Resolved as r;
 ghost use Rattle.bg_ast.specs.Resolved.{Ex, Sts};
-ghost use Rattle.bg_ast.specs.Meaning.{ex_of, sts_of};
+ghost use Rattle.bg_ast.specs.Meaning.{ex_of, sts_of, type_in, named_of, meaning_of};
 ghost use Rattle.bg_sense.specs.Typing.{Sig, HasType};
-ghost use Rattle.bg_sense.specs.Typed.{Around, IsLinear, IsFormula, IsTypedStatement};
+ghost use Rattle.bg_sense.specs.Typed.{Around, IsLinear, IsFormula, IsTypedStatement, IsTyped};
+ghost use Rattle.bg_kinds.specs.Kinds.{Kind, kind_in, type_faults};
+ghost use Rattle.bg_kinds.specs.Synonyms.{IsUnfolded, synonym_graph};
 ghost use Rattle.bg_typing.specs.Sides.{Scope};
 ghost use Rattle.bg_typing.specs.Exprs.{judge};
 ghost use Rattle.bg_typing.specs.Stmts.{truth_faults, sts_faults};
+ghost use Rattle.bg_types.specs.Programs.{synonyms_faults};
+ghost use Rattle.bg_types.specs.Verdicts.{IsWellTyped};
 ghost use Rattle.bg_typed.specs.Agreement.{Agrees};
 ghost use Rattle.bg_typed.specs.Naming.{Matches, IsNamed};
 ghost use Rattle.bg_typed.specs.Bodies.{MatchesAround, AreNamedStatements};
+ghost use Rattle.bg_typed.specs.Programs.{IsNamedProgram};
 
 /// An expression without faults that is found to have a type has it, and each of its products has a constant side.
 pub fn judged_expressions_are_typed()
@@ -25,4 +32,24 @@ pub fn formulas_are_formulas()
 /// Statements without faults are typed, where each name is declared and what they change and where they jump to is allowed.
 pub fn bodies_are_typed()
     ensures { (g : Scope) (w : Around) (a : Sts) → MatchesAround g w → AreNamedStatements w [] [] a → sts_faults g a ≡ [] → IsTypedStatement w [] [] (sts_of a) }
+{}
+
+/// Where no node reaches itself, each node has a rank, which falls along each edge and is at most the number of nodes; a node has one below it, where each edge goes to a node.
+pub fn an_acyclic_graph_has_ranks()
+    ensures { (g : Graph) → IsAcyclic g → (rank : ℕ → ℕ) × ((f t : ℕ) → IsEdge g f t → rank t < rank f) × ((f : ℕ) → rank f ≤ length g) × (IsGraph g → (f : ℕ) → f < length g → rank f < length g) }
+{}
+
+/// Where no synonym reaches itself and none has a fault, a declared type stands for the type that it means.
+pub fn declared_types_stand_for_their_meaning()
+    ensures { (ds : List r.TypeName) (named : ℕ → Kind) → IsAcyclic (synonym_graph ds) → IsUnfolded ds named → synonyms_faults named ds ≡ [] → (k : ℕ) → named k ≡ Some (named_of ds k) }
+{}
+
+/// There a written type without faults stands for the type that it means.
+pub fn written_types_stand_for_their_meaning()
+    ensures { (ds : List r.TypeName) (named : ℕ → Kind) → IsAcyclic (synonym_graph ds) → IsUnfolded ds named → synonyms_faults named ds ≡ [] → (t : r.Ty) → type_faults named t ≡ [] → kind_in named t ≡ Some (type_in (named_of ds) t) }
+{}
+
+/// A program without faults of names and types is typed.
+pub fn well_typed_programs_are_typed()
+    ensures { (p : r.Program) → IsNamedProgram p → IsWellTyped p → IsTyped (meaning_of p) }
 {}
