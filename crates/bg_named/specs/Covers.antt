@@ -15,10 +15,12 @@ pub record Covers (s : Scope) (g : Sig) : Type 0 where
   pub frame : (x : List ℕ) (k : ℕ) → meaning s x ≡ means.Local k → k < length g.frame
   pub functions : (x : List ℕ) (k : ℕ) → place s.functions x ≡ Some k → k < length g.functions
 
--- what a body's names mean is around it: two names mean two globals, and procedures modify what they say
+-- what a body's names mean is around it: two names mean two globals, what means one of the frame stands in the frame, and
+-- procedures modify what they say
 pub record CoversBody (b : Inside) (w : Around) : Type 0 where
   pub names : Covers b.scope (sig_around w)
   pub apart : (x y : List ℕ) (k : ℕ) → meaning b.scope x ≡ means.Global k → meaning b.scope y ≡ means.Global k → x ≡ y
+  pub places : (x : List ℕ) (k : ℕ) → meaning b.scope x ≡ means.Local k → place b.scope.frame x ≡ Some k
   pub inputs : b.inputs ≡ length w.procedure.params
   pub modifies : b.modifies ≡ w.procedure.modifies
   pub procedures :
