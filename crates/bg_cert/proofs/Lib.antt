@@ -1,0 +1,10 @@
+pub mod Follow
+pub mod Numbers
+pub mod Sound
+pub mod Uses
+pub mod Places
+pub mod Counts
+pub mod Stacks
+pub mod Tells
+pub mod Untouched
+pub mod Members

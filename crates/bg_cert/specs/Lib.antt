@@ -1,0 +1,5 @@
+pub mod Paths
+pub mod Counts
+pub mod Certs
+pub mod Walks
+pub mod Causes

@@ -1,0 +1,4 @@
+pub mod Atoms
+pub mod Formulas
+pub mod Meaning
+pub mod Instances

@@ -1,0 +1,14 @@
+//! Formulas: numbered atoms, clauses over them, candidates that may be added as units, and what a
+//! valuation makes of them.
+#![tactic(auto)]
+
+mod atom;
+mod clauses;
+mod deny;
+pub mod laws;
+mod whole;
+
+pub use atom::{Atom, Linear, Literal};
+pub use clauses::Clauses;
+pub use deny::deny_row;
+pub use whole::is_whole;

@@ -1,0 +1,13 @@
+pub mod Lefts
+pub mod Firsts
+pub mod Below
+pub mod Falses
+pub mod Opens
+pub mod Appends
+pub mod Members
+pub mod Rule
+pub mod Onces
+pub mod Leaves
+pub mod Steps
+pub mod Told
+pub mod Wholes

@@ -1,0 +1,21 @@
+use Rattle.std.proofs.Common.{◌≡◌, length, true}
+use Rattle.bg_formula.specs.Formulas.{formula_of}
+use Rattle.bg_cert.specs.Walks.{IsWalk, atoms_on, stack_of, has}
+use Rattle.bg_tree.specs.Once.{AllOnce}
+use Rattle.bg_tree.specs.Trees.{work}
+use Rattle.bg_tree.proofs.Told.{Told, Whole}
+use Rattle.bg_tree.proofs.find.search.Given as goal
+
+abbrev pub invariant-loop-s : goal.invariant-loop-s
+invariant-loop-s l =
+    record {
+      walks : IsWalk l.s.walk;
+      sized : atoms_on l.s.walk ≡ length l.f.atoms.items;
+      told : Told (formula_of l.f) (has l.set) l.budget l.s;
+      whole : Whole (formula_of l.f) (has l.set) l.s;
+      once : AllOnce (stack_of (formula_of l.f) l.s.walk);
+      spent : l.s.seen ≡ true → l.s.left ≡ 0;
+    }
+
+abbrev pub decreases-loop-s : goal.decreases-loop-s
+decreases-loop-s l = work l.s

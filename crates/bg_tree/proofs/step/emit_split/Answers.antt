@@ -1,0 +1,9 @@
+use Rattle.std.proofs.Common.{refl, arith, ◌-◌}
+use Rattle.bg_formula.specs.Formulas.{formula_of}
+use Rattle.bg_cert.specs.Walks.{has}
+use Rattle.bg_tree.proofs.Steps.{split_moves}
+use Rattle.bg_tree.proofs.step.emit_split.Goals as goal
+
+pub returns : goal.returns
+returns c =
+    split_moves (formula_of c.args.f.now) (has c.args.set.now) c.args.s.now (record { walk = c.open_both.new.walk; parts = c.push.new.self; left = c.args.s.now.left - 1; seen = c.args.s.now.seen }) c.args.a (c.args.s.now.left - 1) c.in_ok-open_both.ensures.walks c.in_ok-open_both.ensures.sized c.requires.is_open c.requires.is_fine c.requires.by_rule c.in_ok-push.ensures.items (c.in_ok-open_both.ensures.stack (formula_of c.args.f.now)) refl (let l = c.requires.is_left in omega arith) refl c.in_ok-open_both.ensures.more

@@ -1,0 +1,46 @@
+//! The search.
+ghost use Rattle.std.specs.Prelude.{◌≡◌, IfOk, true};
+ghost use Rattle.bg_formula.specs.Formulas.{formula_of, is_whole};
+ghost use Rattle.bg_cert.specs.Walks.{has};
+ghost use Rattle.bg_tree.specs.Trees.{IsOutcome};
+
+use crate::step::{Search, step};
+use crate::whole::whole;
+use bg_cert::{Decision, Node, first_walk};
+use bg_formula::Clauses;
+use std::alloc::{AllocError, Global};
+
+/// What the search finds.
+#[derive(Debug, Drop)]
+pub enum Outcome {
+    /// A certificate, which the checker accepts.
+    Closed(Vec<Node>),
+    /// A path that decides every atom and makes no clause and no unit of the set false.
+    Leaf(Vec<Decision>),
+    /// A tree with exactly the budget's inner nodes. `None` is an open leaf; there is one.
+    Nodes(Vec<Option<Node>>),
+}
+
+/// Searches the clauses with the units of the set, over truth values alone, with as many inner
+/// nodes as the budget says.
+pub fn search(alloc: Global, f: &Clauses, set: &[bool], budget: u32) -> Result<Outcome, AllocError>
+    requires { is_whole (formula_of f.now) ≡ true }
+    ensures { IfOk result (λ outcome. IsOutcome (formula_of f.now) (has set.now) budget outcome) }
+{
+    let mut s = Search {
+        walk: first_walk(alloc, f.atoms.len())?,
+        parts: Vec::new(alloc),
+        left: budget,
+        seen: false,
+    };
+    while s.walk.is_open {
+        if step(f, set, &mut s)? {
+            return Ok(Outcome::Leaf(s.walk.trail.decisions));
+        }
+    }
+    if s.seen {
+        Ok(Outcome::Nodes(s.parts))
+    } else {
+        Ok(Outcome::Closed(whole(alloc, s.parts)?))
+    }
+}

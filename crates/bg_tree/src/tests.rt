@@ -1,0 +1,86 @@
+//! The search on formulas made by hand, with ample memory, and its certificates checked again.
+use crate::{Outcome, search};
+use bg_cert::{Node, accepts, used};
+use bg_formula::{Atom, Clauses, Literal, is_whole};
+use std::alloc::Global;
+use std::test::Fail;
+
+/// Clauses over so many truth variables, where a literal is an atom with its sign.
+fn formula(
+    alloc: Global,
+    atoms: u32,
+    clauses: &[&[(u32, bool)]],
+    candidates: &[Option<u32>],
+) -> Result<Clauses, Fail> {
+    let mut made = Clauses {
+        terms: 0,
+        atoms: Vec::new(alloc),
+        clauses: Vec::new(alloc),
+        candidates: candidates.to_vec(alloc)?,
+    };
+    for a in 0..atoms {
+        made.atoms.push(Atom::Truth(a))?;
+    }
+    for c in clauses {
+        let mut clause = Vec::new(alloc);
+        for (atom, sign) in *c {
+            clause.push(Literal {
+                atom: *atom,
+                sign: *sign,
+            })?;
+        }
+        made.clauses.push(clause)?;
+    }
+    Ok(made)
+}
+
+fn found(alloc: Global, f: &Clauses, set: &[bool], budget: u32) -> Result<Outcome, Fail> {
+    if is_whole(f) {
+        Ok(search(alloc, f, set, budget)?)
+    } else {
+        Err("an atom isn't there".into())
+    }
+}
+
+fn certificate(alloc: Global, f: &Clauses, set: &[bool]) -> Result<Vec<Node>, Fail> {
+    match found(alloc, f, set, 100)? {
+        Outcome::Closed(nodes) => Ok(nodes),
+        _ => Err("no certificate".into()),
+    }
+}
+
+#[test]
+fn certificates_are_found(rt: HostRuntime) -> Result<(), Fail> {
+    let alloc = rt.alloc();
+    let clauses: [&[(u32, bool)]; 2] = [&[(0, true), (1, true)], &[(0, true), (1, false)]];
+    let f = formula(alloc, 2, &clauses, &[None, Some(1)])?;
+    let all = formula(
+        alloc,
+        2,
+        &[&[(0, true)], &[(0, false), (1, false)]],
+        &[None, Some(1)],
+    )?;
+    let nodes = certificate(alloc, &all, &[true, true])?;
+    assert!(rt; nodes.len() == 5);
+    assert!(rt; accepts(alloc, &all, &[true, true], &nodes)?);
+    assert!(rt; !accepts(alloc, &all, &[true, false], &nodes)?);
+    assert!(rt; !accepts(alloc, &f, &[true, true], &nodes)?);
+    let names = used(alloc, &nodes, 2)?;
+    assert!(rt; names.len() == 2 && !names[0] && names[1]);
+    Ok(())
+}
+
+#[test]
+fn leaves_and_budgets(rt: HostRuntime) -> Result<(), Fail> {
+    let alloc = rt.alloc();
+    let f = formula(alloc, 2, &[&[(0, true), (1, true)]], &[])?;
+    match found(alloc, &f, &[], 2)? {
+        Outcome::Leaf(trail) => assert!(rt; trail.len() == 2),
+        _ => return Err("no leaf".into()),
+    }
+    match found(alloc, &f, &[], 1)? {
+        Outcome::Nodes(parts) => assert!(rt; parts.len() == 3),
+        _ => return Err("no budget".into()),
+    }
+    Ok(())
+}
