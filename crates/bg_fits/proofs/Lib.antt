@@ -1,5 +1,5 @@
 pub mod Chains
 pub mod Decls
-pub mod Marks
-pub mod Typing
+pub mod Expressions
+pub mod Statements
 pub mod Programs

@@ -1,5 +1,5 @@
 -- Expressions of truth values, as a test.
-use Rattle.std.specs.Prelude.{ℕ, Bool, true, false, ◌&&◌, List, [], ◌∷◌, nat_lt}
+use Rattle.std.specs.Prelude.{Bool, true, false, ◌&&◌, List, [], ◌∷◌}
 use Rattle.bg_base.specs.declared.pos.Pos.{Pos}
 use Rattle.bg_text.specs.declared.expr.InfixSign.{InfixSign}
 use Rattle.bg_text.specs.declared.expr.InfixSign.TheVariants as sign
@@ -24,18 +24,13 @@ is_truth_op s.Equal = true
 is_truth_op s.Unequal = true
 is_truth_op _ = false
 
--- a variable of a frame of this many
-abbrev pub is_local : ℕ → s.Var → Bool
-is_local n (s.Local x) = nat_lt x n
-is_local n (s.Global x) = false
-
--- truth values, variables of a frame of this many, and operators on truth values
-abbrev pub is_plain : ℕ → s.Ex → Bool
-is_plain n (s.Fact b) = true
-is_plain n (s.Read x) = is_local n x
-is_plain n (s.Not e) = is_plain n e
-is_plain n (s.Binary o a b) = is_truth_op o && (is_plain n a && is_plain n b)
-is_plain n _ = false
+-- truth values, variables, and operators on truth values
+abbrev pub is_plain : s.Ex → Bool
+is_plain (s.Fact b) = true
+is_plain (s.Read x) = true
+is_plain (s.Not e) = is_plain e
+is_plain (s.Binary o a b) = is_truth_op o && (is_plain a && is_plain b)
+is_plain _ = false
 
 -- the same of signs as they are written
 abbrev pub is_truth_sign : InfixSign → Bool
@@ -57,6 +52,6 @@ are_nots [] = true
 are_nots (x ∷ xs) = is_not x.sign && are_nots xs
 
 -- what stands behind the first operand of a chain
-abbrev pub are_plain_links : ℕ → List (Pos × InfixSign × r.Ex) → Bool
-are_plain_links n [] = true
-are_plain_links n (l ∷ ls) = is_truth_sign l.1 && (is_plain n (ex_of l.2) && are_plain_links n ls)
+abbrev pub are_plain_links : List (Pos × InfixSign × r.Ex) → Bool
+are_plain_links [] = true
+are_plain_links (l ∷ ls) = is_truth_sign l.1 && (is_plain (ex_of l.2) && are_plain_links ls)

@@ -1,4 +1,4 @@
-//! Whether a program may be judged: straight lines over truth values, typed.
+//! Whether a program is one of straight lines over truth values.
 #![tactic(auto)]
 
 mod body;
@@ -6,4 +6,4 @@ mod plain;
 mod program;
 mod types;
 
-pub use program::is_judged;
+pub use program::is_straight;

@@ -2,10 +2,10 @@
 ghost use Rattle.std.specs.Prelude.{◌≡◌, ◌&&◌, map};
 ghost use Rattle.bg_ast.specs.Meaning.{ex_of};
 ghost use Rattle.bg_ast.specs.Views as view;
-ghost use Rattle.bg_ast.specs.Views.{link_view, var_of};
-ghost use Rattle.bg_fits.specs.Plain.{is_none, is_local, is_truth_sign, is_not, are_nots, is_plain, are_plain_links};
+ghost use Rattle.bg_ast.specs.Views.{link_view};
+ghost use Rattle.bg_fits.specs.Plain.{is_none, is_truth_sign, is_not, are_nots, is_plain, are_plain_links};
 
-use bg_ast::resolved::{Expr, Link, Variable};
+use bg_ast::resolved::{Expr, Link};
 use bg_text::{InfixSign, PrefixSign, TreePrefix};
 
 /// Whether there is nothing.
@@ -13,16 +13,6 @@ pub fn is_none<T>(xs: &[T]) -> bool
     ensures { result ≡ is_none xs.now }
 {
     xs.is_empty()
-}
-
-/// Whether a variable is one of a frame of this many.
-fn is_local(width: usize, x: Variable) -> bool
-    ensures { result ≡ is_local width (var_of x) }
-{
-    match x {
-        Variable::Local(x) => (x as usize) < width,
-        Variable::Global(_) => false,
-    }
 }
 
 /// Whether a sign may stand between truth values, and gives one.
@@ -73,19 +63,19 @@ fn both(a: bool, b: bool) -> bool
     a && b
 }
 
-/// Whether an expression has a truth value, where the frame has this many variables, all of type `bool`.
+/// Whether an expression is plain: truth values, variables, and operators on truth values.
 #[cycle(is_plain)]
 #[tactic(auto, using(crate::proofs::Chains::prefix_expr))]
-pub fn is_plain(width: usize, e: &Expr) -> bool
-    ensures { result ≡ is_plain width (ex_of (view.ex_of e.now)) }
+pub fn is_plain(e: &Expr) -> bool
+    ensures { result ≡ is_plain (ex_of (view.ex_of e.now)) }
 {
     match e {
         Expr::Truth(_, _) => true,
-        Expr::Read(_, x) => is_local(width, *x),
-        Expr::Parens(_, e) => is_plain(width, e),
-        Expr::Prefix(signs, e) => both(are_nots(signs), is_plain(width, e)),
-        Expr::Chain(first, links) => both(is_plain(width, first), are_plain(width, links)),
-        Expr::Postfix(e, brackets) => both(is_none(brackets), is_plain(width, e)),
+        Expr::Read(_, _) => true,
+        Expr::Parens(_, e) => is_plain(e),
+        Expr::Prefix(signs, e) => both(are_nots(signs), is_plain(e)),
+        Expr::Chain(first, links) => both(is_plain(first), are_plain(links)),
+        Expr::Postfix(e, brackets) => both(is_none(brackets), is_plain(e)),
         Expr::Number(_, _) => false,
         Expr::Constant(_, _) => false,
         Expr::Apply(_, _, _) => false,
@@ -93,16 +83,16 @@ pub fn is_plain(width: usize, e: &Expr) -> bool
     }
 }
 
-/// Whether each operand of a chain has a truth value, and each sign takes one.
+/// Whether each operand of a chain is plain, and each sign takes truth values.
 #[cycle(is_plain)]
-fn are_plain(width: usize, links: &[Link]) -> bool
-    ensures { result ≡ are_plain_links width (map link_view links.now) }
+fn are_plain(links: &[Link]) -> bool
+    ensures { result ≡ are_plain_links (map link_view links.now) }
 {
     for link in links {
         if !is_truth_sign(link.sign) {
             return false;
         }
-        if !is_plain(width, &link.operand) {
+        if !is_plain(&link.operand) {
             return false;
         }
     }

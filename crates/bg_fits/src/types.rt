@@ -1,7 +1,7 @@
 //! Declarations of truth values.
 ghost use Rattle.std.specs.Prelude.{◌≡◌, map};
 ghost use Rattle.bg_ast.specs.Views.{type_of, declared_of};
-ghost use Rattle.bg_fits.specs.Fits.{is_bool, are_bools};
+ghost use Rattle.bg_fits.specs.Straight.{is_bool, are_bools};
 
 use bg_ast::resolved::{Declared, WrittenType};
 

@@ -5,3 +5,4 @@ pub mod Unfolded
 pub mod TypeFaults
 pub mod NameFaults
 pub mod Refused
+pub mod TypedPrograms

@@ -4,6 +4,9 @@ ghost use Rattle.bg_base.specs.declared.pos.Pos as place;
 ghost use Rattle.bg_text.specs.Tokens.{Tok};
 ghost use Rattle.bg_text.specs.Trees.{Decl};
 ghost use Rattle.bg_ast.specs.Resolved.{Program};
+ghost use Rattle.bg_ast.specs.Meaning.{meaning_of};
+ghost use Rattle.bg_sense.specs.Typed.{IsTyped};
+ghost use Rattle.bg_sense.specs.Recursion.{HasNoRecursion};
 ghost use Rattle.bg_front.specs.Later.{AreJudged, IsUnjudged};
 ghost use Rattle.bg_front.specs.Programs.{IsProgramOf, IsRefusedBy, without_name};
 ghost use Rattle.bg_front.specs.Refusals.{Refusal};
@@ -42,4 +45,13 @@ pub fn a_text_has_one_program_or_one_refusal()
     bg_parse::tokens_spell_one_program();
     bg_parse::answers_exclude_one_another();
     bg_parse::there_is_one_refusal();
+}
+
+/// The program of a text is typed in the sense of its meaning, and no function of it reaches itself.
+pub fn programs_are_typed()
+    ensures { (bytes : List ℕ) (p : Program) → IsProgramOf bytes p → IsTyped (meaning_of p) × HasNoRecursion (meaning_of p) }
+{
+    bg_named::laws::resolved_programs_are_named();
+    bg_named::laws::functions_do_not_recur();
+    bg_typed::laws::well_typed_programs_are_typed();
 }

@@ -3,6 +3,8 @@ ghost use Rattle.std.specs.Prelude.{◌≡◌, ◌⊎◌, ◌<◌, ◌≤◌, �
 ghost use Rattle.bg_io.specs.Causes.{Rose, joined, IsTextOf, IsTextOver};
 ghost use Rattle.bg_cli.specs.Cli.{IsTaken, texts_of, files_in, nodes_in};
 ghost use Rattle.bg_ast.specs.Views.{program_of};
+ghost use Rattle.bg_ast.specs.Meaning.{meaning_of};
+ghost use Rattle.bg_sense.specs.Typed.{IsTyped};
 ghost use Rattle.bg_front.specs.Programs.{IsProgramOf, IsRefusedBy};
 ghost use Rattle.bg_front.specs.Refusals.{refusal_of};
 ghost use Rattle.bg_front.specs.Lines.{line_of};
@@ -12,8 +14,8 @@ ghost use Rattle.bg_tool.specs.Answers.{Reported, ReportedSome, RefusedFor, IsRe
 use crate::status::Status;
 use bg_ast::resolved::Resolved;
 use bg_cli::{LineError, read_line};
-use bg_fits::is_judged;
-use bg_front::laws::a_text_has_one_program_or_one_refusal;
+use bg_fits::is_straight;
+use bg_front::laws::{a_text_has_one_program_or_one_refusal, programs_are_typed};
 use bg_front::{MOST_BYTES, ReadError as TextError, Refusal, read_program};
 use bg_io::{Files, ReadError, Sink, read_all, write_all};
 use bg_judge::{check_program, proved_is_safe};
@@ -32,13 +34,14 @@ fn status_of(word: Word) -> Status
     }
 }
 
-/// The report of a program, and the status that its verdicts give. A program whose forms aren't judged yet has none: its text is
-/// refused before, and here it is want of memory.
+/// The report of a typed program, and the status that its verdicts give. A program whose forms aren't judged yet has none: its text
+/// is refused before, and here it is want of memory.
 fn report_of(alloc: Global, program: &Resolved, nodes: u32) -> Result<(Status, Vec<u8>), AllocError>
+    requires typed { IsTyped (meaning_of (program_of program.now)) }
     ensures report { IfOk result (λ r. (bytes : List ℕ) → IsProgramOf bytes (program_of program.now) → IsReport nodes bytes r.0 r.1.items) }
     ensures ends { IfOk result (λ r. IsTrue (is_report r.0)) }
 {
-    if !is_judged(alloc, program)? {
+    if !is_straight(program) {
         return Err(AllocError);
     }
     let outcome = check_program(alloc, program, nodes)?;
@@ -135,6 +138,7 @@ fn verify<S: Sink, E: Sink>(
         Err(TextError::Memory) => return Status::Memory,
         Err(TextError::Refused(refusal)) => return refuse_bytes(alloc, &refusal, err),
     };
+    programs_are_typed();
     let Ok((ends, text)) = report_of(alloc, &typed.program, nodes) else {
         return Status::Memory;
     };

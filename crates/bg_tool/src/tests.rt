@@ -1,5 +1,6 @@
 use super::*;
-use bg_fits::is_judged;
+use bg_fits::is_straight;
+use bg_front::laws::programs_are_typed;
 use bg_front::read_program;
 use bg_io::{MemFiles, MemSink, StoredFile};
 use bg_judge::{Ending, Node, accepts, entry_width, replay};
@@ -261,7 +262,8 @@ fn a_counterexample_is_replayed(rt: HostRuntime) -> Result<(), Fail> {
     let Ok(typed) = read_program(alloc, text) else {
         panic!(rt; "the text spells a program");
     };
-    if !is_judged(alloc, &typed.program)? {
+    programs_are_typed();
+    if !is_straight(&typed.program) {
         panic!(rt; "the program is judged");
     }
     if typed.program.implementations.is_empty() {

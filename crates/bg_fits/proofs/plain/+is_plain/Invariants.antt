@@ -5,4 +5,4 @@ use Rattle.bg_fits.proofs.plain.+is_plain.Given as goal
 
 abbrev pub invariant-are_plain-loop-link : goal.invariant-are_plain-loop-link
 invariant-are_plain-loop-link l =
-    are_plain_links l.width (map link_view (drop l.link-index l.links)) ≡ are_plain_links l.width (map link_view l.links)
+    are_plain_links (map link_view (drop l.link-index l.links)) ≡ are_plain_links (map link_view l.links)

@@ -1,6 +1,6 @@
 use Rattle.std.proofs.Common.{◌≡◌, drop, map}
 use Rattle.bg_ast.specs.Views.{declared_of}
-use Rattle.bg_fits.specs.Fits.{are_bools}
+use Rattle.bg_fits.specs.Straight.{are_bools}
 use Rattle.bg_fits.proofs.types.are_bools.Given as goal
 
 abbrev pub invariant-loop-d : goal.invariant-loop-d

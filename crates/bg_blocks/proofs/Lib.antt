@@ -1,0 +1,13 @@
+pub mod Undoing
+pub mod Where
+pub mod Emission
+pub mod Soundness
+pub mod Wheres
+pub mod Called
+pub mod Jumped
+pub mod Branching
+pub mod TakenBack
+pub mod Bodies
+pub mod Sizes
+pub mod Wholes
+pub mod Forms

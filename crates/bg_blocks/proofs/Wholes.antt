@@ -1,0 +1,105 @@
+-- The blocks of an implementation: a body between the first and the last one.
+use Rattle.std.proofs.Common.{◌≡◌, ℕ, suc, ◌+◌, ◌-◌, List, [], ◌∷◌, ◌++◌, length, map, None, unwrap_or, refl, sym, ap, ◌∙◌, subst, arith}
+use Rattle.std.specs.Prelude.{reverse}
+use Rattle.std.proofs.lemmas.List.{length-append, length-map, map-append, reverse-append}
+use Rattle.bg_ast.specs.Syntax as s
+use Rattle.bg_ast.specs.Resolved as r
+use Rattle.bg_ast.specs.Meaning.{meaning_of, named_of, decl_of, sts_of, impl_of, proc_of}
+use Rattle.bg_ast.specs.Execution.{AtReturn}
+use Rattle.bg_ast.specs.Views as v
+use Rattle.bg_ast.specs.declared.resolved.Procedure.{Procedure}
+use Rattle.bg_ast.specs.declared.resolved.Implementation.{Implementation}
+use Rattle.bg_ast.specs.declared.resolved.Stmt.{Stmt}
+use Rattle.bg_sense.specs.Variables.{wheres_of}
+use Rattle.bg_calls.specs.Core.{Core, Saying, Demand, Routine, demands, sayings, each_one, plain, desugar, frame_decls, routine_of}
+use Rattle.bg_flow.specs.Blocks.{Block, code, to_closing, blocks_of}
+use Rattle.bg_blocks.specs.declared.block.Block as whole
+use Rattle.bg_blocks.specs.declared.emit.Emitted as emitted
+use Rattle.bg_blocks.specs.Marks.{Marked, key}
+use Rattle.bg_blocks.specs.MarkViews.{marked}
+use Rattle.bg_blocks.specs.Views.{clauses_in, block_of}
+use Rattle.bg_blocks.specs.Emitted.{State, IsBounded, where_in, pushed, Emits}
+use Rattle.bg_blocks.specs.EmittedViews.{state_of, IsSound, frame_of}
+use Rattle.bg_blocks.specs.Whole.{AreBlocks}
+use Rattle.bg_blocks.proofs.Where.{same_places}
+use Rattle.bg_blocks.proofs.Soundness.{bounded_sound}
+use Rattle.bg_blocks.proofs.Wheres.{no_wheres}
+
+-- where nothing was marked each point lies at the last block
+first_places : (b : Block) (s0 : State) → s0.blocks ≡ [] → s0.marks ≡ (λ k. None) → where_in (pushed b s0) ≡ to_closing
+first_places b s0 none unmarked =
+    same_places _ _ (λ q. ap (λ l. suc (length l) - unwrap_or (s0.marks (key q)) 1) none ∙ ap (λ (f : Marked). 1 - unwrap_or (f (key q)) 1) unmarked)
+
+first_bounded : (b : Block) (s0 : State) → s0.marks ≡ (λ k. None) → IsBounded (pushed b s0)
+first_bounded b s0 unmarked k = let at = ap (λ (f : Marked). unwrap_or (f k) 1) unmarked in omega (arith, at)
+
+-- the last block is sound
+pub first_sound : (p : r.Program) (b : Block) (e0 e1 : emitted.Emitted) → marked e0.marks ≡ (λ k. None) → state_of p e1 ≡ pushed b (state_of p e0) → IsSound e1
+first_sound p b e0 e1 unmarked is = bounded_sound p e1 (subst IsBounded (sym is) (first_bounded b (state_of p e0) unmarked))
+
+pub emits_whole : (p : r.Program) (core : Core) (a b : Block) (e0 e1 e2 e3 : emitted.Emitted) → (state_of p e0).blocks ≡ [] → marked e0.marks ≡ (λ k. None) →
+    state_of p e1 ≡ pushed b (state_of p e0) → Emits core (state_of p e1) (state_of p e2) → state_of p e3 ≡ pushed a (state_of p e2) →
+    (state_of p e3).blocks ≡ a ∷ ((code core to_closing).blocks ++ (b ∷ []))
+emits_whole p core a b e0 e1 e2 e3 none unmarked first x last =
+    let places : where_in (state_of p e1) ≡ to_closing = ap where_in first ∙ first_places b (state_of p e0) none unmarked in
+    let start : (state_of p e1).blocks ≡ b ∷ [] = ap (λ (t : State). t.blocks) first ∙ ap (λ l. b ∷ l) none in
+    ap (λ (t : State). t.blocks) last
+    ∙ ap (λ l. a ∷ l) (x.blocks ∙ (ap (λ w. (code core w).blocks ++ (state_of p e1).blocks) places ∙ ap (λ l. (code core to_closing).blocks ++ l) start))
+
+-- the variables of a frame: parameters, results and locals
+abbrev pub frame_in : Implementation → Procedure → List r.Declared
+frame_in m q = map v.declared_of q.params.items ++ (map v.declared_of q.results.items ++ map v.declared_of m.locals.items)
+
+pub frame_length : (m : Implementation) (q : Procedure) → length (frame_in m q) ≡ length q.params.items + (length q.results.items + length m.locals.items)
+frame_length m q =
+    length-append (map v.declared_of q.params.items) (map v.declared_of q.results.items ++ map v.declared_of m.locals.items)
+    ∙ (ap (λ n. n + length (map v.declared_of q.results.items ++ map v.declared_of m.locals.items)) (length-map q.params.items v.declared_of)
+    ∙ ap (λ n. length q.params.items + n) (length-append (map v.declared_of q.results.items) (map v.declared_of m.locals.items)
+    ∙ (ap (λ n. n + length (map v.declared_of m.locals.items)) (length-map q.results.items v.declared_of)
+    ∙ ap (λ n. length q.results.items + n) (length-map m.locals.items v.declared_of))))
+
+frame_same : (p : r.Program) (m : Implementation) (q : Procedure) → frame_of p (frame_in m q) ≡ frame_decls (impl_of (named_of p.types) (v.impl_of m)) (proc_of (named_of p.types) (v.proc_of q))
+frame_same p m q =
+    let d = decl_of (named_of p.types) in
+    let a = map v.declared_of q.params.items in
+    let b = map v.declared_of q.results.items in
+    let c = map v.declared_of m.locals.items in
+    map-append d a (b ++ c) ∙ ap (λ l. map d a ++ l) (map-append d b c)
+
+-- no declaration of a global or of the frame says more than a type
+nothing_given : (p : r.Program) (rs : List r.Declared) → wheres_of ((meaning_of p).globals ++ frame_of p rs) ≡ []
+nothing_given p rs =
+    let d = decl_of (named_of p.types) in
+    ap wheres_of (sym (map-append d p.globals rs)) ∙ no_wheres (named_of p.types) (p.globals ++ rs)
+
+abbrev routine_in : r.Program → ℕ → List s.Decl → s.St → List Saying → List Demand → Routine
+routine_in p number ds body given wanted = record { given = given; body = desugar (meaning_of p) ds body; wanted = wanted }
+
+-- what is assumed at first is what the procedure requires
+pub routine_same : (p : r.Program) (number : ℕ) (m : Implementation) (q : Procedure) →
+    blocks_of (record { given = sayings each_one (clauses_in q.requires_.items); body = desugar (meaning_of p) (frame_of p (frame_in m q)) (sts_of (v.sts_in m.body.items)); wanted = demands (AtReturn number) (clauses_in q.ensures_.items) })
+    ≡ blocks_of (routine_of (meaning_of p) number (impl_of (named_of p.types) (v.impl_of m)) (proc_of (named_of p.types) (v.proc_of q)))
+routine_same p number m q =
+    let rs = frame_in m q in
+    let body = sts_of (v.sts_in m.body.items) in
+    let says = sayings each_one (clauses_in q.requires_.items) in
+    let wanted = demands (AtReturn number) (clauses_in q.ensures_.items) in
+    ap (λ es. blocks_of (routine_in p number (frame_of p rs) body (plain es says) wanted)) (sym (nothing_given p rs))
+    ∙ ap (λ ds. blocks_of (routine_in p number ds body (plain (wheres_of ((meaning_of p).globals ++ ds)) says) wanted)) (frame_same p m q)
+
+map_reverse : {A B : Type 0} (f : A → B) (xs : List A) → map f (reverse xs) ≡ reverse (map f xs)
+map_reverse f [] = refl
+map_reverse f (x ∷ xs) = ap (map f) (reverse-append (x ∷ []) xs) ∙ (map-append f (reverse xs) (x ∷ []) ∙ (ap (λ l. l ++ f x ∷ []) (map_reverse f xs) ∙ sym (reverse-append (f x ∷ []) (map f xs))))
+
+-- the blocks from the first one on
+pub reversed_whole : (p : r.Program) (number : ℕ) (m : Implementation) (q : Procedure) (e : emitted.Emitted) (made : List whole.Block) (body : List Stmt) → made ≡ reverse e.blocks.items → body ≡ m.body.items →
+    (state_of p e).blocks ≡ blocks_of (record { given = sayings each_one (clauses_in q.requires_.items); body = desugar (meaning_of p) (frame_of p (frame_in m q)) (sts_of (v.sts_in body)); wanted = demands (AtReturn number) (clauses_in q.ensures_.items) }) →
+    AreBlocks p number (v.impl_of m) (v.proc_of q) made
+reversed_whole p number m q e made body is b h =
+    let says = sayings each_one (clauses_in q.requires_.items) in
+    let wanted = demands (AtReturn number) (clauses_in q.ensures_.items) in
+    ap (map (block_of p)) is
+    ∙ (map_reverse (block_of p) e.blocks.items
+    ∙ (h
+    ∙ (ap (λ l. blocks_of (routine_in p number (frame_of p (frame_in m q)) (sts_of (v.sts_in l)) says wanted)) b
+    ∙ routine_same p number m q)))
