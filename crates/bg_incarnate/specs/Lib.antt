@@ -1,0 +1,4 @@
+pub mod Views
+pub mod Arrived
+pub mod Walked
+pub mod Even
