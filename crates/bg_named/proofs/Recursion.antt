@@ -1,7 +1,7 @@
 -- Functions of a program without faults of names and without recursion do not recur.
-use Rattle.std.proofs.Common.{◌≡◌, ℕ, ◌<◌, List, [], ◌∷◌, map, flat_map, length, Option, Some, None, refl, sym, ap, ◌∙◌, subst, arith}
+use Rattle.std.proofs.Common.{◌≡◌, ℕ, ◌<◌, List, [], ◌∷◌, ◌≤◌, map, flat_map, length, Option, Some, None, refl, sym, ap, ◌∙◌, subst, arith}
 use Rattle.std.specs.Prelude.{Contains, slice_get}
-use Rattle.std.proofs.lemmas.List.{length-map}
+use Rattle.std.proofs.lemmas.List.{length-map, map-append}
 use Rattle.std.proofs.lemmas.Option.{slice_get-map, get_or_from_slice_get}
 use Rattle.std.specs.Option.{option_map}
 use Rattle.bg_text.specs.Trees as t
@@ -10,22 +10,33 @@ use Rattle.bg_text.specs.Views.{option_of}
 use Rattle.bg_ast.specs.Syntax as x
 use Rattle.bg_ast.specs.Resolved as r
 use Rattle.bg_ast.specs.Meaning as m
-use Rattle.bg_graph.specs.Graphs.{Graph, IsEdge, IsAcyclic, targets}
+use Rattle.bg_graph.specs.Graphs.{Graph, IsEdge, IsGraph, IsAcyclic, targets}
 use Rattle.bg_names.specs.Spaces.{names_of, repeats}
 use Rattle.bg_names.specs.Exprs.{named_ex}
-use Rattle.bg_spaces.specs.Declarations.{Spaces, spaces_of, function_ids}
+use Rattle.bg_spaces.specs.Declarations.{Spaces, spaces_of, function_ids, function_ids_of}
 use Rattle.bg_resolve.specs.Program.{body_faults, function_scope, function_faults, decl_faults, plain_faults, named_function, named_functions, named}
 use Rattle.bg_resolve.specs.Resolves.{Recursion}
-use Rattle.bg_resolve.specs.Calls.{funs_of, functions_in, body_calls, calls_of, calls_in, IsRecursion}
+use Rattle.bg_resolve.specs.Calls.{fun_id, funs_of, functions_in, body_calls, calls_of, calls_in, IsRecursion}
 use Rattle.bg_resolve.specs.Calls.IsRecursion.{never}
-use Rattle.bg_resolve.proofs.Recursions.{funs-ids, calls-graph}
 use Rattle.bg_sense.specs.Recursion.{AppliesBelow, HasNoRecursion}
-use Rattle.bg_typed.proofs.Depth.{ranks}
 use Rattle.bg_named.proofs.SpacesOnce.{empty_parts, functions_once}
 use Rattle.bg_named.proofs.SpacesEntries.{each_append, each_at}
 use Rattle.bg_named.proofs.SpacesNumbers.{get_small, made_from, are_once}
 use Rattle.bg_named.proofs.ProgramsEach.{each_from, once_of}
 use Rattle.bg_named.proofs.RecursionCalls.{Below, ex_below}
+
+function_ids_are : (d : t.Decl) → map fun_id (funs_of d) ≡ function_ids_of d
+function_ids_are (t.Types p attrs ds) = refl
+function_ids_are (t.Constants c) = refl
+function_ids_are (t.Function f) = refl
+function_ids_are (t.Axiom p attrs e) = refl
+function_ids_are (t.Globals v) = refl
+function_ids_are (t.Procedure q) = refl
+function_ids_are (t.Implementation i) = refl
+
+all_function_ids : (ds : List t.Decl) → map fun_id (flat_map funs_of ds) ≡ function_ids ds
+all_function_ids [] = refl
+all_function_ids (d ∷ ds) = map-append fun_id (funs_of d) (flat_map funs_of ds) ∙ rw (function_ids_are d, all_function_ids ds) refl
 
 only_never : (names : List (List ℕ)) (ds : List t.Decl) → IsRecursion names ds [] → IsAcyclic (calls_in names ds)
 only_never names ds (never h) = h
@@ -61,7 +72,7 @@ module _ (ds : List t.Decl) (h : plain_faults ds ≡ []) where
 
   numbered_once : functions_in ds ≡ flat_map funs_of ds
   numbered_once =
-      functions_once [] (flat_map funs_of ds) (ap (repeats []) (funs-ids ds) ∙ (are_once ds (once_of ds h)).functions)
+      functions_once [] (flat_map funs_of ds) (ap (repeats []) (all_function_ids ds) ∙ (are_once ds (once_of ds h)).functions)
 
   graph_is : calls_in (names_of (function_ids ds)) ds ≡ map (calls_of (names_of (function_ids ds))) (flat_map funs_of ds)
   graph_is = ap (map (calls_of (names_of (function_ids ds)))) numbered_once
@@ -110,15 +121,19 @@ module _ (ds : List t.Decl) (h : plain_faults ds ≡ []) where
       let meant = length-map (named ds).functions (m.fun_of (m.named_of (named ds).types)) in
       omega (arith, nodes, calls, named_, each, meant)
 
-pub no_recursion : (ds : List t.Decl) → plain_faults ds ≡ [] → Recursion ds [] → HasNoRecursion (m.meaning_of (named ds))
-no_recursion ds h never_recurs =
+-- each call goes to a function, and an acyclic graph has ranks
+pub no_recursion :
+    ((ds : List t.Decl) → IsGraph (calls_in (names_of (function_ids ds)) ds)) →
+    ((g : Graph) → IsAcyclic g → (rank : ℕ → ℕ) × ((f t : ℕ) → IsEdge g f t → rank t < rank f) × ((f : ℕ) → rank f ≤ length g) × (IsGraph g → (f : ℕ) → f < length g → rank f < length g)) →
+    (ds : List t.Decl) → plain_faults ds ≡ [] → Recursion ds [] → HasNoRecursion (m.meaning_of (named ds))
+no_recursion goes ranks ds h never_recurs =
     let order = ranks (calls_in (names_of (function_ids ds)) ds) (only_never (names_of (function_ids ds)) ds never_recurs) in
     let long = graph_long ds h in
     record {
       rank = order.0;
       is_place = λ f fn e.
           (let lt = get_small (m.meaning_of (named ds)).functions f fn e in
-          let below = order.3 (calls-graph ds) f (omega (arith, lt, long)) in
+          let below = order.3 (goes ds) f (omega (arith, lt, long)) in
           omega (arith, below, long));
       falls = applies ds h order.0 order.1;
     }

@@ -63,4 +63,7 @@ pub fn resolved_programs_are_named()
 /// Where there is no fault of recursion either, no function's body reaches the function.
 pub fn functions_do_not_recur()
     ensures { (ds : List t.Decl) → plain_faults ds ≡ [] → Recursion ds [] → HasNoRecursion (meaning_of (named ds)) }
-{}
+{
+    bg_resolve::laws::calls_go_to_functions();
+    bg_typed::laws::an_acyclic_graph_has_ranks();
+}

@@ -1,5 +1,10 @@
 //! What holds of faults.
 ghost use Rattle.std.specs.Prelude.{◌≡◌, List, [], Some, None, ◌∷◌};
+ghost use Rattle.bg_text.specs.Trees as t;
+ghost use Rattle.bg_graph.specs.Graphs.{IsGraph};
+ghost use Rattle.bg_names.specs.Spaces.{names_of};
+ghost use Rattle.bg_spaces.specs.Declarations.{function_ids};
+ghost use Rattle.bg_resolve.specs.Calls.{calls_in};
 ghost use Rattle.bg_names.specs.Faults.{Fault, better, fault, IsFirst};
 ghost use Rattle.bg_names.specs.declared.error.FaultKind.TheVariants.{UnknownName, Duplicate, AssignsInput, NotModified, BadTarget, BadOld, UnnamedArgument};
 ghost use Rattle.bg_bodies.specs.Bodies.{break_word};
@@ -24,4 +29,9 @@ pub fn faults_of_small_texts()
     ensures old { first_fault old_axiom ≡ Some (fault BadOld (at 7) []) }
     ensures cyclic { first_fault synonym ≡ None }
     ensures arity { first_fault two_values ≡ None }
+{}
+
+/// Each call in the body of a function goes to a function of the program.
+pub fn calls_go_to_functions()
+    ensures { (ds : List t.Decl) → IsGraph (calls_in (names_of (function_ids ds)) ds) }
 {}

@@ -1,6 +1,8 @@
 -- A program without faults of names and types is typed.
-use Rattle.std.proofs.Common.{◌≡◌, ℕ, true, [], ◌++◌, map, Option, Some, slice_get, slice_index_or, All, refl, ap, subst}
+use Rattle.std.proofs.Common.{◌≡◌, ℕ, true, List, [], ◌++◌, map, Option, Some, slice_get, slice_index_or, All, refl, ap, ◌∙◌, subst}
 use Rattle.std.proofs.lemmas.List.Elements.{All-map}
+use Rattle.std.proofs.lemmas.Option.{slice_get-map}
+use Rattle.std.specs.Option.{option_map}
 use Rattle.bg_ast.specs.Values as v
 use Rattle.bg_ast.specs.Syntax as x
 use Rattle.bg_ast.specs.Resolved as r
@@ -13,13 +15,15 @@ use Rattle.bg_typing.specs.Sides.{Shape, Scope, matched_faults}
 use Rattle.bg_typing.specs.Stmts.{truths_faults, clauses_faults, sts_faults}
 use Rattle.bg_types.specs.Programs.{declared_kinds, function_shape, procedure_shape, written_faults, declared_faults, shape_faults, functions_faults, two_lists_faults, procedures_faults, frame_faults, implementations_faults, frame_kinds, scope_in, with_frame, without_globals, body_faults, bodies_faults, specification_faults, specifications_faults, declared_sides, matching_faults, implementation_faults, impls_faults, types_part, bodies_part}
 use Rattle.bg_types.specs.Verdicts.{IsWellTyped}
-use Rattle.bg_types.proofs.Same.{slice_get_map}
 use Rattle.bg_typed.specs.Programs.{IsNamedFunction, IsNamedProcedure, IsNamedImplementation, IsNamedProgram, around_in, procedure_in, axiom_sig, requires_sig, ensures_sig}
 use Rattle.bg_typed.proofs.Bits.{split_none}
 use Rattle.bg_typed.proofs.Declared.{frame_is, short_frame_is, declared_are, written_are, matched_same}
 use Rattle.bg_typed.proofs.Declarations.{all_at, each_at, no_wheres, plain_formulas, plain_clauses, said_clauses, IsTypedBody, function_typed}
 use Rattle.bg_typed.proofs.Fitting.{HasTypes, has_types, matches_frame, matches_axioms, matches_body, matches_around}
 use Rattle.bg_typed.proofs.Statements.{sts_typed}
+
+slice_get_map : {A B : Type 0} (f : A → B) (xs : List A) (i : ℕ) (x : A) → slice_get xs i ≡ Some x → slice_get (map f xs) i ≡ Some (f x)
+slice_get_map f xs i x h = slice_get-map f xs i ∙ ap (option_map f) h
 
 module _ (named : ℕ → Kind) (p : r.Program) (t : HasTypes named p) where
   abbrev n : ℕ → v.Ty
