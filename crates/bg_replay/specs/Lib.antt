@@ -1,0 +1,9 @@
+pub mod Truths
+pub mod Moments
+pub mod Views
+pub mod Said
+pub mod Acts
+pub mod Ways
+pub mod Kept
+pub mod Endings
+pub mod Over

@@ -1,0 +1,126 @@
+//! Calls.
+ghost use Rattle.std.specs.Prelude.{◌≡◌, Some, map, length, IfOk};
+ghost use Rattle.bg_ast.specs.Meaning as m;
+ghost use Rattle.bg_ast.specs.Execution.{AtCall};
+ghost use Rattle.bg_ast.specs.Views.{type_of, declared_of, exs_in, placed_of, var_of};
+ghost use Rattle.bg_calls.specs.Core.{demands, sayings, each_one};
+ghost use Rattle.bg_blocks.specs.Views.{clauses_in};
+ghost use Rattle.bg_replay.specs.Acts.{chosen, called, called_with, given_back};
+ghost use Rattle.bg_replay.specs.Said.{on_said};
+ghost use Rattle.bg_replay.specs.Ways as ways;
+ghost use Rattle.bg_replay.specs.Views.{moment_of, around_of, said_of};
+
+use crate::choice::{Ending, Step};
+use crate::clauses::{check, suppose};
+use crate::moment::{Around, Moment, forget, put_taken, rest_of, seen};
+use crate::sight::Sight;
+use crate::values::{append, chosen, copied, values};
+use bg_ast::resolved::{Call, Declared, Procedure, Variable, WrittenType};
+use bg_blocks::Kept;
+use bg_places::Group;
+use std::alloc::AllocError;
+
+/// Whether a type is `bool`, perhaps in parentheses.
+#[cycle(is_bool)]
+fn is_bool(ty: &WrittenType) -> bool
+    ensures { result ≡ ways.is_bool (type_of ty.now) }
+{
+    match ty {
+        WrittenType::Bool(_) => true,
+        WrittenType::Parens(_, inner) => is_bool(inner),
+        WrittenType::Int(_) => false,
+        WrittenType::Declared(_, _) => false,
+        WrittenType::Map(_, _) => false,
+    }
+}
+
+/// Whether each is declared as `bool`.
+pub fn are_bools(declared: &[Declared]) -> bool
+    ensures { result ≡ ways.are_bools (map declared_of declared.now) }
+{
+    for d in declared {
+        if !is_bool(&d.ty) {
+            return false;
+        }
+    }
+    true
+}
+
+/// The end of a call with these arguments, which began with these globals: the results are chosen.
+fn give_back(
+    around: Around<'_>,
+    moment: &mut Moment<'_>,
+    k: &Call,
+    q: &Procedure,
+    was: &[bool],
+    args: Vec<bool>,
+) -> Result<Step, AllocError>
+    ensures { IfOk result (λ step. on_said (said_of step) (moment_of moment.new) ≡ given_back (chosen (length q.now.results.items) (moment_of moment.old).choices) (around_of around.entry) was.now args.items (sayings each_one (clauses_in q.now.ensures_.items)) (map m.variable_of (map placed_of k.now.takes.items)) (moment_of moment.old)) }
+{
+    let mut frame = args;
+    let Some(results) = chosen(around.alloc, moment.left, &q.results)? else {
+        return Ok(Step::Over(Ending::BadChoice));
+    };
+    moment.left = rest_of(moment.left, results.len());
+    append(&mut frame, &results)?;
+    let sight = Sight {
+        globals: &moment.globals,
+        before: was,
+        frame: &frame,
+    };
+    match suppose(around.set, sight, Kept::Each, &q.ensures_) {
+        Step::Over(e) => Ok(Step::Over(e)),
+        Step::Goes => {
+            put_taken(moment, &k.takes, &results);
+            Ok(Step::Goes)
+        }
+    }
+}
+
+/// A call with these arguments.
+#[tactic(auto, using(crate::proofs::Plans::so_over))]
+fn call_with(
+    around: Around<'_>,
+    moment: &mut Moment<'_>,
+    k: &Call,
+    q: &Procedure,
+    modifies: &[Variable],
+    args: Vec<bool>,
+) -> Result<Step, AllocError>
+    ensures { IfOk result (λ step. on_said (said_of step) (moment_of moment.new) ≡ called_with (Some args.items) (around_of around.entry) (demands (AtCall k.now.site) (clauses_in q.now.requires_.items)) (map var_of modifies.now) (length q.now.results.items) (sayings each_one (clauses_in q.now.ensures_.items)) (map m.variable_of (map placed_of k.now.takes.items)) (moment_of moment.old)) }
+{
+    let sight = Sight {
+        globals: &moment.globals,
+        before: &moment.globals,
+        frame: &args,
+    };
+    match check(around.set, sight, Group::Call(k.site), &q.requires_) {
+        Step::Over(e) => return Ok(Step::Over(e)),
+        Step::Goes => {}
+    }
+    let was = copied(around.alloc, &moment.globals)?;
+    match forget(around, moment, modifies) {
+        Step::Over(e) => return Ok(Step::Over(e)),
+        Step::Goes => {}
+    }
+    give_back(around, moment, k, q, &was, args)
+}
+
+/// A call of the procedure, which modifies these globals.
+pub fn call(
+    around: Around<'_>,
+    moment: &mut Moment<'_>,
+    k: &Call,
+    q: &Procedure,
+    modifies: &[Variable],
+) -> Result<Step, AllocError>
+    ensures { IfOk result (λ step. on_said (said_of step) (moment_of moment.new) ≡ called (ways.are_bools (map declared_of q.now.results.items)) (around_of around.entry) (m.exs_of (exs_in k.now.args.items)) (demands (AtCall k.now.site) (clauses_in q.now.requires_.items)) (map var_of modifies.now) (length q.now.results.items) (sayings each_one (clauses_in q.now.ensures_.items)) (map m.variable_of (map placed_of k.now.takes.items)) (moment_of moment.old)) }
+{
+    if !are_bools(&q.results) {
+        return Ok(Step::Over(Ending::NotTruths));
+    }
+    let Some(args) = values(around.alloc, seen(around, moment), &k.args)? else {
+        return Ok(Step::Over(Ending::NotTruths));
+    };
+    call_with(around, moment, k, q, modifies, args)
+}

@@ -1,0 +1,94 @@
+//! Runs of blocks.
+ghost use Rattle.std.specs.Prelude.{◌≡◌, [], ◌∷◌, IfOk};
+ghost use Rattle.bg_ast.specs.Meaning as m;
+ghost use Rattle.bg_ast.specs.Views.{program_of, guard_of};
+ghost use Rattle.bg_blocks.specs.Views.{exit_of};
+ghost use Rattle.bg_replay.specs.Acts.{moved};
+ghost use Rattle.bg_replay.specs.Ways.{branched, branch_to, decided, leaves, runs};
+ghost use Rattle.bg_flow.specs.Blocks.{Leap};
+ghost use Rattle.bg_replay.specs.Views.{moment_of, around_of, said_by, way_of};
+
+use crate::choice::{Ending, Step, Way};
+use crate::command::commands;
+use crate::moment::{Around, Moment, rest_of, seen, take_branch};
+use crate::sight::truth;
+use bg_ast::resolved::Guard;
+use bg_blocks::{Block, Exit};
+use std::alloc::AllocError;
+
+/// The branch that is chosen next, of these.
+fn branch(moment: &mut Moment<'_>, ks: &[usize]) -> Way
+    ensures { way_of result (moment_of moment.new) ≡ branch_to (branched (moment_of moment.old).choices) ks.now (moved (moment_of moment.old)) }
+{
+    match take_branch(moment) {
+        None => Way::Over(Ending::BadChoice),
+        Some(j) => match ks.get(j as usize) {
+            None => Way::Over(Ending::BadChoice),
+            Some(k) => Way::To(*k),
+        },
+    }
+}
+
+/// A guard decides between two ways.
+fn decide(around: Around<'_>, moment: &mut Moment<'_>, guard: &Guard, on: usize, off: usize) -> Way
+    ensures { way_of result (moment_of moment.new) ≡ decided (around_of around.entry) (m.guard_of (guard_of guard.now)) on off (moment_of moment.old) }
+{
+    match guard {
+        Guard::Star => branch(moment, &[on, off]),
+        Guard::Test(e) => match truth(seen(around, moment), e) {
+            None => Way::Over(Ending::NotTruths),
+            Some(true) => Way::To(on),
+            Some(false) => Way::To(off),
+        },
+    }
+}
+
+/// One of these blocks, or the next one where there are none.
+#[tactic(auto, using(crate::proofs::Runs::leap_forms))]
+fn leap(around: Around<'_>, moment: &mut Moment<'_>, ks: &[usize]) -> Way
+    ensures { way_of result (moment_of moment.new) ≡ leaves (around_of around.entry) (Leap ks.now) (moment_of moment.old) }
+{
+    match ks.split_first() {
+        None => Way::To(0),
+        Some((k, more)) => {
+            if more.is_empty() {
+                Way::To(*k)
+            } else {
+                branch(moment, ks)
+            }
+        }
+    }
+}
+
+/// Where a block leads.
+fn leave(around: Around<'_>, moment: &mut Moment<'_>, exit: &Exit<'_>) -> Way
+    ensures { way_of result (moment_of moment.new) ≡ leaves (around_of around.entry) (exit_of exit.now) (moment_of moment.old) }
+{
+    match exit {
+        Exit::Leap(ks) => leap(around, moment, ks),
+        Exit::Either(guard, on, off) => decide(around, moment, guard, *on, *off),
+    }
+}
+
+/// The run of blocks, from the first one.
+#[tactic(auto, using(crate::proofs::Runs::run_forms))]
+pub fn run(
+    around: Around<'_>,
+    moment: &mut Moment<'_>,
+    blocks: &[Block<'_>],
+) -> Result<Ending, AllocError>
+    ensures { IfOk result (λ ending. said_by ending ≡ runs (program_of around.entry.program.now) (around_of around.entry) 0 blocks.now (moment_of moment.old)) }
+{
+    let mut rest = blocks;
+    while let Some((b, after)) = rest.split_first() {
+        match commands(around, moment, &b.cmds)? {
+            Step::Over(e) => return Ok(e),
+            Step::Goes => {}
+        }
+        match leave(around, moment, &b.exit) {
+            Way::Over(e) => return Ok(e),
+            Way::To(k) => rest = rest_of(after, k),
+        }
+    }
+    Ok(Ending::Ended)
+}
