@@ -1,0 +1,13 @@
+pub mod Meaning
+pub mod Failing
+pub mod Emitting
+pub mod Below
+pub mod Backward
+pub mod Valuing
+pub mod Locals
+pub mod Forward
+pub mod Wholes
+pub mod Alike
+pub mod Emits
+pub mod Chains
+pub mod ChainForms

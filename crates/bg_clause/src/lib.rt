@@ -1,0 +1,13 @@
+//! Clauses that say that the entry block of an implementation is not well for a target, over truth values.
+#![tactic(auto)]
+
+mod emit;
+mod fits;
+mod fitting;
+mod form;
+mod formed;
+pub mod laws;
+
+pub use fits::fits_ex;
+pub use fitting::fit_blocks;
+pub use form::{Form, any_of, both_of, denied, is_true};
