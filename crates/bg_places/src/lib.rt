@@ -8,4 +8,4 @@ mod program;
 mod stmts;
 
 pub use place::{Group, Place, Spot, spot_at};
-pub use program::places;
+pub use program::{places, places_of};

@@ -1,5 +1,6 @@
 //! The places of a program.
-ghost use Rattle.std.specs.Prelude.{◌≡◌, ◌++◌, map, IfOk, OnOk};
+ghost use Rattle.std.specs.Prelude.{◌≡◌, ◌++◌, Some, map, IfOk, OnOk, slice_get};
+ghost use Rattle.bg_ast.specs.Resolved as r;
 ghost use Rattle.bg_ast.specs.Views.{program_of, proc_of, impl_of};
 ghost use Rattle.bg_places.specs.Placed.{placed, placed_impl};
 ghost use Rattle.bg_places.specs.Views.{placed_in};
@@ -45,4 +46,30 @@ pub fn places(alloc: Global, program: &Resolved) -> Result<Vec<Place>, AllocErro
         )?;
     }
     Ok(made)
+}
+
+/// The places of an implementation of these procedures.
+fn listed(
+    alloc: Global,
+    procedures: &[Procedure],
+    number: usize,
+    m: &Implementation,
+) -> Result<Vec<Place>, AllocError>
+    ensures { IfOk result (λ made. placed_in made.items ≡ placed_impl (map proc_of procedures.now) number (impl_of m.now)) }
+{
+    let mut made = Vec::new(alloc);
+    push_implementation(&mut made, procedures, number, m)?;
+    Ok(made)
+}
+
+/// The places of the implementation with this number, in their order; none where there is no such implementation.
+///
+/// Only want of memory is an error.
+pub fn places_of(alloc: Global, program: &Resolved, number: usize) -> Result<Vec<Place>, AllocError>
+    ensures { IfOk result (λ made. (m : r.Impl) → slice_get (program_of program.now).implementations number ≡ Some m → placed_in made.items ≡ placed_impl (program_of program.now).procedures number m) }
+{
+    match program.implementations.get(number) {
+        None => Ok(Vec::new(alloc)),
+        Some(m) => listed(alloc, &program.procedures, number, m),
+    }
 }
