@@ -59,7 +59,7 @@ module _ (incs : List Ty) (c : Ctx) (t : Spot) (Tb : Table) where
   suppose_back x true p R f e next h = subst (λ b. Fails (if b then f else Over Blocked)) e (next h)
   suppose_back x false p R f e next h = absurd h
 
-  checks_back : (sees : World → Scope) (v : Env) (ds : List Demand) (w : World) (V : List Val) → seen c V v ≡ sees w → (L : World → Flow) (R : Type 0) → (R → Fails (L w)) → Hits (walk V (claims_in v ds)) R → Fails (and_then (check_these c sees ds w) L)
+  pub checks_back : (sees : World → Scope) (v : Env) (ds : List Demand) (w : World) (V : List Val) → seen c V v ≡ sees w → (L : World → Flow) (R : Type 0) → (R → Fails (L w)) → Hits (walk V (claims_in v ds)) R → Fails (and_then (check_these c sees ds w) L)
   checks_back sees v [] w V q L R next h = next h
   checks_back sees v (d ∷ ds) w V q L R next h =
       ap (enter Tb index) (then_assoc (check_that c sees d w) (check_these c sees ds) L ∙ checked c.set d.candidate (truth_of (ev d.says (sees w))) d.spot w (λ u. and_then (check_these c sees ds u) L))
@@ -79,7 +79,7 @@ module _ (incs : List Ty) (c : Ctx) (t : Spot) (Tb : Table) where
       on true q g = (g, val_eq_true (value_at V j) (ev e (values c V)) q)
       on false q g = absurd g
 
-  sets_off : (V : List Val) (es : Exs) (m : ℕ) (v : Env) (R : Type 0) → Hits (walk V (set_to m es v)) R → R × (map (value_at V) (each_ex m es) ≡ evs es (seen c V v))
+  pub sets_off : (V : List Val) (es : Exs) (m : ℕ) (v : Env) (R : Type 0) → Hits (walk V (set_to m es v)) R → R × (map (value_at V) (each_ex m es) ≡ evs es (seen c V v))
   sets_off V NoMore m v R h = (h, refl)
   sets_off V (More e es) m v R h =
       let a = worth_off V m (rename e v) (set_to (suc m) es v) R h in
@@ -182,7 +182,7 @@ module _ (incs : List Ty) (c : Ctx) (t : Spot) (Tb : Table) where
             ap (enter Tb index) (then_assoc (forget_all c k.modifies w0) chosen L)
             ∙ forget_back k.modifies n1 v w got V f.1 h m (λ u. and_then (chosen u) L) (λ u m2. results_back k.results n2 u rest V stored f.2 h L (after_results r u m2))
 
-    cmd_back : (k : Cmd) (v : Env) (n : ℕ) (w : World) (rest : List Choice) (V : List Val) → FitsCmd incs tys k n → are_of incs V ≡ true → Met c V v w.globals w.frame → (L : World → Flow) (R : Type 0) → (R → (u : World) → Met c V (pass k v n).env u.globals u.frame → Fails (L (with_choices u rest))) → Hits (walk V (pass k v n).cmds) R → Fails (and_then (act c k (with_choices w (cmd_choices k n V ++ rest))) L)
+    pub cmd_back : (k : Cmd) (v : Env) (n : ℕ) (w : World) (rest : List Choice) (V : List Val) → FitsCmd incs tys k n → are_of incs V ≡ true → Met c V v w.globals w.frame → (L : World → Flow) (R : Type 0) → (R → (u : World) → Met c V (pass k v n).env u.globals u.frame → Fails (L (with_choices u rest))) → Hits (walk V (pass k v n).cmds) R → Fails (and_then (act c k (with_choices w (cmd_choices k n V ++ rest))) L)
     cmd_back (Check ds) v n w rest V f h m L R next x =
         checks_back (scope c) v ds (with_choices w rest) V (met_scope c V v w m) L R (λ r. next r w m) x
     cmd_back (Suppose ds) v n w rest V f h m L R next x =
@@ -251,7 +251,7 @@ module _ (incs : List Ty) (c : Ctx) (t : Spot) (Tb : Table) where
             let le = r.0 in
             (omega arith, r.1, r.2, r.3)
 
-        exit_back : (x : Exit) (v : Env) (n : ℕ) (w : World) (choices : List ℕ) → FitEach incs v n later (targets_of x) → Met c V v w.globals w.frame → follow c.set t (values c V) (behind V) (edges v later x) choices ≡ true → Fails (leave c x (with_choices w (follow_choices chosen_behind x choices)))
+        pub exit_back : (x : Exit) (v : Env) (n : ℕ) (w : World) (choices : List ℕ) → FitEach incs v n later (targets_of x) → Met c V v w.globals w.frame → follow c.set t (values c V) (behind V) (edges v later x) choices ≡ true → Fails (leave c x (with_choices w (follow_choices chosen_behind x choices)))
         exit_back x v n w [] f m y = absurd (let bad : ⊥ = cc in bad)
         exit_back (Leap []) v n w (zero ∷ choices) f m y = edge_back 0 v n [] w choices f.0 m y
         exit_back (Leap []) v n w (suc j ∷ choices) f m y = absurd (let bad : ⊥ = cc in bad)
