@@ -3,6 +3,7 @@ pub mod Views
 pub mod Fitting
 pub mod Failing
 pub mod Emitted
+pub mod Told
 pub mod Whole
 pub mod Chains
 pub mod ChainForms

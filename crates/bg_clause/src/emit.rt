@@ -1,6 +1,6 @@
 //! Clauses of forms.
-ghost use Rattle.std.specs.Prelude.{◌≡◌, suc, ◌∷◌, ◌++◌, map, IfOk, OnOk};
-ghost use Rattle.bg_clause.specs.Emitted.{names, denies, after, emitted, emitted_each, after_each};
+ghost use Rattle.std.specs.Prelude.{◌≡◌, suc, ◌∷◌, ◌++◌, IfOk, OnOk};
+ghost use Rattle.bg_clause.specs.Emitted.{names, denies, after, emitted};
 ghost use Rattle.bg_clause.specs.Views.{form_in, clauses_in};
 
 use crate::form::Form;
@@ -85,24 +85,4 @@ pub fn emit(
             emit(alloc, out, &more, g, next)
         }
     }
-}
-
-/// Adds clauses that say that each of the atoms from this one on implies its form.
-#[tactic(auto, using(crate::proofs::Emits::emit_forms))]
-pub fn emit_each(
-    alloc: Global,
-    out: &mut Vec<Vec<Literal>>,
-    first: u32,
-    forms: &[Form],
-    next: &mut u32,
-) -> Result<(), AllocError>
-    ensures clauses { OnOk result (clauses_in out.new.items ≡ clauses_in out.old.items ++ emitted_each first (map form_in forms.now) next.old) }
-    ensures more { OnOk result (next.new ≡ after_each (map form_in forms.now) next.old) }
-{
-    let mut atom = first;
-    for f in forms {
-        let a = take_next(&mut atom)?;
-        emit(alloc, out, &[denies(a)], f, next)?;
-    }
-    Ok(())
 }
