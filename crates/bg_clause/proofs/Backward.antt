@@ -10,7 +10,7 @@ use Rattle.bg_clause.specs.Forms.{Form, form_true, is_true}
 use Rattle.bg_clause.specs.Fitting.{fits_cmds, fit_edges, fit_blocks}
 use Rattle.bg_clause.specs.Failing.{fail_block}
 use Rattle.bg_clause.specs.Emitted.{denies, emitted}
-use Rattle.bg_clause.specs.Told.{Told, is_short, told_by, told, entry_told}
+use Rattle.bg_clause.specs.Told.{Told, nothing, is_short, told_by, told, entry_told}
 use Rattle.bg_clause.specs.Whole.{truth_values}
 use Rattle.bg_clause.proofs.Meaning.{same_true, and_left, and_right}
 use Rattle.bg_clause.proofs.Failing.{wells, block_true}
@@ -87,10 +87,10 @@ module _ (n m : ℕ) (target : Spot) (a : ℕ) (t set : ℕ → Bool) (c : Scope
       let well = cmds_within set target c b.cmds (all_well set target c es b.next) (all_well set target c ws b.next) (all_within set target c es ws rest b.next) e in
       clash (form_true t (fail_block n target later b)) (equation_cmds set target c b.cmds (all_well set target c ws b.next)) (block_true n m target t set c frame agree later b fk fe) q well
 
-  blocks_within : (bs : List PassiveBlock) → fit_blocks n m bs ≡ true → all_in t (told n target a bs).clauses ≡ true → Within (equations set target c bs) (wells t (told n target a bs).fails)
+  blocks_within : (bs : List PassiveBlock) → fit_blocks n m bs ≡ true → all_in t (told n target (nothing a) bs).clauses ≡ true → Within (equations set target c bs) (wells t (told n target (nothing a) bs).fails)
   blocks_within [] fits h = tt
   blocks_within (b ∷ bs) fits h =
-      let s = told n target a bs in
+      let s = told n target (nothing a) bs in
       let f = fail_block n target s.fails b in
       let es = equations set target c bs in
       let more = and_right (fits_cmds n m b.cmds) (fit_edges n m b.next && fit_blocks n m bs) fits in
@@ -101,7 +101,7 @@ module _ (n m : ℕ) (target : Spot) (a : ℕ) (t set : ℕ → Bool) (c : Scope
   pub entry_denied : (bs : List PassiveBlock) → fit_blocks n m bs ≡ true → all_in t (entry_told n target a bs).clauses ≡ true → is_well (slice_get (equations set target c bs) 0) ≡ false
   entry_denied [] fits h = absurd (let bad : ⊥ = cc in bad)
   entry_denied (b ∷ bs) fits h =
-      let s = told n target a bs in
+      let s = told n target (nothing a) bs in
       let f = fail_block n target s.fails b in
       let es = equations set target c bs in
       let more = and_right (fits_cmds n m b.cmds) (fit_edges n m b.next && fit_blocks n m bs) fits in

@@ -1,5 +1,5 @@
 -- Clauses of forms say what the forms say: the names' values are those of the parts that they name.
-use Rattle.std.proofs.Common.{◌≡◌, ℕ, suc, Bool, true, false, List, [], ◌∷◌, ◌++◌, refl}
+use Rattle.std.proofs.Common.{◌≡◌, ℕ, suc, Bool, true, false, List, [], ◌∷◌, ◌++◌, refl, sym, ap, ◌∙◌}
 use Rattle.std.specs.Prelude.{◌&&◌, ◌||◌}
 use Rattle.bg_formula.specs.declared.atom.Literal.{Literal}
 use Rattle.bg_formula.specs.Meaning.{same}
@@ -132,39 +132,51 @@ bools_any true false g p = refl
 bools_any false true g p = refl
 bools_any false false g p = p
 
+swap_bools : (m l x : Bool) → (m || (l || x)) ≡ (l || (m || x))
+swap_bools true true x = refl
+swap_bools true false x = refl
+swap_bools false l x = refl
+
 module _ (t : ℕ → Bool) where
+  -- a literal behind others
+  any_last : (ls : List Literal) (l : Literal) → any_in t (ls ++ l ∷ []) ≡ (literal_in t l || any_in t ls)
+  any_last [] l = refl
+  any_last (k ∷ ls) l = rw (any_last ls l) (swap_bools (literal_in t k) (literal_in t l) (any_in t ls))
+
   -- where the clauses are true, so is one of the literals or the form
   pub emitted_sound : (f : Form) (ls : List Literal) (n : ℕ) → all_in t (emitted ls f n) ≡ true → (any_in t ls || form_true t f) ≡ true
   emitted_sound (Plain true) ls n e = or_bools (any_in t ls)
   emitted_sound (Plain false) ls n e = plain_bools (any_in t ls) e
-  emitted_sound (Is l) ls n e = is_bools (any_in t ls) (literal_in t l) e
+  emitted_sound (Is l) ls n e =
+      is_bools (any_in t ls) (literal_in t l) (ap (λ x. x && true) (sym (any_last ls l)) ∙ e)
   emitted_sound (Both f g) ls n e =
       both_bools (any_in t ls) (form_true t f) (form_true t g) (emitted_sound f ls n (all_first t (emitted ls f n) (emitted ls g (after f n)) e)) (emitted_sound g ls (after f n) (all_second t (emitted ls f n) (emitted ls g (after f n)) e))
   emitted_sound (Either l f) ls n e =
-      either_bools (any_in t ls) (literal_in t l) (form_true t f) (emitted_sound f (l ∷ ls) n e)
+      either_bools (any_in t ls) (literal_in t l) (form_true t f) (ap (λ x. x || form_true t f) (sym (any_last ls l)) ∙ emitted_sound f (ls ++ l ∷ []) n e)
   emitted_sound (Any f g) ls n e =
       let xs = emitted (denies n ∷ []) f (suc n) in
-      let ys = emitted (names n ∷ ls) g (after f (suc n)) in
-      any_bools (any_in t ls) (t n) (form_true t f) (form_true t g) (emitted_sound f (denies n ∷ []) (suc n) (all_first t xs ys e)) (emitted_sound g (names n ∷ ls) (after f (suc n)) (all_second t xs ys e))
+      let ys = emitted (ls ++ names n ∷ []) g (after f (suc n)) in
+      any_bools (any_in t ls) (t n) (form_true t f) (form_true t g) (emitted_sound f (denies n ∷ []) (suc n) (all_first t xs ys e)) (ap (λ x. x || form_true t g) (sym (any_last ls (names n))) ∙ emitted_sound g (ls ++ names n ∷ []) (after f (suc n)) (all_second t xs ys e))
 
   -- where one of the literals or the form is true, and names are worth what they name, the clauses are true
   pub emitted_complete : (f : Form) (ls : List Literal) (n : ℕ) → Named t n (parts f) → (any_in t ls || form_true t f) ≡ true → all_in t (emitted ls f n) ≡ true
   emitted_complete (Plain true) ls n h e = refl
   emitted_complete (Plain false) ls n h e = bools_plain (any_in t ls) e
-  emitted_complete (Is l) ls n h e = bools_is (any_in t ls) (literal_in t l) e
+  emitted_complete (Is l) ls n h e =
+      ap (λ x. x && true) (any_last ls l) ∙ bools_is (any_in t ls) (literal_in t l) e
   emitted_complete (Both f g) ls n h e =
       let d = named_split t f (parts g) n h in
       all_append t (emitted ls f n) (emitted ls g (after f n)) (emitted_complete f ls n d.0 (bools_first (any_in t ls) (form_true t f) (form_true t g) e)) (emitted_complete g ls (after f n) d.1 (bools_second (any_in t ls) (form_true t f) (form_true t g) e))
   emitted_complete (Either l f) ls n h e =
-      emitted_complete f (l ∷ ls) n h (bools_either (any_in t ls) (literal_in t l) (form_true t f) e)
+      emitted_complete f (ls ++ l ∷ []) n h (ap (λ x. x || form_true t f) (any_last ls l) ∙ bools_either (any_in t ls) (literal_in t l) (form_true t f) e)
   emitted_complete (Any f g) ls n h e =
       let d = named_split t f (parts g) (suc n) h.1 in
       let xs = emitted (denies n ∷ []) f (suc n) in
-      let ys = emitted (names n ∷ ls) g (after f (suc n)) in
+      let ys = emitted (ls ++ names n ∷ []) g (after f (suc n)) in
       let first : ((same (t n) false || false) || form_true t f) ≡ true = rw h.0 (bools_name (form_true t f)) in
       let second : ((same (t n) true || any_in t ls) || form_true t g) ≡ true =
       rw h.0 (bools_any (any_in t ls) (form_true t f) (form_true t g) e) in
-      all_append t xs ys (emitted_complete f (denies n ∷ []) (suc n) d.0 first) (emitted_complete g (names n ∷ ls) (after f (suc n)) d.1 second)
+      all_append t xs ys (emitted_complete f (denies n ∷ []) (suc n) d.0 first) (emitted_complete g (ls ++ names n ∷ []) (after f (suc n)) d.1 (ap (λ x. x || form_true t g) (any_last ls (names n)) ∙ second))
 
   -- the same of an atom that implies the form
   pub implied : (a : ℕ) (f : Form) (n : ℕ) → all_in t (emitted (denies a ∷ []) f n) ≡ true → t a ≡ true → form_true t f ≡ true

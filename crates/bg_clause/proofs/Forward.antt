@@ -11,7 +11,7 @@ use Rattle.bg_clause.specs.Forms.{Form, form_true, is_true}
 use Rattle.bg_clause.specs.Fitting.{fits_cmds, fit_edges, fit_blocks}
 use Rattle.bg_clause.specs.Failing.{fail_block}
 use Rattle.bg_clause.specs.Emitted.{denies, emitted}
-use Rattle.bg_clause.specs.Told.{Told, is_short, told_by, told, with_entry, entry_told}
+use Rattle.bg_clause.specs.Told.{Told, nothing, is_short, told_by, told, with_entry, entry_told}
 use Rattle.bg_clause.specs.Whole.{truth_values}
 use Rattle.bg_clause.proofs.Meaning.{same_true, and_left, and_right}
 use Rattle.bg_clause.proofs.Failing.{not_not, wells, block_true}
@@ -64,10 +64,10 @@ module _ (n m : ℕ) (target : Spot) (a : ℕ) (enough : n + m ≤ a) (t set : �
       ∙ not_not (equation_cmds set target c b.cmds (all_well set target c (wells u later) b.next))
       ∙ ap (λ l. equation_cmds set target c b.cmds (all_well set target c l b.next)) same
 
-  blocks_met : (bs : List PassiveBlock) → fit_blocks n m bs ≡ true → Met a t (told n target a bs) (equations set target c bs)
+  blocks_met : (bs : List PassiveBlock) → fit_blocks n m bs ≡ true → Met a t (told n target (nothing a) bs) (equations set target c bs)
   blocks_met [] fits = (t, ((λ j e. refl), (refl, refl)))
   blocks_met (b ∷ bs) fits =
-      let s = told n target a bs in
+      let s = told n target (nothing a) bs in
       let f = fail_block n target s.fails b in
       let es = equations set target c bs in
       let fk = and_left (fits_cmds n m b.cmds) (fit_edges n m b.next && fit_blocks n m bs) fits in
@@ -89,7 +89,7 @@ module _ (n m : ℕ) (target : Spot) (a : ℕ) (enough : n + m ≤ a) (t set : �
   pub entry_met : (bs : List PassiveBlock) → fit_blocks n m bs ≡ true → is_well (slice_get (equations set target c bs) 0) ≡ false → (u : ℕ → Bool) × (Agree a u t × (all_in u (entry_told n target a bs).clauses ≡ true))
   entry_met [] fits q = absurd (let bad : ⊥ = cc in bad)
   entry_met (b ∷ bs) fits q =
-      let s = told n target a bs in
+      let s = told n target (nothing a) bs in
       let f = fail_block n target s.fails b in
       let es = equations set target c bs in
       let fk = and_left (fits_cmds n m b.cmds) (fit_edges n m b.next && fit_blocks n m bs) fits in

@@ -13,7 +13,7 @@ use Rattle.bg_clause.specs.Forms.{Form, Plain, Is, Both, Either, Any, literal_in
 use Rattle.bg_clause.specs.Fitting.{fits_cmds, fit_edges, fit_blocks}
 use Rattle.bg_clause.specs.Failing.{fail_block}
 use Rattle.bg_clause.specs.Emitted.{names, denies, after, emitted}
-use Rattle.bg_clause.specs.Told.{Told, is_short, told_by, told, with_entry, entry_told}
+use Rattle.bg_clause.specs.Told.{Told, nothing, is_short, told_by, told, with_entry, entry_told}
 use Rattle.bg_clause.specs.Whole.{formula}
 use Rattle.bg_clause.proofs.Meaning.{none_below, below_suc, and_left, and_right}
 use Rattle.bg_clause.proofs.Emitting.{any_in, all_in}
@@ -34,20 +34,25 @@ append_below n (x ∷ xs) ys p q =
 one_below : (a n : ℕ) → suc a ≤ n → nat_lt a n ≡ true
 one_below a n le = grind (arith, nat_tests)
 
+last_below : (n : ℕ) (ls : List Literal) (l : Literal) → literals_below n ls ≡ true → nat_lt l.atom n ≡ true → literals_below n (ls ++ l ∷ []) ≡ true
+last_below n [] l p q = and_both (nat_lt l.atom n) true q refl
+last_below n (k ∷ ls) l p q =
+    and_both (nat_lt k.atom n) (literals_below n (ls ++ l ∷ [])) (and_left (nat_lt k.atom n) (literals_below n ls) p) (last_below n ls l (and_right (nat_lt k.atom n) (literals_below n ls) p) q)
+
 module _ (n : ℕ) where
   emitted_below : (f : Form) (ls : List Literal) (k : ℕ) → literals_below n ls ≡ true → form_below n f ≡ true → after f k ≤ n → clauses_below n (emitted ls f k) ≡ true
   emitted_below (Plain true) ls k p q le = refl
   emitted_below (Plain false) ls k p q le = and_both (literals_below n ls) true p refl
   emitted_below (Is l) ls k p q le =
-      and_both (literals_below n (l ∷ ls)) true (and_both (nat_lt l.atom n) (literals_below n ls) q p) refl
+      and_both (literals_below n (ls ++ l ∷ [])) true (last_below n ls l p q) refl
   emitted_below (Both f g) ls k p q le =
       append_below n (emitted ls f k) (emitted ls g (after f k)) (emitted_below f ls k p (and_left (form_below n f) (form_below n g) q) (omega (arith, le, after_more g (after f k)))) (emitted_below g ls (after f k) p (and_right (form_below n f) (form_below n g) q) le)
   emitted_below (Either l f) ls k p q le =
-      emitted_below f (l ∷ ls) k (and_both (nat_lt l.atom n) (literals_below n ls) (and_left (nat_lt l.atom n) (form_below n f) q) p) (and_right (nat_lt l.atom n) (form_below n f) q) le
+      emitted_below f (ls ++ l ∷ []) k (last_below n ls l p (and_left (nat_lt l.atom n) (form_below n f) q)) (and_right (nat_lt l.atom n) (form_below n f) q) le
   emitted_below (Any f g) ls k p q le =
       let first : after f (suc k) ≤ n = omega (arith, le, after_more g (after f (suc k))) in
       let name : nat_lt k n ≡ true = one_below k n (omega (arith, first, after_more f (suc k))) in
-      append_below n (emitted (denies k ∷ []) f (suc k)) (emitted (names k ∷ ls) g (after f (suc k))) (emitted_below f (denies k ∷ []) (suc k) (and_both (nat_lt k n) true name refl) (and_left (form_below n f) (form_below n g) q) first) (emitted_below g (names k ∷ ls) (after f (suc k)) (and_both (nat_lt k n) (literals_below n ls) name p) (and_right (form_below n f) (form_below n g) q) le)
+      append_below n (emitted (denies k ∷ []) f (suc k)) (emitted (ls ++ names k ∷ []) g (after f (suc k))) (emitted_below f (denies k ∷ []) (suc k) (and_both (nat_lt k n) true name refl) (and_left (form_below n f) (form_below n g) q) first) (emitted_below g (ls ++ names k ∷ []) (after f (suc k)) (last_below n ls (names k) p name) (and_right (form_below n f) (form_below n g) q) le)
 
   told_by_below : (x : Bool) (f : Form) (s : Told) → form_below n f ≡ true → forms_below n s.fails ≡ true → clauses_below n s.clauses ≡ true → (told_by x f s).next ≤ n → (forms_below n (told_by x f s).fails ≡ true) × (clauses_below n (told_by x f s).clauses ≡ true)
   told_by_below true f s p q r le = (and_both (form_below n f) (forms_below n s.fails) p q, r)
@@ -60,18 +65,18 @@ told_by_more true f s = omega arith
 told_by_more false f s = omega (arith, after_more f (suc s.next))
 
 module _ (k m : ℕ) (t : Spot) (a : ℕ) where
-  pub told_more : (bs : List PassiveBlock) → a ≤ (told k t a bs).next
+  pub told_more : (bs : List PassiveBlock) → a ≤ (told k t (nothing a) bs).next
   told_more [] = omega arith
   told_more (b ∷ bs) =
-      let s = told k t a bs in
+      let s = told k t (nothing a) bs in
       let f = fail_block k t s.fails b in
       omega (arith, told_more bs, told_by_more (is_short f) f s)
 
   module _ (enough : k + m ≤ a) (n : ℕ) where
-    pub told_below : (bs : List PassiveBlock) → fit_blocks k m bs ≡ true → (told k t a bs).next ≤ n → (forms_below n (told k t a bs).fails ≡ true) × (clauses_below n (told k t a bs).clauses ≡ true)
+    pub told_below : (bs : List PassiveBlock) → fit_blocks k m bs ≡ true → (told k t (nothing a) bs).next ≤ n → (forms_below n (told k t (nothing a) bs).fails ≡ true) × (clauses_below n (told k t (nothing a) bs).clauses ≡ true)
     told_below [] fits le = (refl, refl)
     told_below (b ∷ bs) fits le =
-        let s = told k t a bs in
+        let s = told k t (nothing a) bs in
         let f = fail_block k t s.fails b in
         let more = and_right (fits_cmds k m b.cmds) (fit_edges k m b.next && fit_blocks k m bs) fits in
         let step = told_by_more (is_short f) f s in
@@ -79,9 +84,9 @@ module _ (k m : ℕ) (t : Spot) (a : ℕ) where
         let rest = told_below bs (and_right (fit_edges k m b.next) (fit_blocks k m bs) more) (omega (arith, le, step)) in
         told_by_below n (is_short f) f s (block_below n k m (omega (arith, enough, first, step, le)) t s.fails b (and_left (fits_cmds k m b.cmds) (fit_edges k m b.next && fit_blocks k m bs) fits) (and_left (fit_edges k m b.next) (fit_blocks k m bs) more) rest.0) rest.0 rest.1 le
 
-    pub first_below : (b : PassiveBlock) (bs : List PassiveBlock) → fit_blocks k m (b ∷ bs) ≡ true → (told k t a bs).next ≤ n → form_below n (fail_block k t (told k t a bs).fails b) ≡ true
+    pub first_below : (b : PassiveBlock) (bs : List PassiveBlock) → fit_blocks k m (b ∷ bs) ≡ true → (told k t (nothing a) bs).next ≤ n → form_below n (fail_block k t (told k t (nothing a) bs).fails b) ≡ true
     first_below b bs fits le =
-        let s = told k t a bs in
+        let s = told k t (nothing a) bs in
         let more = and_right (fits_cmds k m b.cmds) (fit_edges k m b.next && fit_blocks k m bs) fits in
         let rest = told_below bs (and_right (fit_edges k m b.next) (fit_blocks k m bs) more) le in
         block_below n k m (omega (arith, enough, told_more bs, le)) t s.fails b (and_left (fits_cmds k m b.cmds) (fit_edges k m b.next && fit_blocks k m bs) fits) (and_left (fit_edges k m b.next) (fit_blocks k m bs) more) rest.0
@@ -94,7 +99,7 @@ module _ (k m : ℕ) (t : Spot) (a : ℕ) where
   pub entry_below : k + m ≤ a → (bs : List PassiveBlock) → fit_blocks k m bs ≡ true → clauses_below (entry_told k t a bs).next (entry_told k t a bs).clauses ≡ true
   entry_below enough [] fits = refl
   entry_below enough (b ∷ bs) fits =
-      let s = told k t a bs in
+      let s = told k t (nothing a) bs in
       let f = fail_block k t s.fails b in
       let le = after_more f s.next in
       let more = and_right (fits_cmds k m b.cmds) (fit_edges k m b.next && fit_blocks k m bs) fits in
@@ -103,7 +108,7 @@ module _ (k m : ℕ) (t : Spot) (a : ℕ) where
   pub entry_more : (bs : List PassiveBlock) → a ≤ (entry_told k t a bs).next
   entry_more [] = omega arith
   entry_more (b ∷ bs) =
-      let s = told k t a bs in omega (arith, told_more bs, after_more (fail_block k t s.fails b) s.next)
+      let s = told k t (nothing a) bs in omega (arith, told_more bs, after_more (fail_block k t s.fails b) s.next)
 
 how_many_atoms : (k n : ℕ) → length (map IsTruth (count_from k n)) ≡ n
 how_many_atoms k zero = refl

@@ -4,6 +4,8 @@ pub mod Fitting
 pub mod Failing
 pub mod Emitted
 pub mod Told
+pub mod Waiting
+pub mod Telling
 pub mod Whole
 pub mod Chains
 pub mod ChainForms

@@ -29,11 +29,15 @@ told_by false f s =
       next = after f (suc s.next);
     }
 
--- what is told of blocks, where the numbers from a on are free
-abbrev pub told : ℕ → Spot → ℕ → List PassiveBlock → Told
-told n t a [] = record { fails = []; clauses = []; next = a }
-told n t a (b ∷ bs) =
-    let s = told n t a bs in let f = fail_block n t s.fails b in told_by (is_short f) f s
+-- nothing is told yet, and the numbers from a on are free
+abbrev pub nothing : ℕ → Told
+nothing a = record { fails = []; clauses = []; next = a }
+
+-- what is told of blocks in front of others
+abbrev pub told : ℕ → Spot → Told → List PassiveBlock → Told
+told n t s [] = s
+told n t s (b ∷ bs) =
+    let d = told n t s bs in let f = fail_block n t d.fails b in told_by (is_short f) f d
 
 -- this form is true
 abbrev pub with_entry : Form → Told → Told
@@ -41,5 +45,5 @@ with_entry f s = record s { clauses = s.clauses ++ emitted [] f s.next; next = a
 
 -- the first block fails
 abbrev pub entry_told : ℕ → Spot → ℕ → List PassiveBlock → Told
-entry_told n t a [] = with_entry (Plain false) (told n t a [])
-entry_told n t a (b ∷ bs) = let s = told n t a bs in with_entry (fail_block n t s.fails b) s
+entry_told n t a [] = with_entry (Plain false) (nothing a)
+entry_told n t a (b ∷ bs) = let s = told n t (nothing a) bs in with_entry (fail_block n t s.fails b) s
