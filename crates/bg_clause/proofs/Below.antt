@@ -1,13 +1,13 @@
 -- Forms of what fits name atoms that are there.
-use Rattle.std.proofs.Common.{◌≡◌, ℕ, suc, ◌+◌, ◌≤◌, Bool, true, false, List, [], ◌∷◌, length, refl, arith}
+use Rattle.std.proofs.Common.{◌≡◌, ℕ, zero, suc, ◌+◌, ◌≤◌, Bool, true, false, List, [], ◌∷◌, refl, arith}
 use Rattle.std.specs.Prelude.{◌&&◌, if◌then◌else◌, nat_lt, Option, Some, None}
 use Rattle.std.proofs.lemmas.Bool.Decides.{nat_tests}
 use Rattle.bg_ast.specs.Syntax.{Ex, Number, Fact, Constant, Read, Global, Local, Not, Negative, Binary, Apply, Select, Update, Old, Op, And, Or, Implies, Iff, Equal, Unequal, Less, AtMost, Greater, AtLeast, Plus, Minus, Times}
 use Rattle.bg_ast.specs.Execution.{Spot}
 use Rattle.bg_passive.specs.Passive.{PassiveCmd, Claims, Supposes, Edge, PassiveBlock, spot_eq}
-use Rattle.bg_clause.specs.Forms.{Form, Plain, Is, Both, Either, Any, is_true, both_of, any_behind, any_of, denied, equal_forms, joined_by, form_of}
-use Rattle.bg_clause.specs.Fitting.{joins_truths, fits_ex, fits_candidate, fits_cmds, fit_edges, fit_blocks}
-use Rattle.bg_clause.specs.Failing.{is_there, is_not_there, fail_cmds, fail_later, fail_edges, fail_blocks}
+use Rattle.bg_clause.specs.Forms.{Form, Plain, Is, Both, Either, Any, literal_of, either_by, both_behind, both_of, any_beside, any_behind, any_of, denied, equal_forms, joined_by, form_of}
+use Rattle.bg_clause.specs.Fitting.{joins_truths, fits_ex, fits_candidate, fits_cmds, fit_edges}
+use Rattle.bg_clause.specs.Failing.{is_there, is_not_there, fail_cmds, fail_later, fail_edges, fail_block}
 use Rattle.bg_clause.proofs.Meaning.{and_left, and_right}
 
 -- each atom of a form is one of the first n
@@ -30,26 +30,48 @@ pub lower : (a n m : ℕ) → n ≤ m → nat_lt a n ≡ true → nat_lt a m ≡
 lower a n m le e = grind (arith, nat_tests)
 
 module _ (n : ℕ) where
+  both_behind_below : (f g : Form) → form_below n f ≡ true → form_below n g ≡ true → form_below n (both_behind f g) ≡ true
+  both_behind_below f (Plain true) p q = p
+  both_behind_below f (Plain false) p q = refl
+  both_behind_below f (Is l) p q = and_both (form_below n f) (nat_lt l.atom n) p q
+  both_behind_below f (Both a b) p q = and_both (form_below n f) (form_below n (Both a b)) p q
+  both_behind_below f (Either l a) p q = and_both (form_below n f) (form_below n (Either l a)) p q
+  both_behind_below f (Any a b) p q = and_both (form_below n f) (form_below n (Any a b)) p q
+
   both_below : (f g : Form) → form_below n f ≡ true → form_below n g ≡ true → form_below n (both_of f g) ≡ true
   both_below (Plain true) g p q = q
   both_below (Plain false) g p q = refl
-  both_below (Is l) g p q = and_both (nat_lt l.atom n) (form_below n g) p q
-  both_below (Both a b) g p q = and_both (form_below n (Both a b)) (form_below n g) p q
-  both_below (Either l a) g p q = and_both (form_below n (Either l a)) (form_below n g) p q
-  both_below (Any a b) g p q = and_both (form_below n (Any a b)) (form_below n g) p q
+  both_below (Is l) g p q = both_behind_below (Is l) g p q
+  both_below (Both a b) g p q = both_behind_below (Both a b) g p q
+  both_below (Either l a) g p q = both_behind_below (Either l a) g p q
+  both_below (Any a b) g p q = both_behind_below (Any a b) g p q
+
+  beside_last : (f g : Form) → form_below n f ≡ true → form_below n g ≡ true → form_below n (either_by (literal_of g) f (Any f g)) ≡ true
+  beside_last f (Plain b) p q = and_both (form_below n f) true p q
+  beside_last f (Is l) p q = and_both (nat_lt l.atom n) (form_below n f) q p
+  beside_last f (Both a b) p q = and_both (form_below n f) (form_below n (Both a b)) p q
+  beside_last f (Either l a) p q = and_both (form_below n f) (form_below n (Either l a)) p q
+  beside_last f (Any a b) p q = and_both (form_below n f) (form_below n (Any a b)) p q
+
+  beside_below : (f g : Form) → form_below n f ≡ true → form_below n g ≡ true → form_below n (any_beside f g) ≡ true
+  beside_below (Plain b) g p q = beside_last (Plain b) g p q
+  beside_below (Is l) g p q = and_both (nat_lt l.atom n) (form_below n g) p q
+  beside_below (Both a b) g p q = beside_last (Both a b) g p q
+  beside_below (Either l a) g p q = beside_last (Either l a) g p q
+  beside_below (Any a b) g p q = beside_last (Any a b) g p q
 
   behind_below : (f g : Form) → form_below n f ≡ true → form_below n g ≡ true → form_below n (any_behind f g) ≡ true
   behind_below f (Plain true) p q = refl
   behind_below f (Plain false) p q = p
-  behind_below f (Is l) p q = and_both (nat_lt l.atom n) (form_below n f) q p
-  behind_below f (Both a b) p q = and_both (form_below n f) (form_below n (Both a b)) p q
-  behind_below f (Either l a) p q = and_both (form_below n f) (form_below n (Either l a)) p q
-  behind_below f (Any a b) p q = and_both (form_below n f) (form_below n (Any a b)) p q
+  behind_below f (Is l) p q = beside_below f (Is l) p q
+  behind_below f (Both a b) p q = beside_below f (Both a b) p q
+  behind_below f (Either l a) p q = beside_below f (Either l a) p q
+  behind_below f (Any a b) p q = beside_below f (Any a b) p q
 
   any_below : (f g : Form) → form_below n f ≡ true → form_below n g ≡ true → form_below n (any_of f g) ≡ true
   any_below (Plain true) g p q = refl
   any_below (Plain false) g p q = q
-  any_below (Is l) g p q = and_both (nat_lt l.atom n) (form_below n g) p q
+  any_below (Is l) g p q = behind_below (Is l) g p q
   any_below (Both a b) g p q = behind_below (Both a b) g p q
   any_below (Either l a) g p q = behind_below (Either l a) g p q
   any_below (Any a b) g p q = behind_below (Any a b) g p q
@@ -123,19 +145,16 @@ module _ (n : ℕ) where
           let more = and_right (fits_candidate m b) (fits_ex k e && fits_cmds k m ks) fits in
           suppose_below b e (fail_cmds k t ks rest) (and_left (fits_candidate m b) (fits_ex k e && fits_cmds k m ks) fits) (and_left (fits_ex k e) (fits_cmds k m ks) more) (cmds_below ks rest (and_right (fits_ex k e) (fits_cmds k m ks) more) q)
 
-      later_below : (a many j : ℕ) (x : Bool) → nat_lt j many ≡ x → a + many ≤ n → form_below n (if x then is_true (a + j) else Plain false) ≡ true
-      later_below a many j true e below = grind (arith, nat_tests)
-      later_below a many j false e below = refl
+      later_below : (later : List Form) (j : ℕ) → forms_below n later ≡ true → form_below n (fail_later later j) ≡ true
+      later_below [] j below = refl
+      later_below (f ∷ fs) zero below = and_left (form_below n f) (forms_below n fs) below
+      later_below (f ∷ fs) (suc j) below = later_below fs j (and_right (form_below n f) (forms_below n fs) below)
 
-      edges_below : (a many : ℕ) (es : List Edge) → fit_edges k m es ≡ true → a + many ≤ n → form_below n (fail_edges k t a many es) ≡ true
-      edges_below a many [] fits below = refl
-      edges_below a many (e ∷ es) fits below =
-          any_below (fail_cmds k t e.cmds (fail_later a many e.to)) (fail_edges k t a many es) (cmds_below e.cmds (fail_later a many e.to) (and_left (fits_cmds k m e.cmds) (fit_edges k m es) fits) (later_below a many e.to (nat_lt e.to many) refl below)) (edges_below a many es (and_right (fits_cmds k m e.cmds) (fit_edges k m es) fits) below)
+      edges_below : (later : List Form) (es : List Edge) → fit_edges k m es ≡ true → forms_below n later ≡ true → form_below n (fail_edges k t later es) ≡ true
+      edges_below later [] fits below = refl
+      edges_below later (e ∷ es) fits below =
+          any_below (fail_cmds k t e.cmds (fail_later later e.to)) (fail_edges k t later es) (cmds_below e.cmds (fail_later later e.to) (and_left (fits_cmds k m e.cmds) (fit_edges k m es) fits) (later_below later e.to below)) (edges_below later es (and_right (fits_cmds k m e.cmds) (fit_edges k m es) fits) below)
 
-      pub blocks_below : (a : ℕ) (bs : List PassiveBlock) → fit_blocks k m bs ≡ true → a + length bs ≤ n → forms_below n (fail_blocks k t a bs) ≡ true
-      blocks_below a [] fits below = refl
-      blocks_below a (b ∷ bs) fits below =
-          let more = and_right (fits_cmds k m b.cmds) (fit_edges k m b.next && fit_blocks k m bs) fits in
-          let later : suc a + length bs ≤ n = omega (arith, below) in
-          let edges = fail_edges k t (suc a) (length bs) b.next in
-          and_both (form_below n (fail_cmds k t b.cmds edges)) (forms_below n (fail_blocks k t (suc a) bs)) (cmds_below b.cmds edges (and_left (fits_cmds k m b.cmds) (fit_edges k m b.next && fit_blocks k m bs) fits) (edges_below (suc a) (length bs) b.next (and_left (fit_edges k m b.next) (fit_blocks k m bs) more) later)) (blocks_below (suc a) bs (and_right (fit_edges k m b.next) (fit_blocks k m bs) more) later)
+      pub block_below : (later : List Form) (b : PassiveBlock) → fits_cmds k m b.cmds ≡ true → fit_edges k m b.next ≡ true → forms_below n later ≡ true → form_below n (fail_block k t later b) ≡ true
+      block_below later b fk fe below =
+          cmds_below b.cmds (fail_edges k t later b.next) fk (edges_below later b.next fe below)

@@ -11,3 +11,5 @@ pub mod Alike
 pub mod Emits
 pub mod Chains
 pub mod ChainForms
+pub mod Onward
+pub mod Counted

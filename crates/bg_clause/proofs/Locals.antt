@@ -1,20 +1,28 @@
--- What a form is worth depends on its atoms alone.
-use Rattle.std.proofs.Common.{◌≡◌, ℕ, suc, ◌+◌, Bool, true, List, [], ◌∷◌, ◌++◌, map, refl, sym, ap, ◌∙◌, arith}
+-- What forms and clauses are worth depends on their atoms alone.
+use Rattle.std.proofs.Common.{◌≡◌, ℕ, zero, suc, ◌+◌, Bool, true, false, List, [], ◌∷◌, ◌++◌, map, refl, sym, ap, ◌∙◌, arith}
 use Rattle.std.specs.Prelude.{nat_lt}
+use Rattle.bg_formula.specs.declared.atom.Literal.{Literal}
+use Rattle.bg_formula.specs.Formulas.{literals_below, clauses_below}
 use Rattle.bg_formula.specs.Meaning.{same}
 use Rattle.bg_clause.specs.Forms.{Form, Plain, Is, Both, Either, Any, form_true}
-use Rattle.bg_clause.proofs.Meaning.{and_left, and_right}
-use Rattle.bg_clause.proofs.Emitting.{parts, parts_of, Named}
+use Rattle.bg_clause.specs.Whole.{truth_values}
+use Rattle.bg_clause.proofs.Meaning.{zero_below, below_suc, and_left, and_right}
+use Rattle.bg_clause.proofs.Emitting.{any_in, all_in, parts, Named}
+use Rattle.bg_clause.proofs.Failing.{wells}
 use Rattle.bg_clause.proofs.Below.{form_below, forms_below, and_both}
-use Rattle.bg_clause.proofs.Valuing.{front}
+use Rattle.bg_clause.proofs.Valuing.{behind, front, behind_first, behind_past}
+
+-- the same truth values below n
+abbrev pub Agree : ℕ → (ℕ → Bool) → (ℕ → Bool) → Type 0
+Agree n t u = (j : ℕ) → nat_lt j n ≡ true → t j ≡ u j
 
 module _ (n : ℕ) where
-  pub append_below : (fs gs : List Form) → forms_below n fs ≡ true → forms_below n gs ≡ true → forms_below n (fs ++ gs) ≡ true
+  append_below : (fs gs : List Form) → forms_below n fs ≡ true → forms_below n gs ≡ true → forms_below n (fs ++ gs) ≡ true
   append_below [] gs p q = q
   append_below (f ∷ fs) gs p q =
       and_both (form_below n f) (forms_below n (fs ++ gs)) (and_left (form_below n f) (forms_below n fs) p) (append_below fs gs (and_right (form_below n f) (forms_below n fs) p) q)
 
-  parts_below : (f : Form) → form_below n f ≡ true → forms_below n (parts f) ≡ true
+  pub parts_below : (f : Form) → form_below n f ≡ true → forms_below n (parts f) ≡ true
   parts_below (Plain b) p = refl
   parts_below (Is l) p = refl
   parts_below (Both f g) p =
@@ -24,13 +32,8 @@ module _ (n : ℕ) where
       let first = and_left (form_below n f) (form_below n g) p in
       and_both (form_below n f) (forms_below n (parts f ++ parts g)) first (append_below (parts f) (parts g) (parts_below f first) (parts_below g (and_right (form_below n f) (form_below n g) p)))
 
-  pub all_parts_below : (fs : List Form) → forms_below n fs ≡ true → forms_below n (parts_of fs) ≡ true
-  all_parts_below [] p = refl
-  all_parts_below (f ∷ fs) p =
-      append_below (parts f) (parts_of fs) (parts_below f (and_left (form_below n f) (forms_below n fs) p)) (all_parts_below fs (and_right (form_below n f) (forms_below n fs) p))
-
-  module _ (t u : ℕ → Bool) (agree : (j : ℕ) → nat_lt j n ≡ true → t j ≡ u j) where
-    local : (f : Form) → form_below n f ≡ true → form_true t f ≡ form_true u f
+  module _ (t u : ℕ → Bool) (agree : Agree n t u) where
+    pub local : (f : Form) → form_below n f ≡ true → form_true t f ≡ form_true u f
     local (Plain b) p = refl
     local (Is l) p = ap (λ x. same x l.sign) (agree l.atom p)
     local (Both f g) p =
@@ -40,8 +43,36 @@ module _ (n : ℕ) where
     local (Any f g) p =
         rw (local f (and_left (form_below n f) (form_below n g) p), local g (and_right (form_below n f) (form_below n g) p)) refl
 
+    pub local_wells : (fs : List Form) → forms_below n fs ≡ true → wells t fs ≡ wells u fs
+    local_wells [] p = refl
+    local_wells (f ∷ fs) p =
+        rw (local f (and_left (form_below n f) (forms_below n fs) p), local_wells fs (and_right (form_below n f) (forms_below n fs) p)) refl
+
+    local_clause : (ls : List Literal) → literals_below n ls ≡ true → any_in t ls ≡ any_in u ls
+    local_clause [] p = refl
+    local_clause (l ∷ ls) p =
+        rw (agree l.atom (and_left (nat_lt l.atom n) (literals_below n ls) p), local_clause ls (and_right (nat_lt l.atom n) (literals_below n ls) p)) refl
+
+    pub local_clauses : (cs : List (List Literal)) → clauses_below n cs ≡ true → all_in t cs ≡ all_in u cs
+    local_clauses [] p = refl
+    local_clauses (c ∷ cs) p =
+        rw (local_clause c (and_left (literals_below n c) (clauses_below n cs) p), local_clauses cs (and_right (literals_below n c) (clauses_below n cs) p)) refl
+
     -- names with these values name the forms
-    pub named_front : (fs : List Form) (a : ℕ) (g : ℕ → Bool) → forms_below n fs ≡ true → ((j x : ℕ) → x ≡ a + j → t x ≡ front (map (form_true u) fs) g j) → Named t a fs
+    named_front : (fs : List Form) (a : ℕ) (g : ℕ → Bool) → forms_below n fs ≡ true → ((j x : ℕ) → x ≡ a + j → t x ≡ front (map (form_true u) fs) g j) → Named t a fs
     named_front [] a g p h = tt
     named_front (f ∷ fs) a g p h =
         (h 0 a (omega arith) ∙ sym (local f (and_left (form_below n f) (forms_below n fs) p)), named_front fs (suc a) g (and_right (form_below n f) (forms_below n fs) p) (λ j x e. h (suc j) x (omega (arith, e))))
+
+-- truth values that agree below n, and from there on are those of forms over what is below n
+pub extended : (n : ℕ) (u : ℕ → Bool) (fs : List Form) → forms_below n fs ≡ true → (t : ℕ → Bool) × (Agree n t u × Named t n fs)
+extended n u fs p =
+    let g : ℕ → Bool = λ j. false in
+    let t : ℕ → Bool = behind n u (front (map (form_true u) fs) g) in
+    let agree : Agree n t u = λ j e. behind_first n u (front (map (form_true u) fs) g) j e in
+    (t, (agree, named_front n t u agree fs n g p (λ j x e. behind_past n u (front (map (form_true u) fs) g) j x e)))
+
+pub local_values : (n : ℕ) (t u : ℕ → Bool) → Agree n t u → truth_values t n ≡ truth_values u n
+local_values zero t u agree = refl
+local_values (suc n) t u agree =
+    rw (agree 0 (zero_below n), local_values n (λ j. t (suc j)) (λ j. u (suc j)) (λ j e. agree (suc j) (below_suc j n ∙ e))) refl

@@ -6,7 +6,7 @@ use Rattle.bg_ast.specs.Values.{Truth, val_eq}
 use Rattle.bg_ast.specs.Syntax.{Ex, Number, Fact, Constant, Read, Global, Local, Not, Negative, Binary, Apply, Select, Update, Old, Op, And, Or, Implies, Iff, Equal, Unequal, Less, AtMost, Greater, AtLeast, Plus, Minus, Times}
 use Rattle.bg_sense.specs.Eval.{Scope, ev, value_at, operate}
 use Rattle.bg_formula.specs.Meaning.{same}
-use Rattle.bg_clause.specs.Forms.{Form, Plain, Is, Both, Either, Any, literal_in, form_true, both_of, any_behind, any_of, denied, equal_forms, joined_by, form_of}
+use Rattle.bg_clause.specs.Forms.{Form, Plain, Is, Both, Either, Any, literal_in, form_true, literal_of, either_by, both_behind, both_of, any_beside, any_behind, any_of, denied, equal_forms, joined_by, form_of}
 use Rattle.bg_clause.specs.Fitting.{joins_truths, fits_ex}
 use Rattle.bg_clause.specs.Whole.{truth_values}
 
@@ -42,26 +42,56 @@ pub same_true : (a : Bool) → same a true ≡ a
 same_true true = refl
 same_true false = refl
 
+and_true : (a : Bool) → a ≡ (a && true)
+and_true true = refl
+and_true false = refl
+
+and_false : (a : Bool) → false ≡ (a && false)
+and_false true = refl
+and_false false = refl
+
+both_behind_true : (t : ℕ → Bool) (f g : Form) → form_true t (both_behind f g) ≡ (form_true t f && form_true t g)
+both_behind_true t f (Plain true) = and_true (form_true t f)
+both_behind_true t f (Plain false) = and_false (form_true t f)
+both_behind_true t f (Is l) = refl
+both_behind_true t f (Both a b) = refl
+both_behind_true t f (Either l a) = refl
+both_behind_true t f (Any a b) = refl
+
 pub both_true : (t : ℕ → Bool) (f g : Form) → form_true t (both_of f g) ≡ (form_true t f && form_true t g)
 both_true t (Plain true) g = refl
 both_true t (Plain false) g = refl
-both_true t (Is l) g = refl
-both_true t (Both a b) g = refl
-both_true t (Either l a) g = refl
-both_true t (Any a b) g = refl
+both_true t (Is l) g = both_behind_true t (Is l) g
+both_true t (Both a b) g = both_behind_true t (Both a b) g
+both_true t (Either l a) g = both_behind_true t (Either l a) g
+both_true t (Any a b) g = both_behind_true t (Any a b) g
+
+beside_last : (t : ℕ → Bool) (f g : Form) → form_true t (either_by (literal_of g) f (Any f g)) ≡ (form_true t f || form_true t g)
+beside_last t f (Plain b) = refl
+beside_last t f (Is l) = or_swap (literal_in t l) (form_true t f)
+beside_last t f (Both a b) = refl
+beside_last t f (Either l a) = refl
+beside_last t f (Any a b) = refl
+
+beside_true : (t : ℕ → Bool) (f g : Form) → form_true t (any_beside f g) ≡ (form_true t f || form_true t g)
+beside_true t (Plain b) g = beside_last t (Plain b) g
+beside_true t (Is l) g = refl
+beside_true t (Both a b) g = beside_last t (Both a b) g
+beside_true t (Either l a) g = beside_last t (Either l a) g
+beside_true t (Any a b) g = beside_last t (Any a b) g
 
 behind_true : (t : ℕ → Bool) (f g : Form) → form_true t (any_behind f g) ≡ (form_true t f || form_true t g)
 behind_true t f (Plain true) = or_true (form_true t f)
 behind_true t f (Plain false) = or_false (form_true t f)
-behind_true t f (Is l) = or_swap (literal_in t l) (form_true t f)
-behind_true t f (Both a b) = refl
-behind_true t f (Either l a) = refl
-behind_true t f (Any a b) = refl
+behind_true t f (Is l) = beside_true t f (Is l)
+behind_true t f (Both a b) = beside_true t f (Both a b)
+behind_true t f (Either l a) = beside_true t f (Either l a)
+behind_true t f (Any a b) = beside_true t f (Any a b)
 
 pub any_true : (t : ℕ → Bool) (f g : Form) → form_true t (any_of f g) ≡ (form_true t f || form_true t g)
 any_true t (Plain true) g = refl
 any_true t (Plain false) g = refl
-any_true t (Is l) g = refl
+any_true t (Is l) g = behind_true t (Is l) g
 any_true t (Both a b) g = behind_true t (Both a b) g
 any_true t (Either l a) g = behind_true t (Either l a) g
 any_true t (Any a b) g = behind_true t (Any a b) g

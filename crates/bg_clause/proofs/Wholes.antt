@@ -1,5 +1,5 @@
 -- The clauses name atoms that are there.
-use Rattle.std.proofs.Common.{◌≡◌, ℕ, zero, suc, ◌+◌, ◌≤◌, true, false, List, [], ◌∷◌, ◌++◌, length, map, refl, sym, ap, subst, ◌∙◌, arith}
+use Rattle.std.proofs.Common.{◌≡◌, ℕ, zero, suc, ◌+◌, ◌≤◌, Bool, true, false, List, [], ◌∷◌, ◌++◌, length, map, refl, sym, ap, subst, ◌∙◌, arith}
 use Rattle.std.specs.Prelude.{◌&&◌, nat_lt, Some}
 use Rattle.std.proofs.lemmas.Bool.Decides.{nat_tests}
 use Rattle.bg_ast.specs.Execution.{Spot}
@@ -10,13 +10,14 @@ use Rattle.bg_formula.specs.Atoms.{IsTruth, at}
 use Rattle.bg_formula.specs.Formulas.{literals_below, clauses_below, units_below, is_whole}
 use Rattle.bg_formula.specs.Meaning.{Valuation, signed, literal_true, clause_true, clauses_true}
 use Rattle.bg_clause.specs.Forms.{Form, Plain, Is, Both, Either, Any, literal_in}
-use Rattle.bg_clause.specs.Fitting.{fit_blocks}
-use Rattle.bg_clause.specs.Failing.{fail_blocks}
-use Rattle.bg_clause.specs.Emitted.{names, denies, after, emitted, emitted_each, after_each}
-use Rattle.bg_clause.specs.Whole.{entry_fails, formula}
+use Rattle.bg_clause.specs.Fitting.{fits_cmds, fit_edges, fit_blocks}
+use Rattle.bg_clause.specs.Failing.{fail_block}
+use Rattle.bg_clause.specs.Emitted.{names, denies, after, emitted}
+use Rattle.bg_clause.specs.Told.{Told, nothing, is_short, told_by, told, with_entry, entry_told}
+use Rattle.bg_clause.specs.Whole.{formula}
 use Rattle.bg_clause.proofs.Meaning.{none_below, below_suc, and_left, and_right}
 use Rattle.bg_clause.proofs.Emitting.{any_in, all_in}
-use Rattle.bg_clause.proofs.Below.{form_below, forms_below, and_both, blocks_below}
+use Rattle.bg_clause.proofs.Below.{form_below, forms_below, and_both, block_below}
 
 pub after_more : (f : Form) (n : ℕ) → n ≤ after f n
 after_more (Plain b) n = omega arith
@@ -24,10 +25,6 @@ after_more (Is l) n = omega arith
 after_more (Both f g) n = omega (arith, after_more f n, after_more g (after f n))
 after_more (Either l f) n = after_more f n
 after_more (Any f g) n = omega (arith, after_more f (suc n), after_more g (after f (suc n)))
-
-pub after_each_more : (fs : List Form) (n : ℕ) → n ≤ after_each fs n
-after_each_more [] n = omega arith
-after_each_more (f ∷ fs) n = omega (arith, after_more f n, after_each_more fs (after f n))
 
 append_below : (n : ℕ) (xs ys : List (List Literal)) → clauses_below n xs ≡ true → clauses_below n ys ≡ true → clauses_below n (xs ++ ys) ≡ true
 append_below n [] ys p q = q
@@ -37,63 +34,98 @@ append_below n (x ∷ xs) ys p q =
 one_below : (a n : ℕ) → suc a ≤ n → nat_lt a n ≡ true
 one_below a n le = grind (arith, nat_tests)
 
+last_below : (n : ℕ) (ls : List Literal) (l : Literal) → literals_below n ls ≡ true → nat_lt l.atom n ≡ true → literals_below n (ls ++ l ∷ []) ≡ true
+last_below n [] l p q = and_both (nat_lt l.atom n) true q refl
+last_below n (k ∷ ls) l p q =
+    and_both (nat_lt k.atom n) (literals_below n (ls ++ l ∷ [])) (and_left (nat_lt k.atom n) (literals_below n ls) p) (last_below n ls l (and_right (nat_lt k.atom n) (literals_below n ls) p) q)
+
 module _ (n : ℕ) where
   emitted_below : (f : Form) (ls : List Literal) (k : ℕ) → literals_below n ls ≡ true → form_below n f ≡ true → after f k ≤ n → clauses_below n (emitted ls f k) ≡ true
   emitted_below (Plain true) ls k p q le = refl
   emitted_below (Plain false) ls k p q le = and_both (literals_below n ls) true p refl
   emitted_below (Is l) ls k p q le =
-      and_both (literals_below n (l ∷ ls)) true (and_both (nat_lt l.atom n) (literals_below n ls) q p) refl
+      and_both (literals_below n (ls ++ l ∷ [])) true (last_below n ls l p q) refl
   emitted_below (Both f g) ls k p q le =
       append_below n (emitted ls f k) (emitted ls g (after f k)) (emitted_below f ls k p (and_left (form_below n f) (form_below n g) q) (omega (arith, le, after_more g (after f k)))) (emitted_below g ls (after f k) p (and_right (form_below n f) (form_below n g) q) le)
   emitted_below (Either l f) ls k p q le =
-      emitted_below f (l ∷ ls) k (and_both (nat_lt l.atom n) (literals_below n ls) (and_left (nat_lt l.atom n) (form_below n f) q) p) (and_right (nat_lt l.atom n) (form_below n f) q) le
+      emitted_below f (ls ++ l ∷ []) k (last_below n ls l p (and_left (nat_lt l.atom n) (form_below n f) q)) (and_right (nat_lt l.atom n) (form_below n f) q) le
   emitted_below (Any f g) ls k p q le =
       let first : after f (suc k) ≤ n = omega (arith, le, after_more g (after f (suc k))) in
       let name : nat_lt k n ≡ true = one_below k n (omega (arith, first, after_more f (suc k))) in
-      append_below n (emitted (denies k ∷ []) f (suc k)) (emitted (names k ∷ ls) g (after f (suc k))) (emitted_below f (denies k ∷ []) (suc k) (and_both (nat_lt k n) true name refl) (and_left (form_below n f) (form_below n g) q) first) (emitted_below g (names k ∷ ls) (after f (suc k)) (and_both (nat_lt k n) (literals_below n ls) name p) (and_right (form_below n f) (form_below n g) q) le)
+      append_below n (emitted (denies k ∷ []) f (suc k)) (emitted (ls ++ names k ∷ []) g (after f (suc k))) (emitted_below f (denies k ∷ []) (suc k) (and_both (nat_lt k n) true name refl) (and_left (form_below n f) (form_below n g) q) first) (emitted_below g (ls ++ names k ∷ []) (after f (suc k)) (last_below n ls (names k) p name) (and_right (form_below n f) (form_below n g) q) le)
 
-  each_below : (fs : List Form) (a k : ℕ) → forms_below n fs ≡ true → a + length fs ≤ n → after_each fs k ≤ n → clauses_below n (emitted_each a fs k) ≡ true
-  each_below [] a k p le e = refl
-  each_below (f ∷ fs) a k p le e =
-      let name : nat_lt a n ≡ true = one_below a n (omega (arith, le)) in
-      append_below n (emitted (denies a ∷ []) f k) (emitted_each (suc a) fs (after f k)) (emitted_below f (denies a ∷ []) k (and_both (nat_lt a n) true name refl) (and_left (form_below n f) (forms_below n fs) p) (omega (arith, e, after_each_more fs (after f k)))) (each_below fs (suc a) (after f k) (and_right (form_below n f) (forms_below n fs) p) (omega (arith, le)) e)
+  told_by_below : (x : Bool) (f : Form) (s : Told) → form_below n f ≡ true → forms_below n s.fails ≡ true → clauses_below n s.clauses ≡ true → (told_by x f s).next ≤ n → (forms_below n (told_by x f s).fails ≡ true) × (clauses_below n (told_by x f s).clauses ≡ true)
+  told_by_below true f s p q r le = (and_both (form_below n f) (forms_below n s.fails) p q, r)
+  told_by_below false f s p q r le =
+      let name : nat_lt s.next n ≡ true = one_below s.next n (omega (arith, le, after_more f (suc s.next))) in
+      (and_both (nat_lt s.next n) (forms_below n s.fails) name q, append_below n s.clauses (emitted (denies s.next ∷ []) f (suc s.next)) r (emitted_below f (denies s.next ∷ []) (suc s.next) (and_both (nat_lt s.next n) true name refl) p le))
 
-how_many_forms : (n : ℕ) (t : Spot) (a : ℕ) (bs : List PassiveBlock) → length (fail_blocks n t a bs) ≡ length bs
-how_many_forms n t a [] = refl
-how_many_forms n t a (b ∷ bs) = ap suc (how_many_forms n t (suc a) bs)
+told_by_more : (x : Bool) (f : Form) (s : Told) → s.next ≤ (told_by x f s).next
+told_by_more true f s = omega arith
+told_by_more false f s = omega (arith, after_more f (suc s.next))
+
+module _ (k m : ℕ) (t : Spot) (a : ℕ) where
+  pub told_more : (bs : List PassiveBlock) → a ≤ (told k t (nothing a) bs).next
+  told_more [] = omega arith
+  told_more (b ∷ bs) =
+      let s = told k t (nothing a) bs in
+      let f = fail_block k t s.fails b in
+      omega (arith, told_more bs, told_by_more (is_short f) f s)
+
+  module _ (enough : k + m ≤ a) (n : ℕ) where
+    pub told_below : (bs : List PassiveBlock) → fit_blocks k m bs ≡ true → (told k t (nothing a) bs).next ≤ n → (forms_below n (told k t (nothing a) bs).fails ≡ true) × (clauses_below n (told k t (nothing a) bs).clauses ≡ true)
+    told_below [] fits le = (refl, refl)
+    told_below (b ∷ bs) fits le =
+        let s = told k t (nothing a) bs in
+        let f = fail_block k t s.fails b in
+        let more = and_right (fits_cmds k m b.cmds) (fit_edges k m b.next && fit_blocks k m bs) fits in
+        let step = told_by_more (is_short f) f s in
+        let first = told_more bs in
+        let rest = told_below bs (and_right (fit_edges k m b.next) (fit_blocks k m bs) more) (omega (arith, le, step)) in
+        told_by_below n (is_short f) f s (block_below n k m (omega (arith, enough, first, step, le)) t s.fails b (and_left (fits_cmds k m b.cmds) (fit_edges k m b.next && fit_blocks k m bs) fits) (and_left (fit_edges k m b.next) (fit_blocks k m bs) more) rest.0) rest.0 rest.1 le
+
+    pub first_below : (b : PassiveBlock) (bs : List PassiveBlock) → fit_blocks k m (b ∷ bs) ≡ true → (told k t (nothing a) bs).next ≤ n → form_below n (fail_block k t (told k t (nothing a) bs).fails b) ≡ true
+    first_below b bs fits le =
+        let s = told k t (nothing a) bs in
+        let more = and_right (fits_cmds k m b.cmds) (fit_edges k m b.next && fit_blocks k m bs) fits in
+        let rest = told_below bs (and_right (fit_edges k m b.next) (fit_blocks k m bs) more) le in
+        block_below n k m (omega (arith, enough, told_more bs, le)) t s.fails b (and_left (fits_cmds k m b.cmds) (fit_edges k m b.next && fit_blocks k m bs) fits) (and_left (fit_edges k m b.next) (fit_blocks k m bs) more) rest.0
+
+  with_below : (f : Form) (s : Told) → let n = after f s.next in form_below n f ≡ true → clauses_below n s.clauses ≡ true → clauses_below n (with_entry f s).clauses ≡ true
+  with_below f s p q =
+      let n = after f s.next in
+      append_below n s.clauses (emitted [] f s.next) q (emitted_below n f [] s.next refl p (omega arith))
+
+  pub entry_below : k + m ≤ a → (bs : List PassiveBlock) → fit_blocks k m bs ≡ true → clauses_below (entry_told k t a bs).next (entry_told k t a bs).clauses ≡ true
+  entry_below enough [] fits = refl
+  entry_below enough (b ∷ bs) fits =
+      let s = told k t (nothing a) bs in
+      let f = fail_block k t s.fails b in
+      let le = after_more f s.next in
+      let more = and_right (fits_cmds k m b.cmds) (fit_edges k m b.next && fit_blocks k m bs) fits in
+      with_below f s (first_below enough (after f s.next) b bs fits le) (told_below enough (after f s.next) bs (and_right (fit_edges k m b.next) (fit_blocks k m bs) more) le).1
+
+  pub entry_more : (bs : List PassiveBlock) → a ≤ (entry_told k t a bs).next
+  entry_more [] = omega arith
+  entry_more (b ∷ bs) =
+      let s = told k t (nothing a) bs in omega (arith, told_more bs, after_more (fail_block k t s.fails b) s.next)
 
 how_many_atoms : (k n : ℕ) → length (map IsTruth (count_from k n)) ≡ n
 how_many_atoms k zero = refl
 how_many_atoms k (suc n) = ap suc (how_many_atoms (suc k) n)
-
-entry_below : (n a : ℕ) (bs : List PassiveBlock) → a + length bs ≤ n → literals_below n (entry_fails a bs) ≡ true
-entry_below n a [] le = refl
-entry_below n a (b ∷ bs) le = and_both (nat_lt a n) true (one_below a n (omega (arith, le))) refl
 
 units_counted : (n k m : ℕ) → k + m ≤ n → units_below n (map Some (count_from k m)) ≡ true
 units_counted n k zero le = refl
 units_counted n k (suc m) le =
     and_both (nat_lt k n) (units_below n (map Some (count_from (suc k) m))) (one_below k n (omega (arith, le))) (units_counted n (suc k) m (omega (arith, le)))
 
-pub the_clauses_below : (n m : ℕ) (t : Spot) (bs : List PassiveBlock) → fit_blocks n m bs ≡ true → clauses_below (after_each (fail_blocks n t (n + m) bs) (n + m + length bs)) (entry_fails (n + m) bs ∷ emitted_each (n + m) (fail_blocks n t (n + m) bs) (n + m + length bs)) ≡ true
-the_clauses_below n m t bs fits =
-    let forms = fail_blocks n t (n + m) bs in
-    let k = n + m + length bs in
-    let all = after_each forms k in
-    let le : k ≤ all = after_each_more forms k in
-    and_both (literals_below all (entry_fails (n + m) bs)) (clauses_below all (emitted_each (n + m) forms k)) (entry_below all (n + m) bs le) (each_below all forms (n + m) k (blocks_below all n m (omega (arith, le)) t (n + m) bs fits le) (omega (arith, le, how_many_forms n t (n + m) bs)) (omega arith))
-
 -- the formula is whole
 pub formula_whole : (n m : ℕ) (t : Spot) (bs : List PassiveBlock) → fit_blocks n m bs ≡ true → is_whole (formula n m t bs) ≡ true
 formula_whole n m t bs fits =
-    let forms = fail_blocks n t (n + m) bs in
-    let k = n + m + length bs in
-    let all = after_each forms k in
-    let le : k ≤ all = after_each_more forms k in
-    let cs = entry_fails (n + m) bs ∷ emitted_each (n + m) forms k in
+    let s = entry_told n t (n + m) bs in
     let units = map Some (count_from n m) in
-    let told = and_both (clauses_below all cs) (units_below all units) (the_clauses_below n m t bs fits) (units_counted all n m (omega (arith, le))) in
-    subst (λ x. (clauses_below x cs && units_below x units) ≡ true) (sym (how_many_atoms 0 all)) told
+    let both = and_both (clauses_below s.next s.clauses) (units_below s.next units) (entry_below n m t (n + m) (omega arith) bs fits) (units_counted s.next n m (omega (arith, entry_more n m t (n + m) bs))) in
+    subst (λ x. (clauses_below x s.clauses && units_below x units) ≡ true) (sym (how_many_atoms 0 s.next)) both
 
 -- an atom that is there is the truth variable of its number
 at_count : (k n j x : ℕ) → x ≡ k + j → nat_lt j n ≡ true → at (map IsTruth (count_from k n)) j ≡ Some (IsTruth x)

@@ -21,16 +21,8 @@ after (Any f g) n = after g (after f (suc n))
 abbrev pub emitted : List Literal → Form → ℕ → List (List Literal)
 emitted ls (Plain true) n = []
 emitted ls (Plain false) n = ls ∷ []
-emitted ls (Is l) n = (l ∷ ls) ∷ []
+emitted ls (Is l) n = (ls ++ l ∷ []) ∷ []
 emitted ls (Both f g) n = emitted ls f n ++ emitted ls g (after f n)
-emitted ls (Either l f) n = emitted (l ∷ ls) f n
-emitted ls (Any f g) n = emitted (denies n ∷ []) f (suc n) ++ emitted (names n ∷ ls) g (after f (suc n))
-
--- each of the atoms from a on implies its form
-abbrev pub emitted_each : ℕ → List Form → ℕ → List (List Literal)
-emitted_each a [] n = []
-emitted_each a (f ∷ fs) n = emitted (denies a ∷ []) f n ++ emitted_each (suc a) fs (after f n)
-
-abbrev pub after_each : List Form → ℕ → ℕ
-after_each [] n = n
-after_each (f ∷ fs) n = after_each fs (after f n)
+emitted ls (Either l f) n = emitted (ls ++ l ∷ []) f n
+emitted ls (Any f g) n =
+    emitted (denies n ∷ []) f (suc n) ++ emitted (ls ++ names n ∷ []) g (after f (suc n))

@@ -1,5 +1,5 @@
--- For each block the form that says that it fails, where each later block has an atom that says so.
-use Rattle.std.specs.Prelude.{ℕ, suc, nat_lt, ◌+◌, true, false, if◌then◌else◌, List, [], ◌∷◌, length, Option, Some, None}
+-- The form that says that a block fails, where forms say so of the later blocks.
+use Rattle.std.specs.Prelude.{ℕ, ◌+◌, true, false, if◌then◌else◌, List, [], ◌∷◌, Option, Some, None, slice_get, unwrap_or}
 use Rattle.bg_ast.specs.Execution.{Spot}
 use Rattle.bg_passive.specs.Passive.{PassiveCmd, Claims, Supposes, Edge, PassiveBlock, spot_eq}
 use Rattle.bg_clause.specs.Forms.{Form, Plain, is_true, denied, both_of, any_of, form_of}
@@ -22,17 +22,13 @@ fail_cmds n t (Claims s b e ∷ ks) rest =
 fail_cmds n t (Supposes b e ∷ ks) rest =
     both_of (any_of (is_not_there n b) (form_of e)) (fail_cmds n t ks rest)
 
--- the later block so far ahead fails, where there are so many, which have the atoms from a on
-abbrev pub fail_later : ℕ → ℕ → ℕ → Form
-fail_later a many k = if nat_lt k many then is_true (a + k) else Plain false
+-- the later block so far ahead fails, where these forms say so of each
+abbrev pub fail_later : List Form → ℕ → Form
+fail_later later k = unwrap_or (slice_get later k) (Plain false)
 
-abbrev pub fail_edges : ℕ → Spot → ℕ → ℕ → List Edge → Form
-fail_edges n t a many [] = Plain false
-fail_edges n t a many (e ∷ es) =
-    any_of (fail_cmds n t e.cmds (fail_later a many e.to)) (fail_edges n t a many es)
+abbrev pub fail_edges : ℕ → Spot → List Form → List Edge → Form
+fail_edges n t later [] = Plain false
+fail_edges n t later (e ∷ es) = any_of (fail_cmds n t e.cmds (fail_later later e.to)) (fail_edges n t later es)
 
--- the blocks have the atoms from a on
-abbrev pub fail_blocks : ℕ → Spot → ℕ → List PassiveBlock → List Form
-fail_blocks n t a [] = []
-fail_blocks n t a (b ∷ bs) =
-    fail_cmds n t b.cmds (fail_edges n t (suc a) (length bs) b.next) ∷ fail_blocks n t (suc a) bs
+abbrev pub fail_block : ℕ → Spot → List Form → PassiveBlock → Form
+fail_block n t later b = fail_cmds n t b.cmds (fail_edges n t later b.next)

@@ -52,14 +52,22 @@ abbrev pub either_by : Option Literal → Form → Form → Form
 either_by (Some l) g rest = Either l g
 either_by None g rest = rest
 
+abbrev pub both_behind : Form → Form → Form
+both_behind f g = both_by (plain_of g) f (Both f g)
+
+-- the conjunction: none of its parts is plain
 abbrev pub both_of : Form → Form → Form
-both_of f g = both_by (plain_of f) g (Both f g)
+both_of f g = both_by (plain_of f) g (both_behind f g)
+
+abbrev pub any_beside : Form → Form → Form
+any_beside f g = either_by (literal_of f) g (either_by (literal_of g) f (Any f g))
 
 abbrev pub any_behind : Form → Form → Form
-any_behind f g = any_by (plain_of g) f (either_by (literal_of g) f (Any f g))
+any_behind f g = any_by (plain_of g) f (any_beside f g)
 
+-- the disjunction: none of its parts is plain
 abbrev pub any_of : Form → Form → Form
-any_of f g = any_by (plain_of f) g (either_by (literal_of f) g (any_behind f g))
+any_of f g = any_by (plain_of f) g (any_behind f g)
 
 -- the denial
 abbrev pub denied : Form → Form

@@ -3,6 +3,10 @@ pub mod Views
 pub mod Fitting
 pub mod Failing
 pub mod Emitted
+pub mod Told
+pub mod Waiting
+pub mod Telling
 pub mod Whole
 pub mod Chains
 pub mod ChainForms
+pub mod Worth

@@ -4,6 +4,8 @@ use Rattle.std.specs.Global.{Global}
 use Rattle.bg_formula.specs.declared.atom.Literal.{Literal}
 use Rattle.bg_clause.specs.declared.form.Form as code
 use Rattle.bg_clause.specs.declared.form.Form.TheVariants as form
+use Rattle.bg_clause.specs.declared.short.Short.{Short}
+use Rattle.bg_clause.specs.declared.short.Short.TheVariants as short
 use Rattle.bg_clause.specs.Forms.{Form, Plain, Is, Both, Either, Any}
 
 abbrev pub form_in : code.Form → Form
@@ -12,6 +14,10 @@ form_in (form.Is l) = Is l
 form_in (form.Both' p f q g) = Both (form_in f) (form_in g)
 form_in (form.Either' l p f) = Either l (form_in f)
 form_in (form.Any' p f q g) = Any (form_in f) (form_in g)
+
+abbrev pub short_in : Short → Form
+short_in (short.Plain b) = Plain b
+short_in (short.Is l) = Is l
 
 abbrev pub clauses_in : List (Vec Literal Global) → List (List Literal)
 clauses_in cs = map (λ c. c.items) cs

@@ -1,29 +1,22 @@
 -- The clauses of blocks: the entry block isn't well for the target.
-use Rattle.std.specs.Prelude.{ℕ, zero, suc, ◌+◌, Bool, true, false, if◌then◌else◌, List, [], ◌∷◌, length, map, Option, Some, None}
+use Rattle.std.specs.Prelude.{ℕ, zero, suc, ◌+◌, Bool, true, false, if◌then◌else◌, List, [], ◌∷◌, map, Option, Some, None}
 use Rattle.bg_ast.specs.Execution.{Spot}
 use Rattle.bg_ast.specs.Values.{Val, Truth}
 use Rattle.bg_sense.specs.Variables.{count_from}
 use Rattle.bg_passive.specs.Passive.{PassiveBlock}
-use Rattle.bg_formula.specs.declared.atom.Literal.{Literal}
 use Rattle.bg_formula.specs.Atoms.{IsTruth}
 use Rattle.bg_formula.specs.Formulas.{Formula}
 use Rattle.bg_clause.specs.Fitting.{fit_blocks}
-use Rattle.bg_clause.specs.Failing.{fail_blocks}
-use Rattle.bg_clause.specs.Emitted.{names, emitted_each, after_each}
+use Rattle.bg_clause.specs.Told.{entry_told}
 
--- the entry block fails
-abbrev pub entry_fails : ℕ → List PassiveBlock → List Literal
-entry_fails a [] = []
-entry_fails a (b ∷ bs) = names a ∷ []
-
--- atoms: the incarnations below n, the m candidates, the blocks, and names
+-- atoms: the incarnations below n, the m candidates, and those that the blocks need
 abbrev pub formula : ℕ → ℕ → Spot → List PassiveBlock → Formula
 formula n m t bs =
-    let forms = fail_blocks n t (n + m) bs in
+    let s = entry_told n t (n + m) bs in
     record {
       terms = 0;
-      atoms = map IsTruth (count_from 0 (after_each forms (n + m + length bs)));
-      clauses = entry_fails (n + m) bs ∷ emitted_each (n + m) forms (n + m + length bs);
+      atoms = map IsTruth (count_from 0 s.next);
+      clauses = s.clauses;
       candidates = map Some (count_from n m);
     }
 

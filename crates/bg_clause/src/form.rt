@@ -1,6 +1,6 @@
 //! Formulas over truth values in which each denial is one of an atom.
 ghost use Rattle.std.specs.Prelude.{◌≡◌, IfOk};
-ghost use Rattle.bg_clause.specs.Forms.{plain_of, literal_of, is_true, opposite, both_of, any_behind, any_of, denied, equal_forms};
+ghost use Rattle.bg_clause.specs.Forms.{plain_of, literal_of, is_true, opposite, both_behind, both_of, any_beside, any_behind, any_of, denied, equal_forms};
 ghost use Rattle.bg_clause.specs.Views.{form_in};
 
 use bg_formula::Literal;
@@ -56,6 +56,16 @@ fn opposite(l: Literal) -> Literal
     }
 }
 
+fn both_behind(alloc: Global, f: Form, g: Form) -> Result<Form, AllocError>
+    ensures { IfOk result (λ x. form_in x ≡ both_behind (form_in f) (form_in g)) }
+{
+    match plain(&g) {
+        Some(true) => Ok(f),
+        Some(false) => Ok(Form::Plain(false)),
+        None => Ok(Form::Both(Box::new(alloc, f)?, Box::new(alloc, g)?)),
+    }
+}
+
 /// The conjunction.
 pub fn both_of(alloc: Global, f: Form, g: Form) -> Result<Form, AllocError>
     ensures { IfOk result (λ x. form_in x ≡ both_of (form_in f) (form_in g)) }
@@ -63,7 +73,19 @@ pub fn both_of(alloc: Global, f: Form, g: Form) -> Result<Form, AllocError>
     match plain(&f) {
         Some(true) => Ok(g),
         Some(false) => Ok(Form::Plain(false)),
-        None => Ok(Form::Both(Box::new(alloc, f)?, Box::new(alloc, g)?)),
+        None => both_behind(alloc, f, g),
+    }
+}
+
+fn any_beside(alloc: Global, f: Form, g: Form) -> Result<Form, AllocError>
+    ensures { IfOk result (λ x. form_in x ≡ any_beside (form_in f) (form_in g)) }
+{
+    match literal(&f) {
+        Some(l) => Ok(Form::Either(l, Box::new(alloc, g)?)),
+        None => match literal(&g) {
+            Some(l) => Ok(Form::Either(l, Box::new(alloc, f)?)),
+            None => Ok(Form::Any(Box::new(alloc, f)?, Box::new(alloc, g)?)),
+        },
     }
 }
 
@@ -73,10 +95,7 @@ fn any_behind(alloc: Global, f: Form, g: Form) -> Result<Form, AllocError>
     match plain(&g) {
         Some(true) => Ok(Form::Plain(true)),
         Some(false) => Ok(f),
-        None => match literal(&g) {
-            Some(l) => Ok(Form::Either(l, Box::new(alloc, f)?)),
-            None => Ok(Form::Any(Box::new(alloc, f)?, Box::new(alloc, g)?)),
-        },
+        None => any_beside(alloc, f, g),
     }
 }
 
@@ -87,10 +106,7 @@ pub fn any_of(alloc: Global, f: Form, g: Form) -> Result<Form, AllocError>
     match plain(&f) {
         Some(true) => Ok(Form::Plain(true)),
         Some(false) => Ok(g),
-        None => match literal(&f) {
-            Some(l) => Ok(Form::Either(l, Box::new(alloc, g)?)),
-            None => any_behind(alloc, f, g),
-        },
+        None => any_behind(alloc, f, g),
     }
 }
 

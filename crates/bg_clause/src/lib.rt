@@ -2,12 +2,21 @@
 #![tactic(auto)]
 
 mod emit;
+mod fails;
 mod fits;
 mod fitting;
 mod form;
 mod formed;
 pub mod laws;
+mod short;
+mod tell;
+mod ways;
+mod whole;
+mod worth;
 
 pub use fits::fits_ex;
 pub use fitting::fit_blocks;
 pub use form::{Form, any_of, both_of, denied, is_true};
+pub use formed::form_ex;
+pub use whole::clauses;
+pub use worth::is_worth;

@@ -1,0 +1,75 @@
+//! The forms that say that blocks fail.
+ghost use Rattle.std.specs.Prelude.{◌≡◌, map, IfOk};
+ghost use Rattle.bg_places.specs.Views.{spot_of};
+ghost use Rattle.bg_incarnate.specs.Views.{cmds_of, edge_of, passive_block_of};
+ghost use Rattle.bg_clause.specs.Forms.{any_of};
+ghost use Rattle.bg_clause.specs.Failing.{fail_cmds, fail_later, fail_edges, fail_block};
+ghost use Rattle.bg_clause.specs.Views.{form_in, short_in};
+
+use crate::fails::fail_cmds;
+use crate::form::{Form, any_of};
+use crate::short::{Short, form_at};
+use bg_incarnate::{Edge, PassiveBlock};
+use bg_places::Spot;
+use std::alloc::{AllocError, Global};
+use std::collections::VecDeque;
+
+/// The later block so far ahead fails.
+fn fail_later(later: &VecDeque<Short>, to: usize) -> Form
+    ensures { form_in result ≡ fail_later (map short_in later.now.items) to }
+{
+    match later.get(to) {
+        Some(s) => form_at(*s),
+        None => Form::Plain(false),
+    }
+}
+
+/// One way more, in front of others.
+fn fail_edge(
+    alloc: Global,
+    count: u32,
+    target: Spot,
+    later: &VecDeque<Short>,
+    e: &Edge,
+    rest: Form,
+) -> Result<Form, AllocError>
+    ensures { IfOk result (λ x. form_in x ≡ any_of (fail_cmds count (spot_of target) (cmds_of e.now.cmds.items) (fail_later (map short_in later.now.items) e.now.to)) (form_in rest)) }
+{
+    let ahead = fail_later(later, e.to);
+    let here = fail_cmds(alloc, count, target, &e.cmds, ahead)?;
+    any_of(alloc, here, rest)
+}
+
+/// The ways on fail.
+#[tactic(auto, using(crate::proofs::Onward::fail_rules))]
+fn fail_edges(
+    alloc: Global,
+    count: u32,
+    target: Spot,
+    later: &VecDeque<Short>,
+    edges: &[Edge],
+) -> Result<Form, AllocError>
+    ensures { IfOk result (λ x. form_in x ≡ fail_edges count (spot_of target) (map short_in later.now.items) (map edge_of edges.now)) }
+{
+    let mut made = Form::Plain(false);
+    let mut left: &[Edge] = edges;
+    while let Some((last, before)) = left.split_last() {
+        made = fail_edge(alloc, count, target, later, last, made)?;
+        left = before;
+    }
+    Ok(made)
+}
+
+/// A block fails.
+pub fn fail_block(
+    alloc: Global,
+    count: u32,
+    target: Spot,
+    later: &VecDeque<Short>,
+    b: &PassiveBlock,
+) -> Result<Form, AllocError>
+    ensures { IfOk result (λ x. form_in x ≡ fail_block count (spot_of target) (map short_in later.now.items) (passive_block_of b.now)) }
+{
+    let on = fail_edges(alloc, count, target, later, &b.next)?;
+    fail_cmds(alloc, count, target, &b.cmds, on)
+}
