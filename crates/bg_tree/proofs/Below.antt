@@ -6,7 +6,7 @@ use Rattle.bg_formula.specs.declared.atom.Literal.{Literal}
 use Rattle.bg_formula.specs.Formulas.{literals_below, clauses_below}
 use Rattle.bg_cert.specs.declared.cert.Decision.{Decision}
 use Rattle.bg_cert.specs.Causes.{has_true, undecided, all_of, is_one_of, is_among, is_unit_of, any_unit_of, any_open_of}
-use Rattle.bg_tree.proofs.Firsts.{among_undecided}
+use Rattle.bg_tree.proofs.Units.{among_undecided}
 
 pub split_and : (a b : Bool) → (a && b) ≡ true → (a ≡ true) × (b ≡ true)
 split_and true b h = (refl, h)

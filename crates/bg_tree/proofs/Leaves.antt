@@ -3,8 +3,8 @@ use Rattle.std.proofs.Common.{◌≡◌, ℕ, zero, suc, ◌<◌, Bool, true, fa
 use Rattle.std.specs.Prelude.{Option, Some, None, nat_lt}
 use Rattle.std.proofs.lemmas.Bool.Decides.{nat_tests}
 use Rattle.bg_formula.specs.declared.atom.Literal.{Literal}
-use Rattle.bg_formula.specs.Atoms.{AtomOf, at}
-use Rattle.bg_formula.specs.Formulas.{Formula, joined, unit_atom, literals_below, clauses_below, units_below, is_whole}
+use Rattle.bg_formula.specs.Atoms.{AtomOf}
+use Rattle.bg_formula.specs.Formulas.{Formula, unit_atom, literals_below, clauses_below, units_below, is_whole}
 use Rattle.bg_formula.specs.Meaning.{Valuation, clause_true, clauses_true, unit_true, MeetsUnits}
 use Rattle.bg_cert.specs.declared.cert.Decision.{Decision}
 use Rattle.bg_cert.specs.Paths.{decides, clause_false, decided_true}
@@ -12,7 +12,7 @@ use Rattle.bg_cert.specs.Causes.{is_decided, all_decided, has_true, undecided, a
 use Rattle.bg_cert.proofs.Follow.{either, and_of, or_left, or_right, decided_signs}
 use Rattle.bg_tree.specs.Trees.{IsLeaf}
 use Rattle.bg_tree.proofs.Falses.{false_parts}
-use Rattle.bg_tree.proofs.Members.{atom_low}
+use Rattle.bg_tree.proofs.Members.{atom_low, candidate_there}
 use Rattle.bg_tree.proofs.Below.{split_and}
 use Rattle.bg_tree.proofs.Opens.{split_or, none_left}
 
@@ -78,11 +78,6 @@ leaf_clauses f set ds v w l d =
     true_clauses v f.atoms ds f.clauses d (clauses_met (length f.atoms) ds f.clauses l.1 b.0 p.0)
 
 -- ---- its units
-
-candidate_there : (cs : List (Option ℕ)) (c a : ℕ) → joined (at cs c) ≡ Some a → c < length cs
-candidate_there [] c a e = absurd (cc)
-candidate_there (x ∷ cs) zero a e = omega arith
-candidate_there (x ∷ cs) (suc c) a e = let h = candidate_there cs c a e in omega arith
 
 unit_not_false : (b : Bool) → ((b && true) || false) ≡ false → b ≡ false
 unit_not_false true h = absurd (cc)

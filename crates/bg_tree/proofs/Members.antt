@@ -1,36 +1,17 @@
--- The units of a set's members.
-use Rattle.std.proofs.Common.{◌≡◌, ℕ, zero, suc, ◌+◌, ◌<◌, Bool, true, false, not, ◌&&◌, ◌||◌, ◌==◌, cond, List, [], ◌∷◌, ◌++◌, length, refl, sym, ap, ◌∙◌, subst, arith, add-one}
+-- The clauses of the formula and the units of the set, as one list, and the hints that name them.
+use Rattle.std.proofs.Common.{◌≡◌, ℕ, zero, suc, ◌<◌, Bool, true, false, ◌==◌, cond, List, [], ◌∷◌, ◌++◌, length, refl, sym, ap, ◌∙◌, arith, inl, inr}
 use Rattle.std.specs.Prelude.{Option, Some, None, nat_lt}
 use Rattle.std.proofs.lemmas.Bool.Decides.{nat_tests}
 use Rattle.bg_formula.specs.declared.atom.Literal.{Literal}
 use Rattle.bg_formula.specs.Atoms.{at}
-use Rattle.bg_formula.specs.Formulas.{Formula, joined, unit_atom, units_below}
-use Rattle.bg_cert.specs.declared.cert.Decision.{Decision}
-use Rattle.bg_cert.specs.Paths.{decides, unit_false}
-use Rattle.bg_cert.specs.Certs.{closes, IsUnit}
-use Rattle.bg_cert.specs.Causes.{is_decided, is_one, is_one_of, any_false, any_unit, any_unit_of, member_atom, unit_clause, unit_clauses}
-use Rattle.bg_cert.specs.Walks.{path_of}
-use Rattle.bg_cert.proofs.Follow.{or_left, or_right}
-use Rattle.bg_tree.specs.Picks.{UnitsDone, IsOpenUnit}
-use Rattle.bg_tree.proofs.Falses.{false_append, false_parts}
+use Rattle.bg_formula.specs.Formulas.{Formula, joined, unit_atom, literals_below, clauses_below, units_below, is_whole}
+use Rattle.bg_cert.specs.Causes.{member_atom, unit_clause, unit_clauses, units_of}
+use Rattle.bg_cert.proofs.Follow.{and_of}
+use Rattle.bg_tree.specs.declared.hint.Hint.{Hint}
+use Rattle.bg_tree.specs.declared.hint.Hint.TheVariants.{Nth, Member}
+use Rattle.bg_tree.specs.Index.{unit_of, clause_at}
 use Rattle.bg_tree.proofs.Below.{split_and}
-use Rattle.bg_tree.proofs.Appends.{unit_append, unit_of_append, open_append, or_none}
-
--- ---- one member
-
-pub member_closes : (f : Formula) (set : ℕ → Bool) (ds : List Decision) (c a : ℕ) → member_atom f set c ≡ Some a → decides a false ds ≡ true → closes f set (path_of f ds) (IsUnit c) ≡ true
-member_closes f set ds c a e h = by_member (set c) e
-  where
-    by_member : (b : Bool) → cond b (unit_atom f c) None ≡ Some a → (b && unit_false ds (unit_atom f c)) ≡ true
-    by_member true g = rw g h
-    by_member false g = absurd (cc)
-
-pub member_is : (f : Formula) (set : ℕ → Bool) (c a : ℕ) → member_atom f set c ≡ Some a → unit_atom f c ≡ Some a
-member_is f set c a e = by_member (set c) e
-  where
-    by_member : (b : Bool) → cond b (unit_atom f c) None ≡ Some a → unit_atom f c ≡ Some a
-    by_member true g = g
-    by_member false g = absurd (cc)
+use Rattle.bg_tree.proofs.Places.{Among, among_left, among_right, among_parts}
 
 pub atom_low : (n : ℕ) (cs : List (Option ℕ)) (c a : ℕ) → units_below n cs ≡ true → joined (at cs c) ≡ Some a → nat_lt a n ≡ true
 atom_low n [] c a h e = absurd (cc)
@@ -39,88 +20,97 @@ atom_low n (Some b ∷ cs) zero a h e = let q : b ≡ a = cc in rw (← q) ((spl
 atom_low n (None ∷ cs) (suc c) a h e = atom_low n cs c a h e
 atom_low n (Some b ∷ cs) (suc c) a h e = atom_low n cs c a (split_and (nat_lt b n) (units_below n cs) h).1 e
 
--- ---- one unit clause
+pub candidate_there : (cs : List (Option ℕ)) (c a : ℕ) → joined (at cs c) ≡ Some a → c < length cs
+candidate_there [] c a e = absurd (cc)
+candidate_there (x ∷ cs) zero a e = omega arith
+candidate_there (x ∷ cs) (suc c) a e = let h = candidate_there cs c a e in omega arith
 
-decided_unit : (t f : Bool) (l : Literal) → (t || f) ≡ true → ((not (t || false) && is_one (cond (t || f) [] (l ∷ []))) || false) ≡ false
-decided_unit true f l h = refl
-decided_unit false true l h = refl
-decided_unit false false l h = absurd (cc)
-
-decided_open : (t f : Bool) → (t || f) ≡ true → ((f && true) || false) ≡ false → (not (t || false) || false) ≡ false
-decided_open true f h k = refl
-decided_open false true h k = absurd (cc)
-decided_open false false h k = absurd (cc)
-
-free_unit : (t f : Bool) (l : Literal) → (t || f) ≡ false → ((not (t || false) && is_one (cond (t || f) [] (l ∷ []))) || false) ≡ true
-free_unit true f l h = absurd (cc)
-free_unit false true l h = absurd (cc)
-free_unit false false l h = refl
-
-same_atom : (a : ℕ) → (a == a) ≡ true
-same_atom a = grind (arith, nat_tests)
-
-free_unit_of : (t f : Bool) (l : Literal) → (t || f) ≡ false → ((not (t || false) && is_one_of l.atom (cond (t || f) [] (l ∷ []))) || false) ≡ true
-free_unit_of true f l h = absurd (cc)
-free_unit_of false true l h = absurd (cc)
-free_unit_of false false l h = rw (same_atom l.atom) refl
-
-abbrev pub settled : List Decision → Option ℕ → Bool
-settled ds None = true
-settled ds (Some a) = is_decided a ds
-
-unit_done : (ds : List Decision) (m : Option ℕ) → settled ds m ≡ true → UnitsDone ds (unit_clause m)
-unit_done ds None h = (refl, λ g. refl)
-unit_done ds (Some a) h =
-    (decided_unit (decides a true ds) (decides a false ds) (record { atom = a; sign = true }) h, λ g. decided_open (decides a true ds) (decides a false ds) h g)
-
--- ---- the members up to one
-
-pub not_false_more : (f : Formula) (set : ℕ → Bool) (ds : List Decision) (c : ℕ) (m : Option ℕ) → m ≡ member_atom f set c → any_false ds (unit_clauses f set c) ≡ false → unit_false ds m ≡ false → any_false ds (unit_clauses f set (c + 1)) ≡ false
-not_false_more f set ds c m e h k =
-    rw add-one (false_append ds (unit_clauses f set c) (unit_clause (member_atom f set c)) h ∙ ap (λ x. any_false ds (unit_clause x)) (sym e) ∙ of_one m k)
+pub unit_atom_of : (f : Formula) (set : ℕ → Bool) (c a : ℕ) → member_atom f set c ≡ Some a → unit_atom f c ≡ Some a
+unit_atom_of f set c a e = by_member (set c) e
   where
-    of_one : (m : Option ℕ) → unit_false ds m ≡ false → any_false ds (unit_clause m) ≡ false
-    of_one None g = refl
-    of_one (Some a) g = rw g refl
+    by_member : (b : Bool) → cond b (unit_atom f c) None ≡ Some a → unit_atom f c ≡ Some a
+    by_member true g = g
+    by_member false g = absurd (cc)
 
-pub done_more : (f : Formula) (set : ℕ → Bool) (ds : List Decision) (c : ℕ) (m : Option ℕ) → m ≡ member_atom f set c → UnitsDone ds (unit_clauses f set c) → settled ds m ≡ true → UnitsDone ds (unit_clauses f set (c + 1))
-done_more f set ds c m e d h = rw add-one (rw (← e) (joined_done (unit_clauses f set c) (unit_clause m) d (unit_done ds m h)))
+abbrev pub one : ℕ → List Literal
+one a = record { atom = a; sign = true } ∷ []
+
+-- ---- from a hint to its clause
+
+unit_among : (f : Formula) (set : ℕ → Bool) (c a n : ℕ) → c < n → member_atom f set c ≡ Some a → Among (unit_clauses f set n) (one a)
+unit_among f set c a zero l e = absurd (omega arith)
+unit_among f set c a (suc m) l e = by_last (λ k. unit_among f set c a m k e) (c == m) refl
   where
-    joined_done : (xs ys : List (List Literal)) → UnitsDone ds xs → UnitsDone ds ys → UnitsDone ds (xs ++ ys)
-    joined_done xs ys x y =
-        (unit_append ds xs ys ∙ or_none _ _ x.0 y.0, λ g. let p = false_parts ds xs ys g in open_append ds xs ys ∙ or_none _ _ (x.1 p.0) (y.1 p.1))
-
-abbrev pub HasUnit : List Decision → ℕ → List (List Literal) → Type 0
-HasUnit ds a us = (any_unit ds us ≡ true) × (any_unit_of a ds us ≡ true)
-
-one_unit : (ds : List Decision) (a : ℕ) → is_decided a ds ≡ false → HasUnit ds a (unit_clause (Some a))
-one_unit ds a h =
-    (free_unit (decides a true ds) (decides a false ds) (record { atom = a; sign = true }) h, free_unit_of (decides a true ds) (decides a false ds) (record { atom = a; sign = true }) h)
-
-unit_behind : (ds : List Decision) (a : ℕ) (xs ys : List (List Literal)) → HasUnit ds a ys → HasUnit ds a (xs ++ ys)
-unit_behind ds a xs ys p = (unit_append ds xs ys ∙ or_right _ _ p.0, unit_of_append a ds xs ys ∙ or_right _ _ p.1)
-
-unit_before : (ds : List Decision) (a : ℕ) (xs ys : List (List Literal)) → HasUnit ds a xs → HasUnit ds a (xs ++ ys)
-unit_before ds a xs ys p = (unit_append ds xs ys ∙ or_left _ _ p.0, unit_of_append a ds xs ys ∙ or_left _ _ p.1)
-
-member_unit : (f : Formula) (set : ℕ → Bool) (ds : List Decision) (a c n : ℕ) → c < n → member_atom f set c ≡ Some a → is_decided a ds ≡ false → HasUnit ds a (unit_clauses f set n)
-member_unit f set ds a c zero l e h = absurd (omega arith)
-member_unit f set ds a c (suc m) l e h = by_last (λ k. member_unit f set ds a c m k e h) (c == m) refl
-  where
-    by_last : (c < m → HasUnit ds a (unit_clauses f set m)) → (b : Bool) → (c == m) ≡ b → HasUnit ds a (unit_clauses f set (suc m))
+    by_last : (c < m → Among (unit_clauses f set m) (one a)) → (b : Bool) → (c == m) ≡ b → Among (unit_clauses f set (suc m)) (one a)
     by_last r true g =
         let q : c ≡ m = grind (arith, nat_tests) in
         let w : member_atom f set m ≡ Some a = rw q at e in
-        unit_behind ds a (unit_clauses f set m) (unit_clause (member_atom f set m)) (subst (λ x. HasUnit ds a (unit_clause x)) (sym w) (one_unit ds a h))
-    by_last r false g = let k : c < m = grind (arith, nat_tests) in unit_before ds a (unit_clauses f set m) (unit_clause (member_atom f set m)) (r k)
+        among_right (unit_clauses f set m) (unit_clause (member_atom f set m)) (one a) (rw w (zero, refl))
+    by_last r false g = let k : c < m = grind (arith, nat_tests) in among_left (unit_clauses f set m) (unit_clause (member_atom f set m)) (one a) (r k)
 
--- an undecided member's atom may be split by the units' rule
-pub is_open_unit : (f : Formula) (set : ℕ → Bool) (ds : List Decision) (c a : ℕ) → c < length f.candidates → Some a ≡ member_atom f set c → is_decided a ds ≡ false → IsOpenUnit f set ds a
-is_open_unit f set ds c a l e h =
-    let u = member_unit f set ds a c (length f.candidates) l (sym e) h in
-    record {
-      there = u.0;
-      of_it = u.1;
-      free = h;
-      low = λ n k. atom_low n f.candidates c a k (member_is f set c a (sym e));
-    }
+pub clause_among : (f : Formula) (set : ℕ → Bool) (x : Hint) (c : List Literal) → clause_at f set x ≡ Some c → Among (f.clauses ++ units_of f set) c
+clause_among f set (Nth k) c e = among_left f.clauses (units_of f set) c (k, e)
+clause_among f set (Member n) c e = by_atom (member_atom f set n) refl e
+  where
+    by_atom : (o : Option ℕ) → member_atom f set n ≡ o → unit_of o ≡ Some c → Among (f.clauses ++ units_of f set) c
+    by_atom None g h = absurd (cc)
+    by_atom (Some a) g h =
+        let q : one a ≡ c = cc in
+        let l = candidate_there f.candidates n a (unit_atom_of f set n a g) in
+        rw (← q) (among_right f.clauses (units_of f set) (one a) (unit_among f set n a (length f.candidates) l g))
+
+-- ---- from a clause to its hint
+
+unit_hint : (f : Formula) (set : ℕ → Bool) (n : ℕ) (c : List Literal) → Among (unit_clauses f set n) c → (m a : ℕ) × (member_atom f set m ≡ Some a) × (c ≡ one a)
+unit_hint f set zero c h = absurd (let e = h.1 in cc)
+unit_hint f set (suc n) c h =
+    elim (among_parts (unit_clauses f set n) (unit_clause (member_atom f set n)) c h) [
+      | inl g ↦ unit_hint f set n c g
+      | inr g ↦ by_atom (member_atom f set n) refl g
+    ]
+  where
+    first : (a k : ℕ) → at (one a ∷ []) k ≡ Some c → c ≡ one a
+    first a zero e = let q : one a ≡ c = cc in sym q
+    first a (suc k) e = absurd (cc)
+
+    by_atom : (o : Option ℕ) → member_atom f set n ≡ o → Among (unit_clause o) c → (m a : ℕ) × (member_atom f set m ≡ Some a) × (c ≡ one a)
+    by_atom None e g = absurd (let z = g.1 in cc)
+    by_atom (Some a) e g = (n, a, e, first a g.0 g.1)
+
+pub unit_named : (f : Formula) (set : ℕ → Bool) (c : List Literal) → Among (units_of f set) c → (m a : ℕ) × (clause_at f set (Member m) ≡ Some c) × (c ≡ one a)
+unit_named f set c h =
+    let u = unit_hint f set (length f.candidates) c h in
+    (u.0, u.1, ap unit_of u.2 ∙ ap Some (sym u.3), u.3)
+
+pub clause_named : (f : Formula) (set : ℕ → Bool) (c : List Literal) → Among (f.clauses ++ units_of f set) c → (x : Hint) × (clause_at f set x ≡ Some c)
+clause_named f set c h =
+    elim (among_parts f.clauses (units_of f set) c h) [
+      | inl g ↦ (Nth g.0, g.1)
+      | inr g ↦ let u = unit_named f set c g in (Member u.0, u.2)
+    ]
+
+-- ---- the atoms of all of them are there
+
+below_both : (n : ℕ) (xs ys : List (List Literal)) → clauses_below n xs ≡ true → clauses_below n ys ≡ true → clauses_below n (xs ++ ys) ≡ true
+below_both n [] ys h k = k
+below_both n (x ∷ xs) ys h k =
+    let s = split_and (literals_below n x) (clauses_below n xs) h in and_of _ _ s.0 (below_both n xs ys s.1 k)
+
+units_low : (f : Formula) (set : ℕ → Bool) (n m : ℕ) → units_below n f.candidates ≡ true → clauses_below n (unit_clauses f set m) ≡ true
+units_low f set n zero h = refl
+units_low f set n (suc m) h =
+    below_both n (unit_clauses f set m) (unit_clause (member_atom f set m)) (units_low f set n m h) (by_atom (member_atom f set m) refl)
+  where
+    by_atom : (o : Option ℕ) → member_atom f set m ≡ o → clauses_below n (unit_clause o) ≡ true
+    by_atom None e = refl
+    by_atom (Some a) e = rw (atom_low n f.candidates m a h (unit_atom_of f set m a e)) refl
+
+pub all_low : (f : Formula) (set : ℕ → Bool) → is_whole f ≡ true → clauses_below (length f.atoms) (f.clauses ++ units_of f set) ≡ true
+all_low f set w =
+    let s = split_and (clauses_below (length f.atoms) f.clauses) (units_below (length f.atoms) f.candidates) w in
+    below_both (length f.atoms) f.clauses (units_of f set) s.0 (units_low f set (length f.atoms) (length f.candidates) s.1)
+
+pub member_low : (f : Formula) (set : ℕ → Bool) (c a n : ℕ) → is_whole f ≡ true → n ≡ length f.atoms → member_atom f set c ≡ Some a → literals_below n (one a) ≡ true
+member_low f set c a n w e h =
+    let s = split_and (clauses_below (length f.atoms) f.clauses) (units_below (length f.atoms) f.candidates) w in
+    rw e (and_of _ _ (atom_low (length f.atoms) f.candidates c a s.1 (unit_atom_of f set c a h)) refl)

@@ -1,53 +1,75 @@
 -- Each atom that the search chooses meets the rule of splitting.
-use Rattle.std.proofs.Common.{◌≡◌, ℕ, ◌<◌, Bool, true, false, List, ◌++◌, length, refl, ◌∙◌, subst, arith}
-use Rattle.std.specs.Prelude.{Option, Some, None, MatchOption, nat_lt}
+use Rattle.std.proofs.Common.{◌≡◌, ℕ, ◌<◌, Bool, true, false, not, ◌&&◌, ◌||◌, cond, List, [], ◌∷◌, ◌++◌, length, refl, ◌∙◌, arith}
+use Rattle.std.specs.Prelude.{Option, Some, None, nat_lt}
 use Rattle.std.proofs.lemmas.Bool.Decides.{nat_tests}
-use Rattle.bg_formula.specs.Formulas.{Formula, clauses_below, units_below, is_whole}
+use Rattle.bg_formula.specs.declared.atom.Literal.{Literal}
+use Rattle.bg_formula.specs.Formulas.{Formula, is_whole}
 use Rattle.bg_cert.specs.declared.cert.Decision.{Decision}
-use Rattle.bg_cert.specs.Causes.{is_decided, any_unit, any_unit_of, any_open, any_open_of, any_false, may_split, all_decided, units_of}
-use Rattle.bg_cert.proofs.Follow.{or_left, or_right}
-use Rattle.bg_tree.specs.Picks.{first_unit, first_open, UnitsDone, IsOpenUnit}
-use Rattle.bg_tree.proofs.Firsts.{first_unit_none, first_unit_some}
-use Rattle.bg_tree.proofs.Opens.{first_open_none, first_open_some}
+use Rattle.bg_cert.specs.Paths.{decides, clause_false}
+use Rattle.bg_cert.specs.Causes.{is_decided, has_true, is_one, is_unit, any_unit, any_unit_of, any_open, any_open_of, any_false, may_split, units_of}
+use Rattle.bg_tree.specs.declared.hint.Hint.TheVariants.{Member}
+use Rattle.bg_tree.specs.Index.{clause_at}
+use Rattle.bg_tree.specs.Marks.{one_at, AllPassed, IsUnitOf, IsOpenOf}
+use Rattle.bg_tree.proofs.Places.{at_before}
+use Rattle.bg_tree.proofs.Lists.{false_in, none_unit, none_open, unit_in, unit_of_in, open_in, open_of_in}
+use Rattle.bg_tree.proofs.Units.{a_unit}
+use Rattle.bg_tree.proofs.Opens.{is_open}
 use Rattle.bg_tree.proofs.Falses.{false_parts}
-use Rattle.bg_tree.proofs.Below.{split_and, unit_below, open_below}
-use Rattle.bg_tree.proofs.Appends.{or_none, unit_append, unit_of_append, open_append, open_of_append}
+use Rattle.bg_tree.proofs.Below.{unit_below, open_below}
+use Rattle.bg_tree.proofs.Appends.{or_none, open_append}
+use Rattle.bg_tree.proofs.Members.{one, clause_among, clause_named, unit_named, all_low}
 
-whole_parts : (f : Formula) → is_whole f ≡ true → (clauses_below (length f.atoms) f.clauses ≡ true) × (units_below (length f.atoms) f.candidates ≡ true)
-whole_parts f w = split_and (clauses_below (length f.atoms) f.clauses) (units_below (length f.atoms) f.candidates) w
+-- ---- a unit
 
-pub unit_may_split : (f : Formula) (set : ℕ → Bool) (ds : List Decision) (a : ℕ) → is_whole f ≡ true → first_unit ds f.clauses ≡ Some a → may_split (length f.atoms) a ds (f.clauses ++ units_of f set) ≡ true
-unit_may_split f set ds a w h =
-    let s = first_unit_some ds f.clauses a h in
-    let u : any_unit ds (f.clauses ++ units_of f set) ≡ true = unit_append ds f.clauses (units_of f set) ∙ or_left _ _ s.0 in
-    let v : any_unit_of a ds (f.clauses ++ units_of f set) ≡ true = unit_of_append a ds f.clauses (units_of f set) ∙ or_left _ _ s.1 in
-    rw (unit_below (length f.atoms) a ds f.clauses s.1 (whole_parts f w).0, s.2, u, v) refl
+pub unit_may_split : (f : Formula) (set : ℕ → Bool) (ds : List Decision) (a : ℕ) → is_whole f ≡ true → IsUnitOf f set ds a → may_split (length f.atoms) a ds (f.clauses ++ units_of f set) ≡ true
+unit_may_split f set ds a w u = by_clause (clause_at f set u.0) refl u.1
+  where
+    by_clause : (o : Option (List Literal)) → clause_at f set u.0 ≡ o → one_at ds o ≡ Some a → may_split (length f.atoms) a ds (f.clauses ++ units_of f set) ≡ true
+    by_clause None e h = absurd (cc)
+    by_clause (Some c) e h =
+        let k = clause_among f set u.0 c e in
+        let s = a_unit ds c a h in
+        let v : any_unit_of a ds (f.clauses ++ units_of f set) ≡ true = unit_of_in a ds (f.clauses ++ units_of f set) k.0 c k.1 s.1 in
+        rw (unit_below (length f.atoms) a ds (f.clauses ++ units_of f set) v (all_low f set w), s.2, unit_in ds (f.clauses ++ units_of f set) k.0 c k.1 s.0, v) refl
 
-pub member_may_split : (f : Formula) (set : ℕ → Bool) (ds : List Decision) (a : ℕ) → is_whole f ≡ true → IsOpenUnit f set ds a → may_split (length f.atoms) a ds (f.clauses ++ units_of f set) ≡ true
-member_may_split f set ds a w o =
-    let u : any_unit ds (f.clauses ++ units_of f set) ≡ true = unit_append ds f.clauses (units_of f set) ∙ or_right _ _ o.there in
-    let v : any_unit_of a ds (f.clauses ++ units_of f set) ≡ true = unit_of_append a ds f.clauses (units_of f set) ∙ or_right _ _ o.of_it in
-    rw (o.low (length f.atoms) (whole_parts f w).1, o.free, u, v) refl
+-- ---- none is a unit
 
-no_units : (f : Formula) (set : ℕ → Bool) (ds : List Decision) → first_unit ds f.clauses ≡ None → UnitsDone ds (units_of f set) → any_unit ds (f.clauses ++ units_of f set) ≡ false
-no_units f set ds h d = unit_append ds f.clauses (units_of f set) ∙ or_none _ _ (first_unit_none ds f.clauses h) d.0
+no_units : (f : Formula) (set : ℕ → Bool) (ds : List Decision) → AllPassed f set ds → any_unit ds (f.clauses ++ units_of f set) ≡ false
+no_units f set ds p =
+    none_unit ds (f.clauses ++ units_of f set) (λ k c e. let n = clause_named f set c (k, e) in let q = n.1 in rw q at (p n.0))
 
-pub open_may_split : (f : Formula) (set : ℕ → Bool) (ds : List Decision) (a : ℕ) → is_whole f ≡ true → first_unit ds f.clauses ≡ None → UnitsDone ds (units_of f set) → first_open ds f.clauses ≡ Some a → may_split (length f.atoms) a ds (f.clauses ++ units_of f set) ≡ true
-open_may_split f set ds a w h d k =
-    let s = first_open_some ds f.clauses a k in
-    let u : any_open ds (f.clauses ++ units_of f set) ≡ true = open_append ds f.clauses (units_of f set) ∙ or_left _ _ s.0 in
-    let v : any_open_of a ds (f.clauses ++ units_of f set) ≡ true = open_of_append a ds f.clauses (units_of f set) ∙ or_left _ _ s.1 in
-    rw (open_below (length f.atoms) a ds f.clauses s.1 (whole_parts f w).0, s.2, no_units f set ds h d, u, v) refl
+pub open_may_split : (f : Formula) (set : ℕ → Bool) (ds : List Decision) (a : ℕ) → is_whole f ≡ true → AllPassed f set ds → IsOpenOf ds f.clauses a → may_split (length f.atoms) a ds (f.clauses ++ units_of f set) ≡ true
+open_may_split f set ds a w p h =
+    let cs = f.clauses ++ units_of f set in
+    let k = at_before f.clauses (units_of f set) h.0 h.1 h.2 in
+    let s = is_open ds h.1 a h.3 in
+    let v : any_open_of a ds (f.clauses ++ units_of f set) ≡ true = open_of_in a ds (f.clauses ++ units_of f set) h.0 h.1 k s.0 s.1 in
+    rw (open_below (length f.atoms) a ds (f.clauses ++ units_of f set) v (all_low f set w), s.2, no_units f set ds p, open_in ds (f.clauses ++ units_of f set) h.0 h.1 k s.0, v) refl
 
-pub free_may_split : (f : Formula) (set : ℕ → Bool) (ds : List Decision) (a : ℕ) → any_false ds (f.clauses ++ units_of f set) ≡ false → first_unit ds f.clauses ≡ None → UnitsDone ds (units_of f set) → first_open ds f.clauses ≡ None → (is_decided a ds ≡ false) × (a < length f.atoms) → may_split (length f.atoms) a ds (f.clauses ++ units_of f set) ≡ true
-free_may_split f set ds a n h d k x =
-    let l : a < length f.atoms = x.1 in
+-- ---- nor is one without a true literal
+
+one_true : (t f : Bool) (l : Literal) → (not (t || false) && is_one (cond (t || f) [] (l ∷ []))) ≡ false → (f && true) ≡ false → (t || false) ≡ true
+one_true true f l h k = refl
+one_true false true l h k = absurd (cc)
+one_true false false l h k = absurd (cc)
+
+unit_true : (ds : List Decision) (a : ℕ) → is_unit ds (one a) ≡ false → clause_false ds (one a) ≡ false → has_true ds (one a) ≡ true
+unit_true ds a h k = one_true (decides a true ds) (decides a false ds) (record { atom = a; sign = true }) h k
+
+units_true : (f : Formula) (set : ℕ → Bool) (ds : List Decision) → any_false ds (units_of f set) ≡ false → AllPassed f set ds → any_open ds (units_of f set) ≡ false
+units_true f set ds n p =
+    none_open ds (units_of f set)
+    (λ k c e.
+    let u = unit_named f set c (k, e) in
+    let q = u.2 in
+    let r = u.3 in
+    let x = rw q at (p (Member u.0)) in
+    let y = false_in ds (units_of f set) k c e n in
+    rw r (unit_true ds u.1 (rw r at x) (rw r at y)))
+
+pub free_may_split : (f : Formula) (set : ℕ → Bool) (ds : List Decision) (a : ℕ) → any_false ds (f.clauses ++ units_of f set) ≡ false → AllPassed f set ds → any_open ds f.clauses ≡ false → is_decided a ds ≡ false → a < length f.atoms → may_split (length f.atoms) a ds (f.clauses ++ units_of f set) ≡ true
+free_may_split f set ds a n p k d l =
     let t : nat_lt a (length f.atoms) ≡ true = grind (arith, nat_tests) in
-    let p = false_parts ds f.clauses (units_of f set) n in
-    let o : any_open ds (f.clauses ++ units_of f set) ≡ false = open_append ds f.clauses (units_of f set) ∙ or_none _ _ (first_open_none ds f.clauses p.0 k) (d.1 p.1) in
-    rw (t, x.0, no_units f set ds h d, o) refl
-
--- so each atom that is left undecided may be split where there is none of the others
-pub free_picked : (f : Formula) (set : ℕ → Bool) (ds : List Decision) → any_false ds (f.clauses ++ units_of f set) ≡ false → first_unit ds f.clauses ≡ None → UnitsDone ds (units_of f set) → first_open ds f.clauses ≡ None → (n : ℕ) → n ≡ length f.atoms → (r : Option ℕ) → MatchOption r (all_decided n ds ≡ true) (λ a. (is_decided a ds ≡ false) × (a < n)) → MatchOption r (all_decided (length f.atoms) ds ≡ true) (λ a. may_split (length f.atoms) a ds (f.clauses ++ units_of f set) ≡ true)
-free_picked f set ds m h d k n e None x = subst (λ z. all_decided z ds ≡ true) e x
-free_picked f set ds m h d k n e (Some a) x = free_may_split f set ds a m h d k (x.0, let l = x.1 in omega (arith, e, l))
+    let s = false_parts ds f.clauses (units_of f set) n in
+    let o : any_open ds (f.clauses ++ units_of f set) ≡ false = open_append ds f.clauses (units_of f set) ∙ or_none _ _ k (units_true f set ds s.1 p) in
+    rw (t, d, no_units f set ds p, o) refl

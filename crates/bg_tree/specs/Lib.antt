@@ -1,3 +1,5 @@
 pub mod Once
 pub mod Picks
+pub mod Index
+pub mod Marks
 pub mod Trees

@@ -4,6 +4,8 @@ ghost use Rattle.bg_formula.specs.Formulas.{formula_of, is_whole};
 ghost use Rattle.bg_cert.specs.Walks.{has};
 ghost use Rattle.bg_tree.specs.Trees.{IsOutcome};
 
+use crate::guide::first_guide;
+use crate::index::index_of;
 use crate::step::{Search, step};
 use crate::whole::whole;
 use bg_cert::{Decision, Node, first_walk};
@@ -22,7 +24,8 @@ pub enum Outcome {
 }
 
 /// Searches the clauses with the units of the set, over truth values alone, with as many inner
-/// nodes as the budget says.
+/// nodes as the budget says. A node takes time for the clauses of its last decision's atom and for
+/// what the path's mark passes.
 pub fn search(alloc: Global, f: &Clauses, set: &[bool], budget: u32) -> Result<Outcome, AllocError>
     requires { is_whole (formula_of f.now) ≡ true }
     ensures { IfOk result (λ outcome. IsOutcome (formula_of f.now) (has set.now) budget outcome) }
@@ -33,8 +36,10 @@ pub fn search(alloc: Global, f: &Clauses, set: &[bool], budget: u32) -> Result<O
         left: budget,
         seen: false,
     };
+    let i = index_of(alloc, f, set)?;
+    let mut guide = first_guide(alloc);
     while s.walk.is_open {
-        if step(f, set, &mut s)? {
+        if step(f, set, &i, &mut s, &mut guide)? {
             return Ok(Outcome::Leaf(s.walk.trail.decisions));
         }
     }

@@ -3,17 +3,24 @@
 #![tactic(auto)]
 
 mod find;
-mod first;
+mod guide;
+mod hint;
+mod index;
 pub mod laws;
 mod left;
+mod mark;
 mod pick;
+mod rows;
 mod step;
 #[cfg(test)]
 mod tests;
-mod units;
 mod whole;
 
 pub use find::{Outcome, search};
+pub use guide::Guide;
+pub use hint::Hint;
+pub use index::{Index, index_of};
 pub use left::Left;
+pub use mark::Mark;
 pub use pick::{Pick, next_at};
 pub use step::Search;

@@ -84,3 +84,28 @@ fn leaves_and_budgets(rt: HostRuntime) -> Result<(), Fail> {
     }
     Ok(())
 }
+
+/// A chain of implications from a true variable to a false one takes one split a variable.
+#[test]
+fn chains_are_followed(rt: HostRuntime) -> Result<(), Fail> {
+    let alloc = rt.alloc();
+    let links: u32 = 20_000;
+    let mut f = formula(alloc, links + 1, &[&[(0, true)], &[(links, false)]], &[])?;
+    for a in 0..links {
+        let mut clause = Vec::new(alloc);
+        clause.push(Literal {
+            atom: links - 1 - a,
+            sign: false,
+        })?;
+        clause.push(Literal {
+            atom: links - a,
+            sign: true,
+        })?;
+        f.clauses.push(clause)?;
+    }
+    match found(alloc, &f, &[], links + 1)? {
+        Outcome::Closed(nodes) => assert!(rt; nodes.len() == 2 * links as usize + 3),
+        _ => return Err("the chain isn't closed".into()),
+    }
+    Ok(())
+}

@@ -1,38 +1,33 @@
-use Rattle.std.proofs.Common.{sym, ◌∙◌}
+use Rattle.std.proofs.Common.{arith}
 use Rattle.std.proofs.lemmas.List.{length-map}
 use Rattle.bg_formula.specs.Atoms.{atom_of}
 use Rattle.bg_formula.specs.Formulas.{formula_of}
+use Rattle.bg_cert.specs.Causes.{units_of}
 use Rattle.bg_cert.specs.Walks.{has}
-use Rattle.bg_tree.proofs.Rule.{unit_may_split, member_may_split, open_may_split, free_picked}
+use Rattle.bg_tree.proofs.Falses.{false_parts}
+use Rattle.bg_tree.proofs.Rule.{unit_may_split, open_may_split, free_may_split}
 use Rattle.bg_tree.proofs.pick.pick_atom.Goals as goal
 
-pub returns-in-Some : goal.returns-in-Some
-returns-in-Some c =
-    let v = c.deref.ensures.value in
-    let h = c.in-Some.ensures in
-    let g = rw v at h in
-    unit_may_split (formula_of c.args.f.now) (has c.args.set.now) c.args.trail.now.decisions.items c.in-Some.a c.requires.whole (sym g)
+pub returns-in-Some-clause-split : goal.returns-in-Some-clause-split
+returns-in-Some-clause-split c =
+    unit_may_split (formula_of c.args.f.now) (has c.args.set.now) c.args.trail.now.decisions.items c.in-Some.a c.requires.whole c.in-Some.ensures.unit
 
-pub returns-in-Some-open_unit : goal.returns-in-Some-open_unit
-returns-in-Some-open_unit c =
-    member_may_split (formula_of c.args.f.now) (has c.args.set.now) c.args.trail.now.decisions.items c.in-Some-open_unit.a c.requires.whole c.in-Some-open_unit.ensures
+pub open_from-requires-clause-fine : goal.open_from-requires-clause-fine
+open_from-requires-clause-fine c =
+    let f = formula_of c.args.f.now in
+    rw c.deref.ensures.value ((false_parts c.args.trail.now.decisions.items f.clauses (units_of f (has c.args.set.now)) c.requires.fine).0)
 
-pub returns-in-Some-first_open : goal.returns-in-Some-first_open
-returns-in-Some-first_open c =
+pub returns-in-Some-open_from-clause-split : goal.returns-in-Some-open_from-clause-split
+returns-in-Some-open_from-clause-split c =
     let v = c.deref.ensures.value in
-    let h = c.in_default.ensures in
+    let h = c.in-Some-open_from.ensures.open in
     let g = rw v at h in
-    let w = c.deref-2.ensures.value in
-    let k = c.in-Some-first_open.ensures in
-    let l = rw w at k in
-    open_may_split (formula_of c.args.f.now) (has c.args.set.now) c.args.trail.now.decisions.items c.in-Some-first_open.a c.requires.whole (sym g) c.in_default-open_unit.ensures (sym l)
+    open_may_split (formula_of c.args.f.now) (has c.args.set.now) c.args.trail.now.decisions.items c.in-Some-open_from.a c.requires.whole c.in_default.ensures.unit g
 
-pub returns : goal.returns
-returns c =
+pub returns-in-Some-free_from-clause-split : goal.returns-in-Some-free_from-clause-split
+returns-in-Some-free_from-clause-split c =
     let v = c.deref.ensures.value in
-    let h = c.in_default.ensures in
+    let h = c.in_default-open_from.ensures.open in
     let g = rw v at h in
-    let w = c.deref-2.ensures.value in
-    let k = c.in_default-first_open.ensures in
-    let l = rw w at k in
-    free_picked (formula_of c.args.f.now) (has c.args.set.now) c.args.trail.now.decisions.items c.requires.fine (sym g) c.in_default-open_unit.ensures (sym l) c.len.result (c.len.ensures ∙ c.args.f.now.atoms.ok.0 ∙ sym (length-map c.args.f.now.atoms.items atom_of)) c.first_free.result c.first_free.ensures
+    let x = c.in-Some-free_from.ensures.free in
+    free_may_split (formula_of c.args.f.now) (has c.args.set.now) c.args.trail.now.decisions.items c.in-Some-free_from.a c.requires.fine c.in_default.ensures.unit g x.0 (let l = x.1 in omega (arith, c.len.ensures, c.args.f.now.atoms.ok.0, length-map c.args.f.now.atoms.items atom_of))
