@@ -1,12 +1,17 @@
-use Rattle.std.proofs.Common.{◌≡◌, ◌≢◌, ℕ, Bool, true, false, List, [], ◌∷◌, ◌++◌, codes, count_by, sym, ap, ◌∙◌, append_assoc, arith}
+use Rattle.std.proofs.Common.{◌≡◌, ◌≢◌, ℕ, Bool, true, false, List, [], ◌∷◌, ◌++◌, Option, codes, count_by, flat_map, map, sym, ap, ◌∙◌, append_assoc, if◌then◌else◌, arith, refl}
 use Rattle.std.proofs.lemmas.List.{append_cancel_left}
 use Rattle.std.specs.Fmt.{decimal}
-use Rattle.bg_base.specs.declared.pos.Pos.{Pos}
-use Rattle.bg_judge.specs.declared.node.Node.{Node}
-use Rattle.bg_judge.specs.declared.check.Verdict.{Verdict}
-use Rattle.bg_judge.specs.declared.check.Verdict.TheVariants as verdict
-use Rattle.bg_told.specs.Report.{line, texts, value_text, choice_text, choice_texts, truth_text, place_text, position_text, refuted_text, unknown_text, is_split}
-use Rattle.bg_told.proofs.Cuts.{cut, decimal_is_high, position_is_high}
+use Rattle.bg_cert.specs.declared.cert.Node.{Node}
+use Rattle.bg_places.specs.declared.place.Place.{Place}
+use Rattle.bg_replay.specs.declared.choice.Choice.{Choice}
+use Rattle.bg_model.specs.declared.counterexample.Counterexample.{Counterexample}
+use Rattle.bg_check.specs.declared.verdict.Verdict.{Verdict}
+use Rattle.bg_check.specs.declared.verdict.Verdict.TheVariants as verdict
+use Rattle.bg_check.specs.declared.verdict.Judged.{Judged}
+use Rattle.bg_told.specs.Words.{is_ordinary}
+use Rattle.bg_told.specs.Lines.{line, texts, truth_text}
+use Rattle.bg_told.specs.Places.{place_text, value_text, chosen_text, choice_text, refuted_text, is_inner, unknown_text, verdict_text, judged_text}
+use Rattle.bg_told.proofs.Cuts.{cut, decimal_is_flat, place_is_flat, chosen_is_flat, behind_is_flat}
 
 abbrev pub first : List ℕ → ℕ
 first [] = 0
@@ -45,8 +50,8 @@ value_apart name false false x y h = append_cancel_left (value_text name false) 
 value_apart name true false x y h = absurd (other_value name x y h)
 value_apart name false true x y h = absurd (other_value name y x (sym h))
 
--- the values of one scope end where no value's line follows
-values_apart : (scope : List (List ℕ)) (vs ws : List Bool) (x y : List ℕ) → fifth x ≢ 118 → fifth y ≢ 118 → texts value_text scope vs ++ x ≡ texts value_text scope ws ++ y → x ≡ y
+-- the values of one row of names end where no value's line follows
+values_apart : (names : List (List ℕ)) (vs ws : List Bool) (x y : List ℕ) → fifth x ≢ 118 → fifth y ≢ 118 → texts value_text names vs ++ x ≡ texts value_text names ws ++ y → x ≡ y
 values_apart [] vs ws x y hx hy h = h
 values_apart (n ∷ ns) [] [] x y hx hy h = h
 values_apart (n ∷ ns) (v ∷ vs) [] x y hx hy h = absurd (hy (sym (ap fifth h)))
@@ -55,106 +60,133 @@ values_apart (n ∷ ns) (v ∷ vs) (w ∷ ws) x y hx hy h =
     values_apart ns vs ws x y hx hy
     (value_apart n v w _ _ (sym (append_assoc (value_text n v) (texts value_text ns vs) x) ∙ h ∙ append_assoc (value_text n w) (texts value_text ns ws) y))
 
-choice_cells : (v : Bool) (x : List ℕ) → choice_text v ++ x ≡ codes "    choice " ++ (truth_text v ++ (10 ∷ x))
-choice_cells v x = simp append_assoc
+choice_cells : (c : Choice) (x : List ℕ) → choice_text c ++ x ≡ codes "    choice " ++ (chosen_text c ++ (10 ∷ x))
+choice_cells c x = append_assoc (codes "    choice " ++ chosen_text c) (10 ∷ []) x
 
-other_choice : (x y : List ℕ) → choice_text true ++ x ≡ choice_text false ++ y → ⊥
-other_choice x y h =
-    let e : truth_text true ++ (10 ∷ x) ≡ truth_text false ++ (10 ∷ y) = append_cancel_left (codes "    choice ") _ _ (sym (choice_cells true x) ∙ h ∙ choice_cells false y) in
-    let f : 116 ≡ 102 = ap first e in
-    omega (arith, f)
-
-choice_apart : (v w : Bool) (x y : List ℕ) → choice_text v ++ x ≡ choice_text w ++ y → x ≡ y
-choice_apart true true x y h = append_cancel_left (choice_text true) x y h
-choice_apart false false x y h = append_cancel_left (choice_text false) x y h
-choice_apart true false x y h = absurd (other_choice x y h)
-choice_apart false true x y h = absurd (other_choice y x (sym h))
+choice_apart : (c d : Choice) (x y : List ℕ) → choice_text c ++ x ≡ choice_text d ++ y → x ≡ y
+choice_apart c d x y h =
+    cut (chosen_text c) (chosen_text d) x y (chosen_is_flat c) (chosen_is_flat d)
+    (append_cancel_left (codes "    choice ") _ _ (sym (choice_cells c x) ∙ h ∙ choice_cells d y))
 
 -- the choices end where no choice's line follows
-choices_apart : (vs ws : List Bool) (x y : List ℕ) → third x ≢ 32 → third y ≢ 32 → choice_texts vs ++ x ≡ choice_texts ws ++ y → x ≡ y
+choices_apart : (cs ds : List Choice) (x y : List ℕ) → third x ≢ 32 → third y ≢ 32 → flat_map choice_text cs ++ x ≡ flat_map choice_text ds ++ y → x ≡ y
 choices_apart [] [] x y hx hy h = h
-choices_apart (v ∷ vs) [] x y hx hy h = absurd (hy (sym (ap third h)))
-choices_apart [] (w ∷ ws) x y hx hy h = absurd (hx (ap third h))
-choices_apart (v ∷ vs) (w ∷ ws) x y hx hy h =
-    choices_apart vs ws x y hx hy
-    (choice_apart v w _ _ (sym (append_assoc (choice_text v) (choice_texts vs) x) ∙ h ∙ append_assoc (choice_text w) (choice_texts ws) y))
+choices_apart (c ∷ cs) [] x y hx hy h = absurd (hy (sym (ap third h)))
+choices_apart [] (d ∷ ds) x y hx hy h = absurd (hx (ap third h))
+choices_apart (c ∷ cs) (d ∷ ds) x y hx hy h =
+    choices_apart cs ds x y hx hy
+    (choice_apart c d _ _ (sym (append_assoc (choice_text c) (flat_map choice_text cs) x) ∙ h ∙ append_assoc (choice_text d) (flat_map choice_text ds) y))
 
 -- behind the values
-no_value_behind : (cs : List Bool) (x : List ℕ) → IsPast x → fifth (choice_texts cs ++ x) ≢ 118
+no_value_behind : (cs : List Choice) (x : List ℕ) → IsPast x → fifth (flat_map choice_text cs ++ x) ≢ 118
 no_value_behind [] x h = h.no_value
 no_value_behind (c ∷ cs) x h = λ e. let f : 99 ≡ 118 = e in omega (arith, f)
 
-refuted_line : (a t x : List ℕ) → (line (codes "  refuted assert " ++ a) ++ t) ++ x ≡ codes "  refuted assert " ++ (a ++ (10 ∷ (t ++ x)))
-refuted_line a t x = simp append_assoc
+refuted_cells : (a t u x : List ℕ) → (line (codes "  refuted " ++ a) ++ (t ++ u)) ++ x ≡ codes "  refuted " ++ (a ++ (10 ∷ (t ++ (u ++ x))))
+refuted_cells a t u x = append_assoc (line (codes "  refuted " ++ a)) (t ++ u) x ∙ append_assoc (codes "  refuted " ++ a) (10 ∷ []) ((t ++ u) ++ x) ∙ ap (λ z. codes "  refuted " ++ (a ++ (10 ∷ z))) (append_assoc t u x)
 
-refuted_cells : (a t u x : List ℕ) → (line (codes "  refuted assert " ++ a) ++ (t ++ u)) ++ x ≡ codes "  refuted assert " ++ (a ++ (10 ∷ (t ++ (u ++ x))))
-refuted_cells a t u x = refuted_line a (t ++ u) x ∙ ap (λ z. codes "  refuted assert " ++ (a ++ (10 ∷ z))) (append_assoc t u x)
-
-two_lines : (c a m k d x : List ℕ) → (line (c ++ a ++ m) ++ line (k ++ d)) ++ x ≡ c ++ (a ++ (m ++ (10 ∷ (k ++ (d ++ (10 ∷ x))))))
+two_lines : (c a m k d x : List ℕ) → (line ((c ++ a) ++ m) ++ line (k ++ d)) ++ x ≡ c ++ ((a ++ m) ++ (10 ∷ (k ++ (d ++ (10 ∷ x)))))
 two_lines c a m k d x = simp append_assoc
 
-unknown_cells : (a d x : List ℕ) → (line (codes "  unknown assert " ++ a ++ codes " nodes") ++ line (codes "    kept " ++ d)) ++ x ≡ codes "  unknown assert " ++ (a ++ (32 ∷ (codes "nodes" ++ (10 ∷ (codes "    kept " ++ (d ++ (10 ∷ x)))))))
-unknown_cells a d x = two_lines (codes "  unknown assert ") a (codes " nodes") (codes "    kept ") d x
+unknown_cells : (a d x : List ℕ) → (line ((codes "  unknown " ++ a) ++ codes " nodes") ++ line (codes "    kept " ++ d)) ++ x ≡ codes "  unknown " ++ ((a ++ codes " nodes") ++ (10 ∷ (codes "    kept " ++ (d ++ (10 ∷ x)))))
+unknown_cells a d x = two_lines (codes "  unknown ") a (codes " nodes") (codes "    kept ") d x
 
-refuted_apart : (scope : List (List ℕ)) (p q : Pos) (vs ws cs ds : List Bool) (x y : List ℕ) → IsPast x → IsPast y → refuted_text scope p vs cs ++ x ≡ refuted_text scope q ws ds ++ y → x ≡ y
-refuted_apart scope p q vs ws cs ds x y hx hy h =
-    choices_apart cs ds x y hx.no_choice hy.no_choice
-    (values_apart scope vs ws (choice_texts cs ++ x) (choice_texts ds ++ y) (no_value_behind cs x hx) (no_value_behind ds y hy)
-    (cut 10 (position_text p) (position_text q) _ _ (omega arith) (position_is_high p) (position_is_high q)
-    (append_cancel_left (codes "  refuted assert ") _ _ (sym (refuted_cells (position_text p) (texts value_text scope vs) (choice_texts cs) x) ∙ h ∙ refuted_cells (position_text q) (texts value_text scope ws) (choice_texts ds) y))))
+refuted_apart : (names : List (List ℕ)) (p q : Place) (c d : Counterexample) (x y : List ℕ) → IsPast x → IsPast y → refuted_text names p c ++ x ≡ refuted_text names q d ++ y → x ≡ y
+refuted_apart names p q c d x y hx hy h =
+    let vs = c.globals.items ++ c.frame.items in
+    let ws = d.globals.items ++ d.frame.items in
+    choices_apart c.choices.items d.choices.items x y hx.no_choice hy.no_choice
+    (values_apart names vs ws (flat_map choice_text c.choices.items ++ x) (flat_map choice_text d.choices.items ++ y) (no_value_behind c.choices.items x hx) (no_value_behind d.choices.items y hy)
+    (cut (place_text p) (place_text q) _ _ (place_is_flat p) (place_is_flat q)
+    (append_cancel_left (codes "  refuted ") _ _ (sym (refuted_cells (place_text p) (texts value_text names vs) (flat_map choice_text c.choices.items) x) ∙ h ∙ refuted_cells (place_text q) (texts value_text names ws) (flat_map choice_text d.choices.items) y))))
 
-unknown_apart : (p q : Pos) (ns ms : List Node) (x y : List ℕ) → unknown_text p ns ++ x ≡ unknown_text q ms ++ y → x ≡ y
+unknown_apart : (p q : Place) (ns ms : List (Option Node)) (x y : List ℕ) → unknown_text p ns ++ x ≡ unknown_text q ms ++ y → x ≡ y
 unknown_apart p q ns ms x y h =
-    let a = decimal (count_by is_split ns) in
-    let b = decimal (count_by is_split ms) in
-    cut 10 a b x y (omega arith) (decimal_is_high (count_by is_split ns)) (decimal_is_high (count_by is_split ms))
-    (append_cancel_left (codes "nodes" ++ (10 ∷ codes "    kept ")) _ _
-    (cut 32 (position_text p) (position_text q) _ _ (omega arith) (position_is_high p) (position_is_high q)
-    (append_cancel_left (codes "  unknown assert ") _ _ (sym (unknown_cells (position_text p) a x) ∙ h ∙ unknown_cells (position_text q) b y))))
+    let a = decimal (count_by is_inner ns) in
+    let b = decimal (count_by is_inner ms) in
+    cut a b x y (decimal_is_flat (count_by is_inner ns)) (decimal_is_flat (count_by is_inner ms))
+    (append_cancel_left (codes "    kept ") _ _
+    (cut (place_text p ++ codes " nodes") (place_text q ++ codes " nodes") _ _ (behind_is_flat (place_text p) (codes " nodes") (place_is_flat p) refl) (behind_is_flat (place_text q) (codes " nodes") (place_is_flat q) refl)
+    (append_cancel_left (codes "  unknown ") _ _ (sym (unknown_cells (place_text p) a x) ∙ h ∙ unknown_cells (place_text q) b y))))
 
-past_places : (scope : List (List ℕ)) (ps : List Pos) (vs : List Verdict) (x : List ℕ) → IsPast x → IsPast (texts (place_text scope) ps vs ++ x)
-past_places scope [] vs x hx = hx
-past_places scope (p ∷ ps) [] x hx = hx
-past_places scope (p ∷ ps) (verdict.Proved nodes ∷ vs) x hx = past_places scope ps vs x hx
-past_places scope (p ∷ ps) (verdict.Refuted cex ∷ vs) x hx = record { no_value = λ e. omega (arith, e); no_choice = λ e. omega (arith, e) }
-past_places scope (p ∷ ps) (verdict.Unknown nodes ∷ vs) x hx = record { no_value = λ e. omega (arith, e); no_choice = λ e. omega (arith, e) }
+-- a place's part of a report: nothing, or that of a refuted or an unknown place
+data Shape : Type 0 where
+  Nothing : Shape
+  Shown : Place → Counterexample → Shape
+  Spent : Place → List (Option Node) → Shape
+
+abbrev shape_text : List (List ℕ) → Shape → List ℕ
+shape_text names Nothing = []
+shape_text names (Shown p cex) = refuted_text names p cex
+shape_text names (Spent p ns) = unknown_text p ns
+
+abbrev shape_if : Bool → Place → Verdict → Shape
+shape_if false p v = Nothing
+shape_if true p (verdict.Proved nodes) = Nothing
+shape_if true p (verdict.Refuted cex) = Shown p cex
+shape_if true p (verdict.Unknown nodes) = Spent p nodes.items
+
+abbrev shape_of : Judged → Shape
+shape_of j = shape_if (is_ordinary j.place) j.place j.verdict
+
+shaped : (names : List (List ℕ)) (o : Bool) (p : Place) (v : Verdict) → (if o then verdict_text names p v else []) ≡ shape_text names (shape_if o p v)
+shaped names false p v = refl
+shaped names true p (verdict.Proved nodes) = refl
+shaped names true p (verdict.Refuted cex) = refl
+shaped names true p (verdict.Unknown nodes) = refl
+
+abbrev shapes_text : List (List ℕ) → List Shape → List ℕ
+shapes_text names = flat_map (shape_text names)
+
+all_shaped : (names : List (List ℕ)) (js : List Judged) → flat_map (judged_text names) js ≡ shapes_text names (map shape_of js)
+all_shaped names [] = refl
+all_shaped names (j ∷ js) =
+    ap (λ (t : List ℕ). t ++ flat_map (judged_text names) js) (shaped names (is_ordinary j.place) j.place j.verdict)
+    ∙ ap (λ (t : List ℕ). shape_text names (shape_of j) ++ t) (all_shaped names js)
+
+past_shapes : (names : List (List ℕ)) (ss : List Shape) (x : List ℕ) → IsPast x → IsPast (shapes_text names ss ++ x)
+past_shapes names [] x hx = hx
+past_shapes names (Nothing ∷ ss) x hx = past_shapes names ss x hx
+past_shapes names (Shown p cex ∷ ss) x hx = record { no_value = λ e. omega (arith, e); no_choice = λ e. omega (arith, e) }
+past_shapes names (Spent p ns ∷ ss) x hx = record { no_value = λ e. omega (arith, e); no_choice = λ e. omega (arith, e) }
 
 -- where no place is told, none is on the other side
-none_apart : (scope : List (List ℕ)) (ps : List Pos) (vs : List Verdict) (x y : List ℕ) → IsHead x → x ≡ texts (place_text scope) ps vs ++ y → x ≡ y
-none_apart scope [] vs x y hx h = h
-none_apart scope (p ∷ ps) [] x y hx h = h
-none_apart scope (p ∷ ps) (verdict.Proved nodes ∷ vs) x y hx h = none_apart scope ps vs x y hx h
-none_apart scope (p ∷ ps) (verdict.Refuted cex ∷ vs) x y hx h = absurd (hx.no_place (ap first h))
-none_apart scope (p ∷ ps) (verdict.Unknown nodes ∷ vs) x y hx h = absurd (hx.no_place (ap first h))
+none_apart : (names : List (List ℕ)) (ss : List Shape) (x y : List ℕ) → IsHead x → x ≡ shapes_text names ss ++ y → x ≡ y
+none_apart names [] x y hx h = h
+none_apart names (Nothing ∷ ss) x y hx h = none_apart names ss x y hx h
+none_apart names (Shown p cex ∷ ss) x y hx h = absurd (hx.no_place (ap first h))
+none_apart names (Spent p ns ∷ ss) x y hx h = absurd (hx.no_place (ap first h))
 
 -- a refuted place, and then a text t that is read in one way
-refuted_first : (scope : List (List ℕ)) (q : Pos) (entry choices : List Bool) (ps : List Pos) (vs : List Verdict) (t x y : List ℕ) → IsPast t → IsHead y → ((qs : List Pos) (ws : List Verdict) → t ≡ texts (place_text scope) qs ws ++ y → x ≡ y) → refuted_text scope q entry choices ++ t ≡ texts (place_text scope) ps vs ++ y → x ≡ y
-refuted_first scope q entry choices [] vs t x y ht hy ih h = absurd (hy.no_place (sym (ap first h)))
-refuted_first scope q entry choices (p ∷ ps) [] t x y ht hy ih h = absurd (hy.no_place (sym (ap first h)))
-refuted_first scope q entry choices (p ∷ ps) (verdict.Proved nodes ∷ vs) t x y ht hy ih h = refuted_first scope q entry choices ps vs t x y ht hy ih h
-refuted_first scope q entry choices (p ∷ ps) (verdict.Refuted cex ∷ vs) t x y ht hy ih h =
-    ih ps vs (refuted_apart scope q p entry cex.entry.items choices cex.choices.items t _ ht (past_places scope ps vs y hy.past) (h ∙ append_assoc (refuted_text scope p cex.entry.items cex.choices.items) (texts (place_text scope) ps vs) y))
-refuted_first scope q entry choices (p ∷ ps) (verdict.Unknown nodes ∷ vs) t x y ht hy ih h = let e : 114 ≡ 117 = ap third h in absurd (omega (arith, e))
+refuted_first : (names : List (List ℕ)) (q : Place) (c : Counterexample) (ss : List Shape) (t x y : List ℕ) → IsPast t → IsHead y → ((rest : List Shape) → t ≡ shapes_text names rest ++ y → x ≡ y) → refuted_text names q c ++ t ≡ shapes_text names ss ++ y → x ≡ y
+refuted_first names q c [] t x y ht hy ih h = absurd (hy.no_place (sym (ap first h)))
+refuted_first names q c (Nothing ∷ ss) t x y ht hy ih h = refuted_first names q c ss t x y ht hy ih h
+refuted_first names q c (Shown p cex ∷ ss) t x y ht hy ih h =
+    ih ss (refuted_apart names q p c cex t _ ht (past_shapes names ss y hy.past) (h ∙ append_assoc (refuted_text names p cex) (shapes_text names ss) y))
+refuted_first names q c (Spent p ns ∷ ss) t x y ht hy ih h = let e : 114 ≡ 117 = ap third h in absurd (omega (arith, e))
 
 -- an unknown place, and then a text t that is read in one way
-unknown_first : (scope : List (List ℕ)) (q : Pos) (ns : List Node) (ps : List Pos) (vs : List Verdict) (t x y : List ℕ) → IsHead y → ((qs : List Pos) (ws : List Verdict) → t ≡ texts (place_text scope) qs ws ++ y → x ≡ y) → unknown_text q ns ++ t ≡ texts (place_text scope) ps vs ++ y → x ≡ y
-unknown_first scope q ns [] vs t x y hy ih h = absurd (hy.no_place (sym (ap first h)))
-unknown_first scope q ns (p ∷ ps) [] t x y hy ih h = absurd (hy.no_place (sym (ap first h)))
-unknown_first scope q ns (p ∷ ps) (verdict.Proved nodes ∷ vs) t x y hy ih h = unknown_first scope q ns ps vs t x y hy ih h
-unknown_first scope q ns (p ∷ ps) (verdict.Refuted cex ∷ vs) t x y hy ih h = let e : 117 ≡ 114 = ap third h in absurd (omega (arith, e))
-unknown_first scope q ns (p ∷ ps) (verdict.Unknown nodes ∷ vs) t x y hy ih h =
-    ih ps vs (unknown_apart q p ns nodes.items t _ (h ∙ append_assoc (unknown_text p nodes.items) (texts (place_text scope) ps vs) y))
+unknown_first : (names : List (List ℕ)) (q : Place) (ms : List (Option Node)) (ss : List Shape) (t x y : List ℕ) → IsHead y → ((rest : List Shape) → t ≡ shapes_text names rest ++ y → x ≡ y) → unknown_text q ms ++ t ≡ shapes_text names ss ++ y → x ≡ y
+unknown_first names q ms [] t x y hy ih h = absurd (hy.no_place (sym (ap first h)))
+unknown_first names q ms (Nothing ∷ ss) t x y hy ih h = unknown_first names q ms ss t x y hy ih h
+unknown_first names q ms (Shown p cex ∷ ss) t x y hy ih h = let e : 117 ≡ 114 = ap third h in absurd (omega (arith, e))
+unknown_first names q ms (Spent p ns ∷ ss) t x y hy ih h =
+    ih ss (unknown_apart q p ms ns t _ (h ∙ append_assoc (unknown_text p ns) (shapes_text names ss) y))
 
--- what follows the places of one scope
-pub places_apart : (scope : List (List ℕ)) (ps qs : List Pos) (vs ws : List Verdict) (x y : List ℕ) → IsHead x → IsHead y → texts (place_text scope) ps vs ++ x ≡ texts (place_text scope) qs ws ++ y → x ≡ y
-places_apart scope [] qs vs ws x y hx hy h = none_apart scope qs ws x y hx h
-places_apart scope (p ∷ ps) qs [] ws x y hx hy h = none_apart scope qs ws x y hx h
-places_apart scope (p ∷ ps) qs (verdict.Proved nodes ∷ vs) ws x y hx hy h = places_apart scope ps qs vs ws x y hx hy h
-places_apart scope (p ∷ ps) qs (verdict.Refuted cex ∷ vs) ws x y hx hy h =
-    refuted_first scope p cex.entry.items cex.choices.items qs ws (texts (place_text scope) ps vs ++ x) x y (past_places scope ps vs x hx.past) hy
-    (λ (qs' : List Pos) (ws' : List Verdict). places_apart scope ps qs' vs ws' x y hx hy)
-    (sym (append_assoc (refuted_text scope p cex.entry.items cex.choices.items) (texts (place_text scope) ps vs) x) ∙ h)
-places_apart scope (p ∷ ps) qs (verdict.Unknown nodes ∷ vs) ws x y hx hy h =
-    unknown_first scope p nodes.items qs ws (texts (place_text scope) ps vs ++ x) x y hy
-    (λ (qs' : List Pos) (ws' : List Verdict). places_apart scope ps qs' vs ws' x y hx hy)
-    (sym (append_assoc (unknown_text p nodes.items) (texts (place_text scope) ps vs) x) ∙ h)
+shapes_apart : (names : List (List ℕ)) (ss rs : List Shape) (x y : List ℕ) → IsHead x → IsHead y → shapes_text names ss ++ x ≡ shapes_text names rs ++ y → x ≡ y
+shapes_apart names [] rs x y hx hy h = none_apart names rs x y hx h
+shapes_apart names (Nothing ∷ ss) rs x y hx hy h = shapes_apart names ss rs x y hx hy h
+shapes_apart names (Shown p cex ∷ ss) rs x y hx hy h =
+    refuted_first names p cex rs (shapes_text names ss ++ x) x y (past_shapes names ss x hx.past) hy
+    (λ (rest : List Shape). shapes_apart names ss rest x y hx hy)
+    (sym (append_assoc (refuted_text names p cex) (shapes_text names ss) x) ∙ h)
+shapes_apart names (Spent p ns ∷ ss) rs x y hx hy h =
+    unknown_first names p ns rs (shapes_text names ss ++ x) x y hy
+    (λ (rest : List Shape). shapes_apart names ss rest x y hx hy)
+    (sym (append_assoc (unknown_text p ns) (shapes_text names ss) x) ∙ h)
+
+-- what follows the places of one implementation
+pub places_apart : (names : List (List ℕ)) (js ks : List Judged) (x y : List ℕ) → IsHead x → IsHead y → flat_map (judged_text names) js ++ x ≡ flat_map (judged_text names) ks ++ y → x ≡ y
+places_apart names js ks x y hx hy h =
+    shapes_apart names (map shape_of js) (map shape_of ks) x y hx hy
+    (ap (λ (t : List ℕ). t ++ x) (sym (all_shaped names js)) ∙ h ∙ ap (λ (t : List ℕ). t ++ y) (all_shaped names ks))

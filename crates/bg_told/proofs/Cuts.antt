@@ -1,42 +1,94 @@
-use Rattle.std.proofs.Common.{◌≡◌, ℕ, zero, suc, ◌+◌, ◌/◌, ◌%◌, ◌≤◌, ◌<◌, ◌==◌, true, false, List, [], ◌∷◌, ◌++◌, if◌then◌else◌, nat_lt, arith}
+use Rattle.std.proofs.Common.{◌≡◌, ℕ, zero, suc, ◌+◌, ◌/◌, ◌%◌, ◌≤◌, ◌==◌, ◌&&◌, Bool, true, false, List, [], ◌∷◌, ◌++◌, Option, Some, None, if◌then◌else◌, nat_lt, nat_le, codes, arith, refl}
+use Rattle.std.proofs.lemmas.Bool.{and_parts, leb-true}
 use Rattle.std.specs.Fmt.{decimal, digits, digits_onto, digit_glyph}
 use Rattle.bg_base.specs.declared.pos.Pos.{Pos}
-use Rattle.bg_told.specs.Report.{position_text}
+use Rattle.bg_places.specs.declared.place.Spot.{Spot}
+use Rattle.bg_places.specs.declared.place.Spot.TheVariants.{Assert, Entry, Turn, Call, Return}
+use Rattle.bg_places.specs.declared.place.Place.{Place}
+use Rattle.bg_replay.specs.declared.choice.Choice.{Choice}
+use Rattle.bg_replay.specs.declared.choice.Choice.TheVariants.{Branch, Chosen}
+use Rattle.bg_told.specs.Lines.{position_text}
+use Rattle.bg_told.specs.Places.{kind_text, call_text, place_text, chosen_text}
 
--- no byte is below the digits: none is a newline or a space
-pub IsHigh : List ℕ → Type 0
-IsHigh [] = Unit {0}
-IsHigh (b ∷ bs) = (48 ≤ b) × IsHigh bs
+-- no byte is below a space: none is a newline
+pub IsFlat : List ℕ → Type 0
+IsFlat [] = Unit {0}
+IsFlat (b ∷ bs) = (32 ≤ b) × IsFlat bs
 
--- what stands behind the first low byte
-pub cut : (low : ℕ) (a b x y : List ℕ) → low < 48 → IsHigh a → IsHigh b → a ++ low ∷ x ≡ b ++ low ∷ y → x ≡ y
-unfolding IsHigh
-cut low [] [] x y l ha hb h = cc
-cut low [] (b ∷ bs) x y l ha hb h = let e : low ≡ b = cc in absurd (omega (arith, e, hb.0))
-cut low (a ∷ as') [] x y l ha hb h = let e : a ≡ low = cc in absurd (omega (arith, e, ha.0))
-cut low (a ∷ as') (b ∷ bs) x y l ha hb h = let e : as' ++ low ∷ x ≡ bs ++ low ∷ y = cc in cut low as' bs x y l ha.1 hb.1 e
+-- what stands behind the first newline
+pub cut : (a b x y : List ℕ) → IsFlat a → IsFlat b → a ++ 10 ∷ x ≡ b ++ 10 ∷ y → x ≡ y
+unfolding IsFlat
+cut [] [] x y ha hb h = cc
+cut [] (b ∷ bs) x y ha hb h = let e : 10 ≡ b = cc in absurd (omega (arith, e, hb.0))
+cut (a ∷ as') [] x y ha hb h = let e : a ≡ 10 = cc in absurd (omega (arith, e, ha.0))
+cut (a ∷ as') (b ∷ bs) x y ha hb h = let e : as' ++ 10 ∷ x ≡ bs ++ 10 ∷ y = cc in cut as' bs x y ha.1 hb.1 e
 
-glyph_is_high : (d : ℕ) → 48 ≤ digit_glyph false d
-glyph_is_high d = elim (nat_lt d 10) as (λ b. 48 ≤ (if b then 48 + d else 87 + d)) [ true ↦ omega arith | false ↦ omega arith ]
+glyph_is_high : (d : ℕ) → 32 ≤ digit_glyph false d
+glyph_is_high d = elim (nat_lt d 10) as (λ b. 32 ≤ (if b then 48 + d else 87 + d)) [ true ↦ omega arith | false ↦ omega arith ]
 
-onto_is_high : (k n : ℕ) (acc : List ℕ) → IsHigh acc → IsHigh (digits_onto k 10 false n acc)
-unfolding IsHigh
-onto_is_high zero n acc h = h
-onto_is_high (suc k) n acc h =
-    elim (n / 10 == 0) as (λ b. IsHigh (if b then digit_glyph false (n % 10) ∷ acc else digits_onto k 10 false (n / 10) (digit_glyph false (n % 10) ∷ acc))) [
+onto_is_flat : (k n : ℕ) (acc : List ℕ) → IsFlat acc → IsFlat (digits_onto k 10 false n acc)
+unfolding IsFlat
+onto_is_flat zero n acc h = h
+onto_is_flat (suc k) n acc h =
+    elim (n / 10 == 0) as (λ b. IsFlat (if b then digit_glyph false (n % 10) ∷ acc else digits_onto k 10 false (n / 10) (digit_glyph false (n % 10) ∷ acc))) [
       | true ↦ (glyph_is_high (n % 10), h)
-      | false ↦ onto_is_high k (n / 10) (digit_glyph false (n % 10) ∷ acc) (glyph_is_high (n % 10), h)
+      | false ↦ onto_is_flat k (n / 10) (digit_glyph false (n % 10) ∷ acc) (glyph_is_high (n % 10), h)
     ]
 
-pub decimal_is_high : (n : ℕ) → IsHigh (decimal n)
-unfolding IsHigh digits
-decimal_is_high n = onto_is_high 64 n [] tt
+pub decimal_is_flat : (n : ℕ) → IsFlat (decimal n)
+unfolding IsFlat digits
+decimal_is_flat n = onto_is_flat 64 n [] tt
 
-append_is_high : (a b : List ℕ) → IsHigh a → IsHigh b → IsHigh (a ++ b)
-unfolding IsHigh
-append_is_high [] b ha hb = hb
-append_is_high (x ∷ a) b ha hb = (ha.0, append_is_high a b ha.1 hb)
+pub append_is_flat : (a b : List ℕ) → IsFlat a → IsFlat b → IsFlat (a ++ b)
+unfolding IsFlat
+append_is_flat [] b ha hb = hb
+append_is_flat (x ∷ a) b ha hb = (ha.0, append_is_flat a b ha.1 hb)
 
-pub position_is_high : (p : Pos) → IsHigh (position_text p)
-unfolding IsHigh
-position_is_high p = append_is_high (decimal p.line ++ 58 ∷ []) (decimal p.column) (append_is_high (decimal p.line) (58 ∷ []) (decimal_is_high p.line) (omega arith, tt)) (decimal_is_high p.column)
+-- a byte in front
+with_byte : (b : ℕ) (bs : List ℕ) → 32 ≤ b → IsFlat bs → IsFlat (b ∷ bs)
+unfolding IsFlat
+with_byte b bs h hs = (h, hs)
+
+no_byte : IsFlat []
+unfolding IsFlat
+no_byte = tt
+
+position_is_flat : (p : Pos) → IsFlat (position_text p)
+position_is_flat p =
+    append_is_flat (decimal p.line ++ 58 ∷ []) (decimal p.column) (append_is_flat (decimal p.line) (58 ∷ []) (decimal_is_flat p.line) (with_byte 58 [] (omega arith) no_byte)) (decimal_is_flat p.column)
+
+abbrev is_flat : List ℕ → Bool
+is_flat [] = true
+is_flat (b ∷ bs) = nat_le 32 b && is_flat bs
+
+flat_byte : (b : ℕ) (r : Bool) → (nat_le 32 b && r) ≡ true → (32 ≤ b) × (r ≡ true)
+flat_byte b r h = let e = and_parts (nat_le 32 b) r h in (leb-true 32 b e.0, e.1)
+
+word_is_flat : (w : List ℕ) → is_flat w ≡ true → IsFlat w
+word_is_flat [] h = no_byte
+word_is_flat (b ∷ bs) h = with_byte b bs (flat_byte b (is_flat bs) h).0 (word_is_flat bs (flat_byte b (is_flat bs) h).1)
+
+kind_is_flat : (s : Spot) → IsFlat (kind_text s)
+kind_is_flat (Assert k) = word_is_flat (codes "assert ") refl
+kind_is_flat (Entry k) = word_is_flat (codes "invariant entry ") refl
+kind_is_flat (Turn k) = word_is_flat (codes "invariant turn ") refl
+kind_is_flat (Call s k) = word_is_flat (codes "precondition ") refl
+kind_is_flat (Return m k) = word_is_flat (codes "postcondition ") refl
+
+call_is_flat : (c : Option Pos) → IsFlat (call_text c)
+call_is_flat None = no_byte
+call_is_flat (Some p) = append_is_flat (position_text p) (codes " of ") (position_is_flat p) (word_is_flat (codes " of ") refl)
+
+pub place_is_flat : (p : Place) → IsFlat (place_text p)
+place_is_flat p =
+    append_is_flat (kind_text p.spot ++ call_text p.call) (position_text p.pos)
+    (append_is_flat (kind_text p.spot) (call_text p.call) (kind_is_flat p.spot) (call_is_flat p.call)) (position_is_flat p.pos)
+
+pub chosen_is_flat : (c : Choice) → IsFlat (chosen_text c)
+chosen_is_flat (Branch k) = append_is_flat (codes "branch ") (decimal k) (word_is_flat (codes "branch ") refl) (decimal_is_flat k)
+chosen_is_flat (Chosen true) = word_is_flat (codes "true") refl
+chosen_is_flat (Chosen false) = word_is_flat (codes "false") refl
+
+-- a word behind a text
+pub behind_is_flat : (a w : List ℕ) → IsFlat a → is_flat w ≡ true → IsFlat (a ++ w)
+behind_is_flat a w h e = append_is_flat a w h (word_is_flat w e)

@@ -1,40 +1,69 @@
-use Rattle.std.proofs.Common.{◌≡◌, ℕ, Bool, List, [], ◌∷◌, ◌++◌, map, drop, length, refl, sym, ap, ◌∙◌, append_assoc}
+use Rattle.std.proofs.Common.{◌≡◌, ℕ, zero, suc, ◌+◌, ◌-◌, ◌<◌, ◌≤◌, Bool, List, [], ◌∷◌, ◌++◌, Some, None, map, drop, length, refl, sym, ap, ◌∙◌, append_assoc, arith, add-one, get_or, drop-cons, append-nil}
+use Rattle.std.specs.List.{slice_get}
 use Rattle.std.proofs.lemmas.List.{length-map}
+use Rattle.std.proofs.Math.Seq.{drop-append-add}
 use Rattle.bg_ast.specs.declared.resolved.Declared.{Declared}
-use Rattle.bg_ast.specs.declared.resolved.Stmt.{Stmt}
-use Rattle.bg_ast.specs.Resolved.{St}
-use Rattle.bg_ast.specs.Views.{declared_of, st_of, sts_in}
-use Rattle.bg_told.specs.Report.{texts, value_text, name_in, sts_list}
+use Rattle.bg_ast.specs.Views.{declared_of}
+use Rattle.bg_told.specs.Lines.{texts}
+use Rattle.bg_told.specs.Places.{value_text}
+use Rattle.bg_told.specs.Report.{name_in}
+use Rattle.bg_told.specs.Entries.{names_in}
 
-texts_nil : {A B : Type 0} (text : A → B → List ℕ) (xs : List A) → texts text xs [] ≡ []
+pub texts_nil : {A B : Type 0} (text : A → B → List ℕ) (xs : List A) → texts text xs [] ≡ []
 texts_nil text [] = refl
 texts_nil text (x ∷ xs) = refl
 
 -- the texts of two rows of names, of which the second takes the values that the first leaves
-pub texts_of_parts : {A B : Type 0} (text : A → B → List ℕ) (xs ys : List A) (zs : List B) → texts text (xs ++ ys) zs ≡ texts text xs zs ++ texts text ys (drop (length xs) zs)
+texts_of_parts : {A B : Type 0} (text : A → B → List ℕ) (xs ys : List A) (zs : List B) → texts text (xs ++ ys) zs ≡ texts text xs zs ++ texts text ys (drop (length xs) zs)
 texts_of_parts text [] ys zs = refl
 texts_of_parts text (x ∷ xs) ys [] = sym (texts_nil text ys)
 texts_of_parts text (x ∷ xs) ys (z ∷ zs) = rw (texts_of_parts text xs ys zs) (sym (append_assoc (text x z) (texts text xs zs) (texts text ys (drop (length xs) zs))))
 
-many : (ds : List Declared) → length (map name_in (map declared_of ds)) ≡ length ds
+many : (ds : List Declared) → length (names_in ds) ≡ length ds
 many ds = length-map (map declared_of ds) name_in ∙ length-map ds declared_of
 
--- the values of parameters, results and locals
-pub frame_texts : (ps rs ls : List Declared) (vs : List Bool) → texts value_text (map name_in (map declared_of ps) ++ (map name_in (map declared_of rs) ++ map name_in (map declared_of ls))) vs ≡ texts value_text (map name_in (map declared_of ps)) vs ++ (texts value_text (map name_in (map declared_of rs)) (drop (length ps) vs) ++ texts value_text (map name_in (map declared_of ls)) (drop (length rs) (drop (length ps) vs)))
-frame_texts ps rs ls vs =
-    let p = map name_in (map declared_of ps) in
-    let r = map name_in (map declared_of rs) in
-    let l = map name_in (map declared_of ls) in
-    texts_of_parts value_text p (r ++ l) vs
-    ∙ ap (λ (n : ℕ). texts value_text p vs ++ texts value_text (r ++ l) (drop n vs)) (many ps)
-    ∙ ap (λ (z : List ℕ). texts value_text p vs ++ z) (texts_of_parts value_text r l (drop (length ps) vs))
-    ∙ ap (λ (n : ℕ). texts value_text p vs ++ (texts value_text r (drop (length ps) vs) ++ texts value_text l (drop n (drop (length ps) vs)))) (many rs)
+-- the values of the first variables, and of those behind them
+pub entry_parts : (ds : List Declared) (names : List (List ℕ)) (vs : List Bool) → texts value_text (names_in ds ++ names) vs ≡ texts value_text (names_in ds) vs ++ texts value_text names (drop (length ds) vs)
+entry_parts ds names vs =
+    texts_of_parts value_text (names_in ds) names vs
+    ∙ ap (λ (n : ℕ). texts value_text (names_in ds) vs ++ texts value_text names (drop n vs)) (many ds)
 
--- the statements of the code's body
-pub listed : (ss : List Stmt) → sts_list (sts_in ss) ≡ map st_of ss
-listed [] = refl
-listed (x ∷ ss) = ap (λ (l : List St). st_of x ∷ l) (listed ss)
+-- no value has this number: none is left behind it
+none_left : {A : Type 0} (xs : List A) (i : ℕ) → slice_get xs i ≡ None → drop i xs ≡ []
+none_left [] zero h = refl
+none_left [] (suc i) h = refl
+none_left (x ∷ xs) zero h = cc
+none_left (x ∷ xs) (suc i) h = none_left xs i h
 
--- a line and two texts behind it, added one after the other
-pub put_parts : (o c a d t u : List ℕ) → ((((o ++ c) ++ a) ++ d) ++ t) ++ u ≡ o ++ (((c ++ a) ++ d) ++ (t ++ u))
-put_parts o c a d t u = simp append_assoc
+-- the value with this number is the first that is left
+next_from : {A : Type 0} (xs : List A) (i : ℕ) (x : A) → slice_get xs i ≡ Some x → drop i xs ≡ x ∷ drop (suc i) xs
+next_from [] zero x h = cc
+next_from [] (suc i) x h = cc
+next_from (y ∷ xs) zero x h = cc
+next_from (y ∷ xs) (suc i) x h = next_from xs i x h
+
+-- where no value is left, the text is at its end
+pub values_end : (ds : List Declared) (vs : List Bool) (i : ℕ) (o w : List ℕ) → None ≡ slice_get vs i → o ++ texts value_text (names_in (drop i ds)) (drop i vs) ≡ w → o ≡ w
+values_end ds vs i o w h k =
+    let e : drop i vs ≡ [] = none_left vs i (sym h) in
+    sym (append-nil o)
+    ∙ ap (λ (t : List ℕ). o ++ t) (sym (texts_nil value_text (names_in (drop i ds))))
+    ∙ ap (λ (l : List Bool). o ++ texts value_text (names_in (drop i ds)) l) (sym e)
+    ∙ k
+
+-- one variable with its value
+pub values_step : (ds : List Declared) (vs : List Bool) (i : ℕ) (d : Declared) (v : Bool) (o w : List ℕ) → i < length ds → d ≡ get_or ds i d → Some v ≡ slice_get vs i → o ++ texts value_text (names_in (drop i ds)) (drop i vs) ≡ w → (o ++ value_text (name_in (declared_of d)) v) ++ texts value_text (names_in (drop (i + 1) ds)) (drop (i + 1) vs) ≡ w
+values_step ds vs i d v o w l e h k =
+    let a : drop i ds ≡ d ∷ drop (suc i) ds = drop-cons ds i d l ∙ ap (λ (x : Declared). x ∷ drop (suc i) ds) (sym e) in
+    let b : drop i vs ≡ v ∷ drop (suc i) vs = next_from vs i v (sym h) in
+    rw add-one
+    (append_assoc o (value_text (name_in (declared_of d)) v) (texts value_text (names_in (drop (suc i) ds)) (drop (suc i) vs))
+    ∙ ap (λ (x : List Declared). o ++ texts value_text (names_in x) (v ∷ drop (suc i) vs)) (sym a)
+    ∙ ap (λ (l : List Bool). o ++ texts value_text (names_in (drop i ds)) l) (sym b)
+    ∙ k)
+
+-- past the first of two rows
+pub drop_past : {A : Type 0} (xs ys : List A) (n : ℕ) → length xs ≤ n → drop n (xs ++ ys) ≡ drop (n - length xs) ys
+drop_past xs ys n h =
+    let e : n ≡ length xs + (n - length xs) = omega (arith, h) in
+    ap (λ (k : ℕ). drop k (xs ++ ys)) e ∙ drop-append-add xs ys (n - length xs)

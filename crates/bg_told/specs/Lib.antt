@@ -1,2 +1,5 @@
 pub mod Words
+pub mod Lines
+pub mod Places
 pub mod Report
+pub mod Entries

@@ -1,36 +1,26 @@
 -- The word for an implementation, and for a program.
-use Rattle.std.specs.Prelude.{ℕ, Bool, true, false, List, if◌then◌else◌, count_by}
+use Rattle.std.specs.Prelude.{ℕ, Bool, true, false, ◌&&◌, List, filter, is_none, if◌then◌else◌, count_by}
 use Rattle.std.specs.List.{list_any}
-use Rattle.bg_judge.specs.declared.check.Verdict.{Verdict}
-use Rattle.bg_judge.specs.declared.check.Verdict.TheVariants as verdict
+use Rattle.bg_places.specs.declared.place.Place.{Place}
+use Rattle.bg_check.specs.declared.verdict.Verdict.{Verdict}
+use Rattle.bg_check.specs.declared.verdict.Verdict.TheVariants as verdict
+use Rattle.bg_check.specs.declared.verdict.Judged.{Judged}
 use Rattle.bg_told.specs.declared.word.Word.{Word}
 use Rattle.bg_told.specs.declared.word.Word.TheVariants.{Verified, Refuted, Unknown}
 
-abbrev pub is_refuted : Verdict → Bool
-is_refuted (verdict.Proved nodes) = false
-is_refuted (verdict.Refuted cex) = true
-is_refuted (verdict.Unknown nodes) = false
+-- a place is ordinary where no candidate guards its clause
+abbrev pub is_ordinary : Place → Bool
+is_ordinary p = is_none p.candidate
 
-abbrev pub is_unknown : Verdict → Bool
-is_unknown (verdict.Proved nodes) = false
-is_unknown (verdict.Refuted cex) = false
-is_unknown (verdict.Unknown nodes) = true
+-- the ordinary ones of these places
+abbrev pub ordinary : List Judged → List Judged
+ordinary = filter (λ j. is_ordinary j.place)
 
--- whether a place of the implementation is refuted
-abbrev pub has_refuted : List Verdict → Bool
-has_refuted vs = list_any is_refuted vs
-
--- whether a place of the implementation is unknown
-abbrev pub has_unknown : List Verdict → Bool
-has_unknown vs = list_any is_unknown vs
-
--- refuted where a place is refuted, else unknown where one is unknown, else verified
-abbrev pub word_of : List Verdict → Word
-word_of vs = if has_refuted vs then Refuted else (if has_unknown vs then Unknown else Verified)
-
--- the same over the places of all implementations
-abbrev pub word_for : List (List Verdict) → Word
-word_for outcome = if list_any has_refuted outcome then Refuted else (if list_any has_unknown outcome then Unknown else Verified)
+-- what is known of a place, in a word
+abbrev pub word_in : Verdict → Word
+word_in (verdict.Proved nodes) = Verified
+word_in (verdict.Refuted cex) = Refuted
+word_in (verdict.Unknown nodes) = Unknown
 
 abbrev pub is_word : Word → Word → Bool
 is_word Verified Verified = true
@@ -38,6 +28,22 @@ is_word Refuted Refuted = true
 is_word Unknown Unknown = true
 is_word _ _ = false
 
+-- an ordinary place of which this word is known
+abbrev pub has_word : Word → Judged → Bool
+has_word word j = is_ordinary j.place && is_word word (word_in j.verdict)
+
+-- whether the word is known of some ordinary place of the implementation
+abbrev pub has : Word → List Judged → Bool
+has word js = list_any (has_word word) js
+
+-- refuted where an ordinary place is refuted, else unknown where one is unknown, else verified
+abbrev pub word_of : List Judged → Word
+word_of js = if has Refuted js then Refuted else (if has Unknown js then Unknown else Verified)
+
+-- the same over the places of all implementations
+abbrev pub word_for : List (List Judged) → Word
+word_for outcome = if list_any (has Refuted) outcome then Refuted else (if list_any (has Unknown) outcome then Unknown else Verified)
+
 -- how many implementations have the word
-abbrev pub count_of : Word → List (List Verdict) → ℕ
-count_of word outcome = count_by (λ vs. is_word word (word_of vs)) outcome
+abbrev pub count_of : Word → List (List Judged) → ℕ
+count_of word outcome = count_by (λ js. is_word word (word_of js)) outcome

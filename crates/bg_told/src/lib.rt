@@ -1,10 +1,13 @@
 //! The report of a program over truth values: the text of what is known of each implementation and place.
 #![tactic(auto)]
 
+mod choices;
 mod laws;
+mod place;
 mod places;
 mod put;
 mod report;
+mod values;
 mod word;
 
 pub use laws::{equal_reports_say_equal_words, verified_is_all_proved, verified_is_each_verified};

@@ -1,7 +1,7 @@
 //! Parts of a line.
 ghost use Rattle.std.specs.Prelude.{◌≡◌, ◌++◌, OnOk};
 ghost use Rattle.std.specs.Fmt.{decimal};
-ghost use Rattle.bg_told.specs.Report.{position_text, truth_text, word_text};
+ghost use Rattle.bg_told.specs.Lines.{position_text, truth_text, word_text};
 
 use crate::word::Word;
 use bg_base::Pos;

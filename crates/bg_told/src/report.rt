@@ -1,14 +1,15 @@
 //! The report.
 ghost use Rattle.std.specs.Prelude.{◌≡◌, ◌++◌, OnOk, IfOk, map};
-ghost use Rattle.bg_ast.specs.Views.{impl_of, program_of};
-ghost use Rattle.bg_judge.specs.Verdicts.{verdicts};
-ghost use Rattle.bg_told.specs.Report.{texts, head_text, implementation_text, summary_text, result_text};
+ghost use Rattle.bg_ast.specs.Views.{declared_of, impl_of, program_of};
+ghost use Rattle.bg_check.specs.Verdicts.{judged};
+ghost use Rattle.bg_told.specs.Lines.{texts};
+ghost use Rattle.bg_told.specs.Report.{head_text, implementation_text, count_text, summary_text, result_text};
 
 use crate::places::put_places;
 use crate::put::{put_number, put_position, put_word};
 use crate::word::{Word, count_of, implementation_word};
-use bg_ast::resolved::{Implementation, Resolved};
-use bg_judge::Verdict;
+use bg_ast::resolved::{Declared, Implementation, Resolved};
+use bg_check::Judged;
 use std::alloc::{AllocError, Global};
 
 fn put_head(
@@ -28,33 +29,43 @@ fn put_head(
     Ok(())
 }
 
-/// An implementation, and its places that aren't proved.
+/// An implementation, and its ordinary places that aren't proved.
 fn put_implementation(
     out: &mut Vec<u8>,
+    globals: &[Declared],
     implementation: &Implementation,
-    verdicts: &[Verdict],
+    judged: &[Judged],
 ) -> Result<(), AllocError>
-    ensures { OnOk result (out.new.items ≡ out.old.items ++ implementation_text (impl_of implementation.now) verdicts.now) }
+    ensures { OnOk result (out.new.items ≡ out.old.items ++ implementation_text (map declared_of globals.now) (impl_of implementation.now) judged.now) }
 {
-    put_head(out, implementation, implementation_word(verdicts))?;
-    put_places(out, implementation, verdicts)?;
+    put_head(out, implementation, implementation_word(judged))?;
+    put_places(out, globals, implementation, judged)?;
     Ok(())
 }
 
 fn put_implementations(
     out: &mut Vec<u8>,
+    globals: &[Declared],
     implementations: &[Implementation],
-    outcome: &[Vec<Verdict>],
+    outcome: &[Vec<Judged>],
 ) -> Result<(), AllocError>
-    ensures { OnOk result (out.new.items ≡ out.old.items ++ texts implementation_text (map impl_of implementations.now) (verdicts outcome.now)) }
+    ensures { OnOk result (out.new.items ≡ out.old.items ++ texts (implementation_text (map declared_of globals.now)) (map impl_of implementations.now) (judged outcome.now)) }
 {
     for (i, implementation) in implementations.iter().enumerate() {
         if i >= outcome.len() {
             return Ok(());
         }
-        put_implementation(out, implementation, &outcome[i])?;
+        put_implementation(out, globals, implementation, &outcome[i])?;
     }
     Ok(())
+}
+
+fn put_count(out: &mut Vec<u8>, n: usize, word: Word) -> Result<(), AllocError>
+    ensures { OnOk result (out.new.items ≡ out.old.items ++ count_text n word) }
+{
+    put_number(out, n)?;
+    out.push(b' ')?;
+    put_word(out, word)
 }
 
 fn put_summary(
@@ -66,28 +77,33 @@ fn put_summary(
     ensures { OnOk result (out.new.items ≡ out.old.items ++ summary_text verified refuted unknown) }
 {
     out.extend_from_slice(b"summary: 0 retained, 0 dropped; ")?;
-    put_number(out, verified)?;
-    out.extend_from_slice(b" verified, ")?;
-    put_number(out, refuted)?;
-    out.extend_from_slice(b" refuted, ")?;
-    put_number(out, unknown)?;
-    out.extend_from_slice(b" unknown\n")?;
+    put_count(out, verified, Word::Verified)?;
+    out.extend_from_slice(b", ")?;
+    put_count(out, refuted, Word::Refuted)?;
+    out.extend_from_slice(b", ")?;
+    put_count(out, unknown, Word::Unknown)?;
+    out.push(b'\n')?;
     Ok(())
 }
 
-/// The report of a program, of which each implementation has verdicts by place: a line for each implementation, with the position
-/// of its keyword and its word, and below it its places that aren't proved, with entry values and choices with which one fails or the number
-/// of inner nodes of its partial tree; then how many implementations have each word.
+/// The report of a program, of whose places this is known by implementation: a line for each implementation, with the position of its
+/// keyword and its word, and below it its ordinary places that aren't proved, with the entry values and choices with which one fails or the
+/// number of inner nodes of its partial tree; then how many implementations have each word.
 pub fn result_text(
     alloc: Global,
     program: &Resolved,
-    outcome: &[Vec<Verdict>],
+    outcome: &[Vec<Judged>],
 ) -> Result<Vec<u8>, AllocError>
-    ensures { IfOk result (λ text. text.items ≡ result_text (program_of program.now) (verdicts outcome.now)) }
+    ensures { IfOk result (λ text. text.items ≡ result_text (program_of program.now) (judged outcome.now)) }
 {
     let mut out = Vec::new(alloc);
     out.extend_from_slice(b"axioms: consistent\nretained set: greatest\n")?;
-    put_implementations(&mut out, &program.implementations, outcome)?;
+    put_implementations(
+        &mut out,
+        &program.globals,
+        &program.implementations,
+        outcome,
+    )?;
     put_summary(
         &mut out,
         count_of(outcome, Word::Verified),

@@ -1,9 +1,11 @@
 use super::*;
-use bg_ast::resolved::{
-    Clause, Declared, Expr, Implementation, Placed, Resolved, Stmt, Variable, WrittenType,
-};
-use bg_base::Pos;
-use bg_judge::{Counterexample, Node, Verdict};
+use bg_ast::resolved::{Declared, Implementation, Resolved, WrittenType};
+use bg_base::{CandId, Pos};
+use bg_cert::Node;
+use bg_check::{Judged, Verdict};
+use bg_model::Counterexample;
+use bg_places::{Place, Spot};
+use bg_replay::Choice;
 use bg_text::Name;
 use std::alloc::{AllocError, Global};
 use std::test::Fail;
@@ -15,15 +17,29 @@ type Case<'a> = (
     &'a [&'a str],
     &'a [&'a str],
     &'a [&'a str],
-    &'a [((u32, u32), Told<'a>)],
+    &'a [Told<'a>],
 );
 
-/// What a case tells of a place: of a refuted one the entry values and the choices.
+/// A place: what is checked, the candidate that guards it, the clause's position, that of the call, and what is known of it.
+type Told<'a> = (Spot, Option<u32>, (u32, u32), Option<(u32, u32)>, Known<'a>);
+
+/// What is known of a place: of a refuted one the values of globals and frame, and the choices.
 #[derive(Clone, Copy)]
-enum Told<'a> {
+enum Known<'a> {
     Proved,
-    Refuted(&'a [bool], &'a [bool]),
-    Unknown(&'a [Node]),
+    Refuted(&'a [bool], &'a [bool], &'a [Choice]),
+    Unknown(&'a [Kind]),
+}
+
+/// What stands at a place of a partial tree.
+#[derive(Clone, Copy)]
+enum Kind {
+    Open,
+    Split,
+    Bound,
+    Clause,
+    Unit,
+    Rows,
 }
 
 fn at(place: (u32, u32)) -> Pos {
@@ -49,59 +65,65 @@ fn declared(alloc: Global, texts: &[&str]) -> Result<Vec<Declared>, AllocError> 
     Ok(all)
 }
 
-/// A body with these places, each after a `havoc`.
-fn body(alloc: Global, places: &[((u32, u32), Told)]) -> Result<Vec<Stmt>, AllocError> {
+fn node(alloc: Global, kind: Kind) -> Option<Node> {
+    match kind {
+        Kind::Open => None,
+        Kind::Split => Some(Node::Split(3)),
+        Kind::Bound => Some(Node::Bound(0, -1)),
+        Kind::Clause => Some(Node::Clause(0)),
+        Kind::Unit => Some(Node::Unit(0)),
+        Kind::Rows => Some(Node::Rows(Vec::new(alloc))),
+    }
+}
+
+fn nodes(alloc: Global, kinds: &[Kind]) -> Result<Vec<Option<Node>>, AllocError> {
     let mut all = Vec::new(alloc);
-    for (place, _) in places {
-        let mut xs = Vec::new(alloc);
-        xs.push(Placed {
-            pos: at((1, 1)),
-            variable: Variable::Local(0),
-        })?;
-        all.push(Stmt::Havoc(xs))?;
-        let pos = at(*place);
-        all.push(Stmt::Assert(Clause {
-            pos,
-            id: 0,
-            is_free: false,
-            candidate: None,
-            formula: Expr::Truth(pos, false),
-        }))?;
+    for kind in kinds {
+        all.push(node(alloc, *kind))?;
     }
     Ok(all)
 }
 
-fn verdict(alloc: Global, told: Told) -> Result<Verdict, AllocError> {
-    match told {
-        Told::Proved => Ok(Verdict::Proved(Vec::new(alloc))),
-        Told::Refuted(entry, choices) => Ok(Verdict::Refuted(Counterexample {
-            entry: entry.to_vec(alloc)?,
+fn verdict(alloc: Global, known: Known) -> Result<Verdict, AllocError> {
+    match known {
+        Known::Proved => Ok(Verdict::Proved(Vec::new(alloc))),
+        Known::Refuted(globals, frame, choices) => Ok(Verdict::Refuted(Counterexample {
+            globals: globals.to_vec(alloc)?,
+            frame: frame.to_vec(alloc)?,
             choices: choices.to_vec(alloc)?,
         })),
-        Told::Unknown(nodes) => Ok(Verdict::Unknown(nodes.to_vec(alloc)?)),
+        Known::Unknown(kinds) => Ok(Verdict::Unknown(nodes(alloc, kinds)?)),
     }
 }
 
-fn verdicts(alloc: Global, places: &[((u32, u32), Told)]) -> Result<Vec<Verdict>, AllocError> {
+fn judged(alloc: Global, places: &[Told]) -> Result<Vec<Judged>, AllocError> {
     let mut all = Vec::new(alloc);
-    for (_, told) in places {
-        all.push(verdict(alloc, *told)?)?;
+    for (spot, candidate, pos, call, known) in places {
+        let place = Place {
+            implementation: 0,
+            spot: *spot,
+            candidate: candidate.map(CandId),
+            pos: at(*pos),
+            call: call.map(at),
+        };
+        let verdict = verdict(alloc, *known)?;
+        all.push(Judged { place, verdict })?;
     }
     Ok(all)
 }
 
-/// A program of these implementations.
-fn program(alloc: Global, implementations: Vec<Implementation>) -> Resolved {
-    Resolved {
+/// A program of these implementations, with globals `g` and `h`.
+fn program(alloc: Global, implementations: Vec<Implementation>) -> Result<Resolved, AllocError> {
+    Ok(Resolved {
         types: Vec::new(alloc),
         constants: Vec::new(alloc),
         candidates: Vec::new(alloc),
-        globals: Vec::new(alloc),
+        globals: declared(alloc, &["g", "h"])?,
         functions: Vec::new(alloc),
         axioms: Vec::new(alloc),
         procedures: Vec::new(alloc),
         implementations,
-    }
+    })
 }
 
 /// Whether the report of a program of these implementations has these lines below its first two, and this word.
@@ -116,36 +138,76 @@ fn shows(alloc: Global, cases: &[Case], word: Word, lines: &str) -> Result<bool,
             params: declared(alloc, params)?,
             results: declared(alloc, results)?,
             locals: declared(alloc, locals)?,
-            body: body(alloc, places)?,
+            body: Vec::new(alloc),
         })?;
-        outcome.push(verdicts(alloc, places)?)?;
+        outcome.push(judged(alloc, places)?)?;
     }
-    let text = result_text(alloc, &program(alloc, implementations), &outcome)?;
+    let text = result_text(alloc, &program(alloc, implementations)?, &outcome)?;
     let want = format!(in alloc; "axioms: consistent\nretained set: greatest\n{lines}")?;
     Ok(text.as_slice() == want.as_bytes() && word_of(&outcome) == word)
 }
 
-const COPY: Case = ("P", (1, 1), &["a"], &["b"], &[], &[((1, 43), Told::Proved)]);
+const COPY: Case = (
+    "P",
+    (1, 1),
+    &["a"],
+    &["b"],
+    &[],
+    &[(Spot::Assert(0), None, (1, 43), None, Known::Proved)],
+);
 
-const FALSE: Case = (
+const BRIEF: Case = (
     "P",
     (1, 1),
     &[],
     &[],
     &[],
-    &[((1, 17), Told::Refuted(&[], &[]))],
+    &[(
+        Spot::Assert(0),
+        None,
+        (1, 17),
+        None,
+        Known::Refuted(&[false, true], &[], &[]),
+    )],
 );
 
 const SPENT: Case = (
-    "P",
-    (1, 1),
+    "Q",
+    (2, 1),
     &["a", "b"],
     &[],
     &[],
     &[(
+        Spot::Entry(1),
+        None,
         (3, 3),
-        Told::Unknown(&[Node::Split(0), Node::Open, Node::Open]),
+        None,
+        Known::Unknown(&[Kind::Split, Kind::Open, Kind::Open]),
     )],
+);
+
+const GUARDED: Case = (
+    "R",
+    (3, 1),
+    &[],
+    &[],
+    &[],
+    &[
+        (
+            Spot::Assert(0),
+            Some(0),
+            (1, 17),
+            None,
+            Known::Refuted(&[true, true], &[], &[]),
+        ),
+        (
+            Spot::Turn(1),
+            Some(1),
+            (2, 17),
+            None,
+            Known::Unknown(&[Kind::Open]),
+        ),
+    ],
 );
 
 const MIXED: Case = (
@@ -155,19 +217,62 @@ const MIXED: Case = (
     &["c"],
     &["d"],
     &[
-        ((2, 3), Told::Proved),
-        ((3, 14), Told::Refuted(&[true, false, true], &[])),
+        (Spot::Assert(0), None, (2, 3), None, Known::Proved),
         (
-            (4, 3),
-            Told::Unknown(&[
-                Node::Split(2),
-                Node::Split(0),
-                Node::Closed,
-                Node::Open,
-                Node::Open,
+            Spot::Entry(1),
+            None,
+            (3, 14),
+            None,
+            Known::Refuted(&[false, true], &[true, false, true], &[]),
+        ),
+        (
+            Spot::Turn(1),
+            None,
+            (3, 14),
+            None,
+            Known::Refuted(
+                &[true, true],
+                &[false, false, true],
+                &[Choice::Branch(1), Choice::Chosen(false)],
+            ),
+        ),
+        (
+            Spot::Call(0, 2),
+            None,
+            (1, 40),
+            Some((5, 7)),
+            Known::Refuted(
+                &[true, false],
+                &[true, true, false],
+                &[
+                    Choice::Chosen(true),
+                    Choice::Branch(0),
+                    Choice::Branch(4_294_967_295),
+                ],
+            ),
+        ),
+        (
+            Spot::Call(1, 2),
+            None,
+            (1, 40),
+            Some((6, 7)),
+            Known::Unknown(&[
+                Kind::Split,
+                Kind::Bound,
+                Kind::Clause,
+                Kind::Open,
+                Kind::Split,
+                Kind::Unit,
+                Kind::Rows,
             ]),
         ),
-        ((5, 3), Told::Refuted(&[false, true, true], &[true, false])),
+        (
+            Spot::Return(0, 3),
+            None,
+            (1, 60),
+            None,
+            Known::Unknown(&[Kind::Open]),
+        ),
     ],
 );
 
@@ -183,46 +288,76 @@ fn a_line_for_each_implementation_and_each_place_that_is_not_proved(
     assert!(rt; shows(alloc, &[COPY], Word::Verified, lines)?, "copy");
     let lines = "implementation P 1:1 refuted\n\
                  \x20 refuted assert 1:17\n\
+                 \x20   var g = false\n\
+                 \x20   var h = true\n\
                  summary: 0 retained, 0 dropped; 0 verified, 1 refuted, 0 unknown\n";
     assert!(rt;
-        shows(alloc, &[FALSE], Word::Refuted, lines)?,
-        "no variables"
+        shows(alloc, &[BRIEF], Word::Refuted, lines)?,
+        "globals alone"
     );
-    let lines = "implementation P 1:1 unknown\n\
-                 \x20 unknown assert 3:3 nodes\n\
+    let lines = "implementation Q 2:1 unknown\n\
+                 \x20 unknown invariant entry 3:3 nodes\n\
                  \x20   kept 1\n\
                  summary: 0 retained, 0 dropped; 0 verified, 0 refuted, 1 unknown\n";
     assert!(rt;
         shows(alloc, &[SPENT], Word::Unknown, lines)?,
         "one inner node"
     );
+    let lines = "implementation R 3:1 verified\n\
+                 summary: 0 retained, 0 dropped; 1 verified, 0 refuted, 0 unknown\n";
+    assert!(rt;
+        shows(alloc, &[GUARDED], Word::Verified, lines)?,
+        "candidates"
+    );
+    let lines = "implementation P 1:1 verified\n\
+                 implementation Q 2:1 unknown\n\
+                 \x20 unknown invariant entry 3:3 nodes\n\
+                 \x20   kept 1\n\
+                 implementation R 3:1 verified\n\
+                 implementation P 1:1 refuted\n\
+                 \x20 refuted assert 1:17\n\
+                 \x20   var g = false\n\
+                 \x20   var h = true\n\
+                 summary: 0 retained, 0 dropped; 2 verified, 1 refuted, 1 unknown\n";
+    assert!(rt;
+        shows(alloc, &[COPY, SPENT, GUARDED, BRIEF], Word::Refuted, lines)?,
+        "several"
+    );
+    Ok(())
+}
+
+#[test]
+fn each_kind_of_place_and_choice_has_its_words(rt: HostRuntime) -> Result<(), Fail> {
+    let alloc = rt.alloc();
     let lines = "implementation Long'name 4294967295:10 refuted\n\
-                 \x20 refuted assert 3:14\n\
+                 \x20 refuted invariant entry 3:14\n\
+                 \x20   var g = false\n\
+                 \x20   var h = true\n\
                  \x20   var a = true\n\
                  \x20   var c = false\n\
                  \x20   var d = true\n\
-                 \x20 unknown assert 4:3 nodes\n\
-                 \x20   kept 2\n\
-                 \x20 refuted assert 5:3\n\
+                 \x20 refuted invariant turn 3:14\n\
+                 \x20   var g = true\n\
+                 \x20   var h = true\n\
                  \x20   var a = false\n\
-                 \x20   var c = true\n\
+                 \x20   var c = false\n\
                  \x20   var d = true\n\
-                 \x20   choice true\n\
+                 \x20   choice branch 1\n\
                  \x20   choice false\n\
+                 \x20 refuted precondition 5:7 of 1:40\n\
+                 \x20   var g = true\n\
+                 \x20   var h = false\n\
+                 \x20   var a = true\n\
+                 \x20   var c = true\n\
+                 \x20   var d = false\n\
+                 \x20   choice true\n\
+                 \x20   choice branch 0\n\
+                 \x20   choice branch 4294967295\n\
+                 \x20 unknown precondition 6:7 of 1:40 nodes\n\
+                 \x20   kept 3\n\
+                 \x20 unknown postcondition 1:60 nodes\n\
+                 \x20   kept 0\n\
                  summary: 0 retained, 0 dropped; 0 verified, 1 refuted, 0 unknown\n";
-    assert!(rt;
-        shows(alloc, &[MIXED], Word::Refuted, lines)?,
-        "all kinds of places"
-    );
-    let lines = "implementation P 1:1 verified\n\
-                 implementation P 1:1 unknown\n\
-                 \x20 unknown assert 3:3 nodes\n\
-                 \x20   kept 1\n\
-                 implementation P 1:1 verified\n\
-                 summary: 0 retained, 0 dropped; 2 verified, 0 refuted, 1 unknown\n";
-    assert!(rt;
-        shows(alloc, &[COPY, SPENT, COPY], Word::Unknown, lines)?,
-        "several"
-    );
+    assert!(rt; shows(alloc, &[MIXED], Word::Refuted, lines)?, "mixed");
     Ok(())
 }

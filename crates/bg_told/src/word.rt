@@ -1,10 +1,11 @@
 //! The word for an implementation, and for a program.
 ghost use Rattle.std.specs.Prelude.{◌≡◌};
 ghost use Rattle.std.specs.List.{list_any};
-ghost use Rattle.bg_judge.specs.Verdicts.{verdicts};
-ghost use Rattle.bg_told.specs.Words.{has_refuted, has_unknown, word_of, word_for, count_of};
+ghost use Rattle.bg_check.specs.Verdicts.{judged};
+ghost use Rattle.bg_told.specs.Words.{is_ordinary, word_in, has_word, has, word_of, word_for, count_of};
 
-use bg_judge::Verdict;
+use bg_check::{Judged, Verdict};
+use bg_places::Place;
 
 /// What a report says of an implementation.
 #[derive(Clone, Copy, PartialEq, Eq, Debug)]
@@ -14,68 +15,77 @@ pub enum Word {
     Unknown,
 }
 
-/// Whether a place is refuted.
-fn has_refuted(verdicts: &[Verdict]) -> bool
-    ensures { result ≡ has_refuted verdicts.now }
+/// Whether no candidate guards the clause of a place.
+pub fn is_ordinary(place: &Place) -> bool
+    ensures { result ≡ is_ordinary place.now }
 {
-    verdicts
-        .iter()
-        .any(|verdict| matches!(verdict, Verdict::Refuted(_)))
+    place.candidate.is_none()
 }
 
-/// Whether a place is unknown.
-fn has_unknown(verdicts: &[Verdict]) -> bool
-    ensures { result ≡ has_unknown verdicts.now }
+/// What is known of a place, in a word.
+fn word_in(verdict: &Verdict) -> Word
+    ensures { result ≡ word_in verdict.now }
 {
-    verdicts
-        .iter()
-        .any(|verdict| matches!(verdict, Verdict::Unknown(_)))
+    match verdict {
+        Verdict::Proved(_) => Word::Verified,
+        Verdict::Refuted(_) => Word::Refuted,
+        Verdict::Unknown(_) => Word::Unknown,
+    }
 }
 
-/// The word of an implementation whose places have these verdicts: refuted where one is refuted, else unknown where one is
+/// Whether this is an ordinary place of which the word is known.
+fn has_word(word: Word, of: &Judged) -> bool
+    ensures { result ≡ has_word word of.now }
+{
+    is_ordinary(&of.place) && word_in(&of.verdict) == word
+}
+
+/// Whether the word is known of some ordinary place.
+fn has(word: Word, judged: &[Judged]) -> bool
+    ensures { result ≡ has word judged.now }
+{
+    for of in judged {
+        if has_word(word, of) {
+            return true;
+        }
+    }
+    false
+}
+
+/// The word of an implementation of whose places this is known: refuted where an ordinary one is refuted, else unknown where one is
 /// unknown, else verified.
-pub fn implementation_word(verdicts: &[Verdict]) -> Word
-    ensures { result ≡ word_of verdicts.now }
+pub fn implementation_word(judged: &[Judged]) -> Word
+    ensures { result ≡ word_of judged.now }
 {
-    if has_refuted(verdicts) {
+    if has(Word::Refuted, judged) {
         Word::Refuted
-    } else if has_unknown(verdicts) {
+    } else if has(Word::Unknown, judged) {
         Word::Unknown
     } else {
         Word::Verified
     }
 }
 
-fn any_refuted(outcome: &[Vec<Verdict>]) -> bool
-    ensures { result ≡ list_any has_refuted (verdicts outcome.now) }
+/// Whether the word is known of some ordinary place of some implementation.
+fn any_has(word: Word, outcome: &[Vec<Judged>]) -> bool
+    ensures { result ≡ list_any (has word) (judged outcome.now) }
 {
-    for verdicts in outcome {
-        if has_refuted(verdicts) {
+    for judged in outcome {
+        if has(word, judged) {
             return true;
         }
     }
     false
 }
 
-fn any_unknown(outcome: &[Vec<Verdict>]) -> bool
-    ensures { result ≡ list_any has_unknown (verdicts outcome.now) }
-{
-    for verdicts in outcome {
-        if has_unknown(verdicts) {
-            return true;
-        }
-    }
-    false
-}
-
-/// The word of a program, of which each implementation has verdicts by place: refuted where some place is refuted, else unknown
+/// The word of a program, of whose places this is known by implementation: refuted where some ordinary place is refuted, else unknown
 /// where one is unknown, else verified.
-pub fn word_of(outcome: &[Vec<Verdict>]) -> Word
-    ensures { result ≡ word_for (verdicts outcome.now) }
+pub fn word_of(outcome: &[Vec<Judged>]) -> Word
+    ensures { result ≡ word_for (judged outcome.now) }
 {
-    if any_refuted(outcome) {
+    if any_has(Word::Refuted, outcome) {
         Word::Refuted
-    } else if any_unknown(outcome) {
+    } else if any_has(Word::Unknown, outcome) {
         Word::Unknown
     } else {
         Word::Verified
@@ -83,12 +93,12 @@ pub fn word_of(outcome: &[Vec<Verdict>]) -> Word
 }
 
 /// How many implementations have the word.
-pub fn count_of(outcome: &[Vec<Verdict>], word: Word) -> usize
-    ensures { result ≡ count_of word (verdicts outcome.now) }
+pub fn count_of(outcome: &[Vec<Judged>], word: Word) -> usize
+    ensures { result ≡ count_of word (judged outcome.now) }
 {
     let mut count = 0;
-    for verdicts in outcome {
-        if implementation_word(verdicts) == word {
+    for judged in outcome {
+        if implementation_word(judged) == word {
             count += 1;
         }
     }

@@ -1,5 +1,0 @@
-use Rattle.std.proofs.Common.{append_assoc}
-use Rattle.bg_told.proofs.report.put_summary.Goals as goal
-
-pub returns : goal.returns
-returns c = rw (c.in_ok-extend_from_slice-4.ensures.items, c.in_ok-put_number-3.ensures, c.in_ok-extend_from_slice-3.ensures.items, c.in_ok-put_number-2.ensures, c.in_ok-extend_from_slice-2.ensures.items, c.in_ok-put_number.ensures, c.in_ok-extend_from_slice.ensures.items) (simp append_assoc)

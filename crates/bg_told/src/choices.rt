@@ -1,0 +1,43 @@
+//! The choices of a counterexample.
+ghost use Rattle.std.specs.Prelude.{◌≡◌, ◌++◌, OnOk, flat_map};
+ghost use Rattle.bg_replay.specs.declared.choice.Choice.TheVariants.{Branch};
+ghost use Rattle.bg_told.specs.Places.{chosen_text, choice_text};
+
+use crate::put::{put_number, put_truth};
+use bg_replay::Choice;
+use std::alloc::AllocError;
+
+fn put_branch(out: &mut Vec<u8>, branch: u32) -> Result<(), AllocError>
+    ensures { OnOk result (out.new.items ≡ out.old.items ++ chosen_text (Branch branch)) }
+{
+    out.extend_from_slice(b"branch ")?;
+    put_number(out, branch as usize)
+}
+
+fn put_chosen(out: &mut Vec<u8>, choice: Choice) -> Result<(), AllocError>
+    ensures { OnOk result (out.new.items ≡ out.old.items ++ chosen_text choice) }
+{
+    match choice {
+        Choice::Branch(branch) => put_branch(out, branch),
+        Choice::Chosen(value) => put_truth(out, value),
+    }
+}
+
+fn put_choice(out: &mut Vec<u8>, choice: Choice) -> Result<(), AllocError>
+    ensures { OnOk result (out.new.items ≡ out.old.items ++ choice_text choice) }
+{
+    out.extend_from_slice(b"    choice ")?;
+    put_chosen(out, choice)?;
+    out.push(b'\n')?;
+    Ok(())
+}
+
+/// The choices, in order.
+pub fn put_choices(out: &mut Vec<u8>, choices: &[Choice]) -> Result<(), AllocError>
+    ensures { OnOk result (out.new.items ≡ out.old.items ++ flat_map choice_text choices.now) }
+{
+    for choice in choices {
+        put_choice(out, *choice)?;
+    }
+    Ok(())
+}

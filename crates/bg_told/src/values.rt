@@ -1,0 +1,136 @@
+//! The entry values of a counterexample.
+ghost use Rattle.std.specs.Prelude.{◌≡◌, ◌++◌, OnOk, [], map, drop, slice_get};
+ghost use Rattle.bg_ast.specs.Views.{declared_of, impl_of};
+ghost use Rattle.bg_told.specs.Lines.{texts};
+ghost use Rattle.bg_told.specs.Places.{value_text};
+ghost use Rattle.bg_told.specs.Report.{name_in, names_of};
+ghost use Rattle.bg_told.specs.Entries.{values_of, names_in};
+
+use crate::put::put_truth;
+use bg_ast::resolved::{Declared, Implementation};
+use std::alloc::AllocError;
+
+/// Entry values: those of globals, and behind them those of a frame.
+#[derive(Clone, Copy)]
+pub struct Values<'a> {
+    pub globals: &'a [bool],
+    pub frame: &'a [bool],
+}
+
+/// The value with this number.
+fn value_at(values: Values<'_>, i: usize) -> Option<bool>
+    ensures { result ≡ slice_get (values_of values.entry) i }
+{
+    if i < values.globals.len() {
+        return Some(values.globals[i]);
+    }
+    let behind = i - values.globals.len();
+    if behind < values.frame.len() {
+        Some(values.frame[behind])
+    } else {
+        None
+    }
+}
+
+/// What is left of the items after the first `n`.
+fn behind(items: &[bool], n: usize) -> &[bool]
+    ensures { result.now ≡ drop n items.now }
+{
+    if n <= items.len() { &items[n..] } else { &[] }
+}
+
+/// What is left of the values after the first `n`.
+#[tactic(auto, using(crate::proofs::Texts::drop_past))]
+fn rest_of(values: Values<'_>, n: usize) -> Values<'_>
+    ensures { values_of result ≡ drop n (values_of values.entry) }
+{
+    let count = values.globals.len();
+    if n <= count {
+        Values {
+            globals: behind(values.globals, n),
+            frame: values.frame,
+        }
+    } else {
+        Values {
+            globals: &[],
+            frame: behind(values.frame, n - count),
+        }
+    }
+}
+
+fn put_value(out: &mut Vec<u8>, variable: &Declared, value: bool) -> Result<(), AllocError>
+    ensures { OnOk result (out.new.items ≡ out.old.items ++ value_text (name_in (declared_of variable.now)) value) }
+{
+    out.extend_from_slice(b"    var ")?;
+    out.extend_from_slice(&variable.name.text)?;
+    out.extend_from_slice(b" = ")?;
+    put_truth(out, value)?;
+    out.push(b'\n')?;
+    Ok(())
+}
+
+/// The entry values of these variables.
+fn put_values(
+    out: &mut Vec<u8>,
+    variables: &[Declared],
+    values: Values<'_>,
+) -> Result<(), AllocError>
+    ensures { OnOk result (out.new.items ≡ out.old.items ++ texts value_text (names_in variables.now) (values_of values.entry)) }
+{
+    for (i, variable) in variables.iter().enumerate() {
+        match value_at(values, i) {
+            Some(value) => put_value(out, variable, value)?,
+            None => return Ok(()),
+        }
+    }
+    Ok(())
+}
+
+/// The entry values of three groups of variables.
+fn put_groups(
+    out: &mut Vec<u8>,
+    params: &[Declared],
+    results: &[Declared],
+    locals: &[Declared],
+    values: Values<'_>,
+) -> Result<(), AllocError>
+    ensures { OnOk result (out.new.items ≡ out.old.items ++ texts value_text (names_in params.now ++ (names_in results.now ++ names_in locals.now)) (values_of values.entry)) }
+{
+    let behind = rest_of(values, params.len());
+    put_values(out, params, values)?;
+    put_values(out, results, behind)?;
+    put_values(out, locals, rest_of(behind, results.len()))?;
+    Ok(())
+}
+
+/// The entry values of parameters, results and locals.
+fn put_frame(
+    out: &mut Vec<u8>,
+    implementation: &Implementation,
+    values: Values<'_>,
+) -> Result<(), AllocError>
+    ensures { OnOk result (out.new.items ≡ out.old.items ++ texts value_text (names_of [] (impl_of implementation.now)) (values_of values.entry)) }
+{
+    put_groups(
+        out,
+        &implementation.params,
+        &implementation.results,
+        &implementation.locals,
+        values,
+    )?;
+    Ok(())
+}
+
+/// The entry values of globals, parameters, results and locals.
+pub fn put_entry(
+    out: &mut Vec<u8>,
+    globals: &[Declared],
+    implementation: &Implementation,
+    values: Values<'_>,
+) -> Result<(), AllocError>
+    ensures { OnOk result (out.new.items ≡ out.old.items ++ texts value_text (names_of (map declared_of globals.now) (impl_of implementation.now)) (values_of values.entry)) }
+{
+    put_values(out, globals, values)?;
+    put_frame(out, implementation, rest_of(values, globals.len()))?;
+    Ok(())
+}
