@@ -6,10 +6,10 @@ use Rattle.bg_formula.specs.declared.atom.Literal.{Literal}
 use Rattle.bg_formula.specs.Formulas.{Formula, is_whole}
 use Rattle.bg_cert.specs.declared.cert.Decision.{Decision}
 use Rattle.bg_cert.specs.Paths.{decides, clause_false}
-use Rattle.bg_cert.specs.Causes.{is_decided, has_true, is_one, is_unit, any_unit, any_unit_of, any_open, any_open_of, any_false, may_split, units_of}
+use Rattle.bg_cert.specs.Causes.{is_decided, has_true, is_among, is_one, is_unit, any_unit, any_unit_of, any_open, any_open_of, any_false, may_split, units_of}
 use Rattle.bg_tree.specs.declared.hint.Hint.TheVariants.{Member}
 use Rattle.bg_tree.specs.Index.{clause_at}
-use Rattle.bg_tree.specs.Marks.{one_at, AllPassed, IsUnitOf, IsOpenOf}
+use Rattle.bg_tree.specs.Marks.{one_at, AllPassed, IsUnitOf, IsOpenOf, IsOpenAt}
 use Rattle.bg_tree.proofs.Places.{at_before}
 use Rattle.bg_tree.proofs.Lists.{false_in, none_unit, none_open, unit_in, unit_of_in, open_in, open_of_in}
 use Rattle.bg_tree.proofs.Units.{a_unit}
@@ -45,6 +45,19 @@ open_may_split f set ds a w p h =
     let s = is_open ds h.1 a h.3 in
     let v : any_open_of a ds (f.clauses ++ units_of f set) ≡ true = open_of_in a ds (f.clauses ++ units_of f set) h.0 h.1 k s.0 s.1 in
     rw (open_below (length f.atoms) a ds (f.clauses ++ units_of f set) v (all_low f set w), s.2, no_units f set ds p, open_in ds (f.clauses ++ units_of f set) h.0 h.1 k s.0, v) refl
+
+stands_parts : (t b : Bool) → (not t && b) ≡ true → (t ≡ false) × (b ≡ true)
+stands_parts true b h = absurd (cc)
+stands_parts false b h = (refl, h)
+
+pub at_may_split : (f : Formula) (set : ℕ → Bool) (ds : List Decision) (a : ℕ) → is_whole f ≡ true → AllPassed f set ds → IsOpenAt ds f.clauses a → may_split (length f.atoms) a ds (f.clauses ++ units_of f set) ≡ true
+at_may_split f set ds a w p h =
+    let cs = f.clauses ++ units_of f set in
+    let q = h.1 in
+    let k = at_before f.clauses (units_of f set) q.0 q.1.0 q.1.1.0 in
+    let s = stands_parts (has_true ds q.1.0) (is_among a q.1.0) q.1.1.1 in
+    let v : any_open_of a ds (f.clauses ++ units_of f set) ≡ true = open_of_in a ds (f.clauses ++ units_of f set) q.0 q.1.0 k s.0 s.1 in
+    rw (open_below (length f.atoms) a ds (f.clauses ++ units_of f set) v (all_low f set w), h.0, no_units f set ds p, open_in ds (f.clauses ++ units_of f set) q.0 q.1.0 k s.0, v) refl
 
 -- ---- nor is one without a true literal
 

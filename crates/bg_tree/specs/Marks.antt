@@ -1,12 +1,12 @@
 -- How far a path's clauses were looked at.
-use Rattle.std.specs.Prelude.{◌≡◌, ℕ, zero, suc, ◌+◌, ◌<◌, ◌≤◌, Bool, true, false, not, List, [], ◌∷◌, length, reverse, Option, Some, None}
+use Rattle.std.specs.Prelude.{◌≡◌, ℕ, zero, suc, ◌+◌, ◌<◌, ◌≤◌, Bool, true, false, not, ◌&&◌, List, [], ◌∷◌, length, reverse, Option, Some, None}
 use Rattle.bg_formula.specs.declared.atom.Literal.{Literal}
 use Rattle.bg_formula.specs.Atoms.{at}
 use Rattle.bg_formula.specs.Formulas.{Formula}
 use Rattle.bg_cert.specs.declared.cert.Decision.{Decision}
 use Rattle.bg_cert.specs.declared.cert.Decision.TheVariants.{Atom, AtMost}
 use Rattle.bg_cert.specs.Paths.{PathOf, names_false}
-use Rattle.bg_cert.specs.Causes.{is_decided, has_true, is_unit}
+use Rattle.bg_cert.specs.Causes.{is_decided, has_true, is_unit, is_among}
 use Rattle.bg_tree.specs.declared.hint.Hint.{Hint}
 use Rattle.bg_tree.specs.declared.index.Index.{Index}
 use Rattle.bg_tree.specs.declared.mark.Mark.{Mark}
@@ -58,6 +58,16 @@ IsUnitOf f set ds a = (x : Hint) × (one_at ds (clause_at f set x) ≡ Some a)
 
 abbrev pub IsOpenOf : List Decision → List (List Literal) → ℕ → Type 0
 IsOpenOf ds cs a = (k : ℕ) × (c : List Literal) × (at cs k ≡ Some c) × (some_left ds c ≡ Some a)
+
+-- a clause without a true literal in which an atom stands; the one at a place; and an undecided atom of such a one
+abbrev pub stands_in : ℕ → List Decision → List Literal → Bool
+stands_in a ds c = not (has_true ds c) && is_among a c
+
+abbrev pub StandsOpen : List Decision → List (List Literal) → ℕ → ℕ → Type 0
+StandsOpen ds cs k a = (c : List Literal) × ((at cs k ≡ Some c) × (stands_in a ds c ≡ true))
+
+abbrev pub IsOpenAt : List Decision → List (List Literal) → ℕ → Type 0
+IsOpenAt ds cs a = (is_decided a ds ≡ false) × ((k : ℕ) × StandsOpen ds cs k a)
 
 -- the first unit of a list, from a place on, with its atom
 pub record IsFirstUnit (f : Formula) (set : ℕ → Bool) (ds : List Decision) (xs : List Hint) (from k a : ℕ) : Type 0 where

@@ -21,7 +21,7 @@ pub fn is_decided(trail: &Trail, a: usize) -> bool
     decides(trail, a, true) || decides(trail, a, false)
 }
 
-fn has_true(trail: &Trail, clause: &[Literal]) -> bool
+pub fn has_true(trail: &Trail, clause: &[Literal]) -> bool
     ensures { result ≡ has_true trail.now.decisions.items clause.now }
 {
     for l in clause {

@@ -8,8 +8,10 @@ mod hint;
 mod index;
 pub mod laws;
 mod left;
+mod look;
 mod mark;
 mod pick;
+mod probe;
 mod rows;
 mod step;
 #[cfg(test)]
@@ -23,4 +25,5 @@ pub use index::{Index, index_of};
 pub use left::Left;
 pub use mark::Mark;
 pub use pick::{Pick, next_at};
+pub use probe::Probe;
 pub use step::Search;

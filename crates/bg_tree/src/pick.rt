@@ -9,7 +9,9 @@ ghost use Rattle.bg_tree.specs.Picks.{IsPick};
 
 use crate::hint::Hint;
 use crate::index::Index;
+use crate::look::suggest;
 use crate::mark::{Mark, first_false, free_from, next_unit, open_from};
+use crate::probe::Probe;
 use crate::rows::row_at;
 use bg_cert::{Node, Trail};
 use bg_formula::Clauses;
@@ -37,7 +39,14 @@ fn pick_leaf(f: &Clauses, set: &[bool], i: &Index, trail: &Trail, mark: &Mark) -
 
 /// An atom to split where nothing is false: a unit's where there is one, else one of a clause
 /// without a true literal where there is one.
-fn pick_atom(f: &Clauses, set: &[bool], i: &Index, trail: &Trail, mark: &mut Mark) -> Option<usize>
+fn pick_atom(
+    f: &Clauses,
+    set: &[bool],
+    i: &Index,
+    trail: &Trail,
+    mark: &mut Mark,
+    probe: &mut Probe,
+) -> Option<usize>
     requires fine { any_false trail.now.decisions.items ((formula_of f.now).clauses ++ units_of (formula_of f.now) (has set.now)) ≡ false }
     requires whole { is_whole (formula_of f.now) ≡ true }
     requires kept { IsMark (formula_of f.now) (has set.now) i.now trail.now.decisions.items mark.old }
@@ -45,6 +54,9 @@ fn pick_atom(f: &Clauses, set: &[bool], i: &Index, trail: &Trail, mark: &mut Mar
     ensures split { MatchOption result (all_decided (length (formula_of f.now).atoms) trail.now.decisions.items ≡ true) (λ a. may_split (length (formula_of f.now).atoms) a trail.now.decisions.items ((formula_of f.now).clauses ++ units_of (formula_of f.now) (has set.now)) ≡ true) }
 {
     if let Some(a) = next_unit(f, set, i, trail, mark) {
+        return Some(a as usize);
+    }
+    if let Some(a) = suggest(f, i, trail, probe) {
         return Some(a as usize);
     }
     if let Some((k, a)) = open_from(trail, &f.clauses, mark.clause) {
@@ -60,8 +72,16 @@ fn pick_atom(f: &Clauses, set: &[bool], i: &Index, trail: &Trail, mark: &mut Mar
     None
 }
 
-/// What to do next. Takes time for the clauses of the last decision, and for what the mark passes.
-pub fn next_at(f: &Clauses, set: &[bool], i: &Index, trail: &Trail, mark: &mut Mark) -> Pick
+/// What to do next. Takes time for the clauses of the last decision, for what the mark passes, and where no clause is a unit for
+/// a look ahead.
+pub fn next_at(
+    f: &Clauses,
+    set: &[bool],
+    i: &Index,
+    trail: &Trail,
+    mark: &mut Mark,
+    probe: &mut Probe,
+) -> Pick
     requires whole { is_whole (formula_of f.now) ≡ true }
     requires ready { IsReady (formula_of f.now) (has set.now) i.now trail.now.decisions.items mark.old }
     ensures keeps { IsMark (formula_of f.now) (has set.now) i.now trail.now.decisions.items mark.new }
@@ -69,7 +89,7 @@ pub fn next_at(f: &Clauses, set: &[bool], i: &Index, trail: &Trail, mark: &mut M
 {
     match pick_leaf(f, set, i, trail, mark) {
         Some(node) => Pick::Close(node),
-        None => match pick_atom(f, set, i, trail, mark) {
+        None => match pick_atom(f, set, i, trail, mark, probe) {
             Some(a) => Pick::Split(a),
             None => Pick::Leaf,
         },

@@ -7,7 +7,7 @@ use crate::hint::Hint;
 use crate::index::Index;
 use bg_cert::{Decision, Trail};
 
-fn hints_at(lists: &[Vec<Hint>], a: usize) -> &[Hint]
+pub fn hints_at(lists: &[Vec<Hint>], a: usize) -> &[Hint]
     ensures { result.now ≡ hints_at lists.now a }
 {
     match lists.get(a) {

@@ -12,6 +12,7 @@ ghost use Rattle.bg_tree.specs.Trees.{Moves, Steps};
 use crate::guide::{Guide, go_on, split};
 use crate::index::Index;
 use crate::pick::{Pick, next_at};
+use crate::probe::Probe;
 use bg_cert::{Decision, Node, Walk, close, open_both};
 use bg_formula::Clauses;
 use std::alloc::AllocError;
@@ -82,6 +83,7 @@ pub fn step(
     i: &Index,
     s: &mut Search,
     guide: &mut Guide,
+    probe: &mut Probe,
 ) -> Result<bool, AllocError>
     requires is_walk { IsWalk s.old.walk }
     requires is_open { IsTrue s.old.walk.is_open }
@@ -92,7 +94,7 @@ pub fn step(
     ensures steps { IfOk result (λ done. Steps (formula_of f.now) (has set.now) s.old s.new done) }
     ensures ready { IfOk result (λ done. done ≡ false → AllReady (formula_of f.now) (has set.now) i.now (stack_of (formula_of f.now) s.new.walk) (marks_of guide.new)) }
 {
-    match next_at(f, set, i, &s.walk.trail, &mut guide.mark) {
+    match next_at(f, set, i, &s.walk.trail, &mut guide.mark, probe) {
         Pick::Close(node) => {
             emit_leaf(f, set, s, node)?;
             go_on(guide);

@@ -109,3 +109,45 @@ fn chains_are_followed(rt: HostRuntime) -> Result<(), Fail> {
     }
     Ok(())
 }
+
+/// Two ways lead from each block to the next one, and both keep a variable: a split of the block or of the variable behind them
+/// serves both, so that the certificate grows with the number of blocks and not with that of ways.
+#[test]
+fn ways_that_meet_again_are_searched_once(rt: HostRuntime) -> Result<(), Fail> {
+    let alloc = rt.alloc();
+    let n = 100;
+    let (block, left, right) = (n + 1, 2 * n + 2, 3 * n + 2);
+    let mut f = formula(alloc, 4 * n + 2, &[], &[])?;
+    push(alloc, &mut f, &[(0, true)])?;
+    push(alloc, &mut f, &[(block, true)])?;
+    push(alloc, &mut f, &[(block + n, false), (n, false)])?;
+    for k in 0..n {
+        push(
+            alloc,
+            &mut f,
+            &[(block + k, false), (left + k, true), (right + k, true)],
+        )?;
+        for way in [left + k, right + k] {
+            push(alloc, &mut f, &[(way, false), (block + k + 1, true)])?;
+            push(alloc, &mut f, &[(way, false), (k, false), (k + 1, true)])?;
+            push(alloc, &mut f, &[(way, false), (k, true), (k + 1, false)])?;
+        }
+    }
+    match found(alloc, &f, &[], 20 * n)? {
+        Outcome::Closed(nodes) => assert!(rt; accepts(alloc, &f, &[], &nodes)?),
+        _ => return Err("no certificate".into()),
+    }
+    Ok(())
+}
+
+fn push(alloc: Global, f: &mut Clauses, literals: &[(u32, bool)]) -> Result<(), Fail> {
+    let mut clause = Vec::new(alloc);
+    for (atom, sign) in literals {
+        clause.push(Literal {
+            atom: *atom,
+            sign: *sign,
+        })?;
+    }
+    f.clauses.push(clause)?;
+    Ok(())
+}

@@ -5,12 +5,16 @@ use Rattle.bg_formula.specs.Formulas.{formula_of}
 use Rattle.bg_cert.specs.Causes.{units_of}
 use Rattle.bg_cert.specs.Walks.{has}
 use Rattle.bg_tree.proofs.Falses.{false_parts}
-use Rattle.bg_tree.proofs.Rule.{unit_may_split, open_may_split, free_may_split}
+use Rattle.bg_tree.proofs.Rule.{unit_may_split, at_may_split, open_may_split, free_may_split}
 use Rattle.bg_tree.proofs.pick.pick_atom.Goals as goal
 
 pub returns-in-Some-clause-split : goal.returns-in-Some-clause-split
 returns-in-Some-clause-split c =
     unit_may_split (formula_of c.args.f.now) (has c.args.set.now) c.args.trail.now.decisions.items c.in-Some.a c.requires.whole c.in-Some.ensures.unit
+
+pub returns-in-Some-suggest-clause-split : goal.returns-in-Some-suggest-clause-split
+returns-in-Some-suggest-clause-split c =
+    at_may_split (formula_of c.args.f.now) (has c.args.set.now) c.args.trail.now.decisions.items c.in-Some-suggest.a c.requires.whole c.in_default.ensures.unit c.in-Some-suggest.ensures
 
 pub open_from-requires-clause-fine : goal.open_from-requires-clause-fine
 open_from-requires-clause-fine c =

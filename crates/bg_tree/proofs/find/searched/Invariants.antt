@@ -5,7 +5,7 @@ use Rattle.bg_tree.specs.Once.{AllOnce}
 use Rattle.bg_tree.specs.Marks.{marks_of, AllReady}
 use Rattle.bg_tree.specs.Trees.{work}
 use Rattle.bg_tree.proofs.Told.{Told, Whole}
-use Rattle.bg_tree.proofs.find.search.Given as goal
+use Rattle.bg_tree.proofs.find.searched.Given as goal
 
 abbrev pub invariant-loop-s : goal.invariant-loop-s
 invariant-loop-s l =

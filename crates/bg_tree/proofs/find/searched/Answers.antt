@@ -4,7 +4,7 @@ use Rattle.bg_cert.specs.Walks.{has}
 use Rattle.bg_tree.specs.Trees.{Moves}
 use Rattle.bg_tree.proofs.Told.{moved, told_more, told_all, whole_more, whole_all}
 use Rattle.bg_tree.proofs.Readies.{first_ready}
-use Rattle.bg_tree.proofs.find.search.Goals as goal
+use Rattle.bg_tree.proofs.find.searched.Goals as goal
 
 pub loop-s-preserved : goal.loop-s-preserved
 loop-s-preserved c =
@@ -35,6 +35,6 @@ loop-s-init c =
       told = search rules;
       whole = search rules;
       once = search rules;
-      ready = first_ready (formula_of c.args.f.now) (has c.args.set.now) c.in_ok-i.i _ _ c.in_ok-i.ensures (c.in_ok-first_walk.ensures.stack (formula_of c.args.f.now)) c.first_guide-guide.ensures;
+      ready = first_ready (formula_of c.args.f.now) (has c.args.set.now) c.args.i.now _ _ c.requires.named (c.in_ok-first_walk.ensures.stack (formula_of c.args.f.now)) c.first_guide-guide.ensures;
       spent = search rules;
     }

@@ -1,0 +1,178 @@
+//! A look ahead: an atom that has one value whichever literal of an open clause is true, as the dilemma rule says (Sheeran and
+//! Stålmarck, A tutorial on Stålmarck's proof procedure for propositional logic, 2000). Below its other value the clause soon
+//! closes the path, and what was common to all cases is known behind them.
+ghost use Rattle.std.specs.Prelude.{◌≡◌, IfSome, map};
+ghost use Rattle.bg_cert.specs.Causes.{is_among};
+ghost use Rattle.bg_tree.specs.Marks.{stands_in, StandsOpen, IsOpenAt};
+
+use crate::hint::Hint;
+use crate::index::Index;
+use crate::left::{has_true, is_decided, some_left};
+use crate::probe::{Common, Probe, assume, forget, spread, value_of};
+use crate::rows::{hints_at, row_at};
+use bg_cert::Trail;
+use bg_formula::{Clauses, Literal};
+
+/// How many clauses are looked at for one split, and how many literals one of them may leave undecided.
+const MOST_CLAUSES: u32 = 64;
+
+const MOST_LITERALS: u32 = 4;
+
+/// Notes a value behind `count` literals. True where all of them have it in common.
+fn note_one(p: &mut Probe, a: u32, count: u32) -> bool {
+    let Some(Some(value)) = p.assumed.get(a as usize) else {
+        return false;
+    };
+    let value = *value;
+    let turn = p.turn;
+    let Some(c) = p.common.get_mut(a as usize) else {
+        return false;
+    };
+    let goes_on = count == 0 || (c.turn == turn && c.count == count && c.value == value);
+    if goes_on {
+        *c = Common {
+            turn,
+            count: count.saturating_add(1),
+            value,
+        };
+    }
+    goes_on
+}
+
+/// Notes the values that are assumed, behind `count` literals. Answers the first one that all of them have in common, if any.
+fn note(p: &mut Probe, count: u32) -> Option<u32> {
+    let mut found = None;
+    for k in 0..p.order.len() {
+        if let Some(a) = p.order.get(k) {
+            let a = *a;
+            if note_one(p, a, count) && found.is_none() {
+                found = Some(a);
+            }
+        }
+    }
+    found
+}
+
+/// An atom of which each undecided literal of the clause makes the same, or that of a literal which can't be true.
+fn look(f: &Clauses, i: &Index, trail: &Trail, p: &mut Probe, clause: &[Literal]) -> Option<u32> {
+    p.turn = p.turn.wrapping_add(1);
+    let mut found = None;
+    let mut count = 0;
+    for l in clause {
+        if value_of(trail, p, l.atom).is_none() {
+            if count >= MOST_LITERALS {
+                return None;
+            }
+            assume(p, *l);
+            let fails = spread(f, i, trail, p);
+            found = if fails { Some(l.atom) } else { note(p, count) };
+            forget(p);
+            if fails || found.is_none() {
+                return found;
+            }
+            count = count.saturating_add(1);
+        }
+    }
+    found
+}
+
+fn is_among(clause: &[Literal], a: u32) -> bool
+    ensures { result ≡ is_among a clause.now }
+{
+    for l in clause {
+        if l.atom == a {
+            return true;
+        }
+    }
+    false
+}
+
+/// Whether the clause has no true literal and the atom stands in it.
+fn stands_in(trail: &Trail, clause: &[Literal], a: u32) -> bool
+    ensures { result ≡ stands_in a trail.now.decisions.items clause.now }
+{
+    !has_true(trail, clause) && is_among(clause, a)
+}
+
+/// A clause of these hints that has no true literal and in which the atom stands.
+fn open_with(f: &Clauses, trail: &Trail, hints: &[Hint], a: u32) -> Option<usize>
+    ensures { IfSome result (λ k. StandsOpen trail.now.decisions.items (map (λ c. c.items) f.now.clauses.items) k a) }
+{
+    for x in hints {
+        if let Hint::Nth(k) = x {
+            if *k < f.clauses.len() && stands_in(trail, &f.clauses[*k], a) {
+                return Some(*k);
+            }
+        }
+    }
+    None
+}
+
+/// An atom to split by what an open clause tells.
+fn look_at(
+    f: &Clauses,
+    i: &Index,
+    trail: &Trail,
+    p: &mut Probe,
+    hint: Hint,
+    left: &mut u32,
+) -> Option<u32> {
+    let Hint::Nth(k) = hint else {
+        return None;
+    };
+    let clause = f.clauses.get(k)?;
+    if *left == 0 || some_left(trail, clause).is_none() {
+        return None;
+    }
+    *left -= 1;
+    look(f, i, trail, p, clause)
+}
+
+/// An atom to split by what a decision's clauses tell.
+fn look_along(
+    f: &Clauses,
+    i: &Index,
+    trail: &Trail,
+    p: &mut Probe,
+    row: usize,
+    left: &mut u32,
+) -> Option<u32> {
+    for hint in row_at(i, trail, row) {
+        if let Some(a) = look_at(f, i, trail, p, *hint, left) {
+            return Some(a);
+        }
+    }
+    None
+}
+
+/// An atom to split by what the clauses of the last decisions tell.
+fn candidate(f: &Clauses, i: &Index, trail: &Trail, p: &mut Probe) -> Option<u32> {
+    let mut left = MOST_CLAUSES;
+    let rows = trail.decisions.len();
+    for back in 0..rows {
+        if left == 0 {
+            return None;
+        }
+        if let Some(a) = look_along(f, i, trail, p, rows - back, &mut left) {
+            return Some(a);
+        }
+    }
+    None
+}
+
+/// An undecided atom of an open clause, chosen by a look ahead; none where the look tells nothing.
+pub fn suggest(f: &Clauses, i: &Index, trail: &Trail, p: &mut Probe) -> Option<u32>
+    ensures { IfSome result (λ a. IsOpenAt trail.now.decisions.items (map (λ c. c.items) f.now.clauses.items) a) }
+{
+    let a = candidate(f, i, trail, p)?;
+    if is_decided(trail, a as usize) {
+        return None;
+    }
+    let yes = open_with(f, trail, hints_at(&i.yes, a as usize), a);
+    let no = open_with(f, trail, hints_at(&i.no, a as usize), a);
+    if yes.is_some() || no.is_some() {
+        Some(a)
+    } else {
+        None
+    }
+}

@@ -1,0 +1,152 @@
+//! Values that are assumed beside those of a path, and what follows from them by the clauses.
+use crate::hint::Hint;
+use crate::index::Index;
+use bg_cert::{Trail, decides};
+use bg_formula::{Clauses, Literal};
+use std::alloc::{AllocError, Global};
+
+/// How many values may follow from one.
+const MOST_VALUES: u32 = 1000;
+
+/// The value that an atom had behind each of the first `count` literals of the clause that was looked at as the `turn`th.
+#[derive(Clone, Copy, PartialEq, Eq, Debug)]
+pub struct Common {
+    pub turn: u64,
+    pub count: u32,
+    pub value: bool,
+}
+
+/// Values that are assumed beside those of a path, in their order, and those that literals of a clause have in common.
+#[derive(Debug, Drop)]
+pub struct Probe {
+    pub assumed: Vec<Option<bool>>,
+    pub order: Vec<u32>,
+    pub common: Vec<Common>,
+    pub turn: u64,
+}
+
+/// What a clause is under a path and what is assumed.
+#[derive(Clone, Copy, PartialEq, Eq, Debug)]
+enum State {
+    False,
+    Unit(Literal),
+    Other,
+}
+
+/// A probe for so many atoms, with nothing assumed.
+pub fn new_probe(alloc: Global, atoms: usize) -> Result<Probe, AllocError> {
+    let nothing = Common {
+        turn: 0,
+        count: 0,
+        value: false,
+    };
+    Ok(Probe {
+        assumed: vec![in alloc; None; atoms]?,
+        order: Vec::new(alloc),
+        common: vec![in alloc; nothing; atoms]?,
+        turn: 0,
+    })
+}
+
+/// The value of an atom that the path decides or that is assumed.
+pub fn value_of(trail: &Trail, p: &Probe, a: u32) -> Option<bool> {
+    if decides(trail, a as usize, true) {
+        return Some(true);
+    }
+    if decides(trail, a as usize, false) {
+        return Some(false);
+    }
+    match p.assumed.get(a as usize) {
+        Some(v) => *v,
+        None => None,
+    }
+}
+
+fn state_of(trail: &Trail, p: &Probe, clause: &[Literal]) -> State {
+    let mut state = State::False;
+    for l in clause {
+        match value_of(trail, p, l.atom) {
+            Some(v) => {
+                if v == l.sign {
+                    return State::Other;
+                }
+            }
+            None => match state {
+                State::False => state = State::Unit(*l),
+                _ => return State::Other,
+            },
+        }
+    }
+    state
+}
+
+/// Assumes a literal; one for which there is no memory isn't assumed.
+pub fn assume(p: &mut Probe, l: Literal) {
+    if p.order.push(l.atom).is_ok() {
+        if let Some(v) = p.assumed.get_mut(l.atom as usize) {
+            *v = Some(l.sign);
+        }
+    }
+}
+
+/// Takes back what is assumed.
+pub fn forget(p: &mut Probe) {
+    while let Some(a) = p.order.pop() {
+        if let Some(v) = p.assumed.get_mut(a as usize) {
+            *v = None;
+        }
+    }
+}
+
+/// Assumes what a clause asks for. True where it is false.
+fn visit(f: &Clauses, trail: &Trail, p: &mut Probe, hint: Hint) -> bool {
+    let Hint::Nth(k) = hint else {
+        return false;
+    };
+    let Some(clause) = f.clauses.get(k) else {
+        return false;
+    };
+    match state_of(trail, p, clause) {
+        State::False => true,
+        State::Unit(l) => {
+            assume(p, l);
+            false
+        }
+        State::Other => false,
+    }
+}
+
+/// The clauses in which an assumed atom's literal is false.
+fn touched<'a>(i: &'a Index, p: &Probe, a: u32) -> &'a [Hint] {
+    let lists = match p.assumed.get(a as usize) {
+        Some(Some(true)) => &i.no,
+        _ => &i.yes,
+    };
+    match lists.get(a as usize) {
+        Some(hints) => hints.as_slice(),
+        None => &[],
+    }
+}
+
+fn visit_all(f: &Clauses, i: &Index, trail: &Trail, p: &mut Probe, a: u32) -> bool {
+    for hint in touched(i, p, a) {
+        if visit(f, trail, p, *hint) {
+            return true;
+        }
+    }
+    false
+}
+
+/// Assumes what follows from what is assumed, up to a limit. True where a clause becomes false.
+pub fn spread(f: &Clauses, i: &Index, trail: &Trail, p: &mut Probe) -> bool {
+    for at in 0..MOST_VALUES {
+        let Some(a) = p.order.get(at as usize) else {
+            return false;
+        };
+        let a = *a;
+        if visit_all(f, i, trail, p, a) {
+            return true;
+        }
+    }
+    false
+}
