@@ -4,7 +4,6 @@ use Rattle.std.specs.Fmt.{decimal}
 use Rattle.bg_cert.specs.declared.cert.Node.{Node}
 use Rattle.bg_places.specs.declared.place.Place.{Place}
 use Rattle.bg_replay.specs.declared.choice.Choice.{Choice}
-use Rattle.bg_model.specs.declared.counterexample.Counterexample.{Counterexample}
 use Rattle.bg_check.specs.declared.verdict.Verdict.{Verdict}
 use Rattle.bg_check.specs.declared.verdict.Verdict.TheVariants as verdict
 use Rattle.bg_check.specs.declared.verdict.Judged.{Judged}
@@ -91,14 +90,12 @@ two_lines c a m k d x = simp append_assoc
 unknown_cells : (a d x : List ℕ) → (line ((codes "  unknown " ++ a) ++ codes " nodes") ++ line (codes "    kept " ++ d)) ++ x ≡ codes "  unknown " ++ ((a ++ codes " nodes") ++ (10 ∷ (codes "    kept " ++ (d ++ (10 ∷ x)))))
 unknown_cells a d x = two_lines (codes "  unknown ") a (codes " nodes") (codes "    kept ") d x
 
-refuted_apart : (names : List (List ℕ)) (p q : Place) (c d : Counterexample) (x y : List ℕ) → IsPast x → IsPast y → refuted_text names p c ++ x ≡ refuted_text names q d ++ y → x ≡ y
-refuted_apart names p q c d x y hx hy h =
-    let vs = c.globals.items ++ c.frame.items in
-    let ws = d.globals.items ++ d.frame.items in
-    choices_apart c.choices.items d.choices.items x y hx.no_choice hy.no_choice
-    (values_apart names vs ws (flat_map choice_text c.choices.items ++ x) (flat_map choice_text d.choices.items ++ y) (no_value_behind c.choices.items x hx) (no_value_behind d.choices.items y hy)
+refuted_apart : (names : List (List ℕ)) (p q : Place) (vs ws : List Bool) (cs ds : List Choice) (x y : List ℕ) → IsPast x → IsPast y → refuted_text names p vs cs ++ x ≡ refuted_text names q ws ds ++ y → x ≡ y
+refuted_apart names p q vs ws cs ds x y hx hy h =
+    choices_apart cs ds x y hx.no_choice hy.no_choice
+    (values_apart names vs ws (flat_map choice_text cs ++ x) (flat_map choice_text ds ++ y) (no_value_behind cs x hx) (no_value_behind ds y hy)
     (cut (place_text p) (place_text q) _ _ (place_is_flat p) (place_is_flat q)
-    (append_cancel_left (codes "  refuted ") _ _ (sym (refuted_cells (place_text p) (texts value_text names vs) (flat_map choice_text c.choices.items) x) ∙ h ∙ refuted_cells (place_text q) (texts value_text names ws) (flat_map choice_text d.choices.items) y))))
+    (append_cancel_left (codes "  refuted ") _ _ (sym (refuted_cells (place_text p) (texts value_text names vs) (flat_map choice_text cs) x) ∙ h ∙ refuted_cells (place_text q) (texts value_text names ws) (flat_map choice_text ds) y))))
 
 unknown_apart : (p q : Place) (ns ms : List (Option Node)) (x y : List ℕ) → unknown_text p ns ++ x ≡ unknown_text q ms ++ y → x ≡ y
 unknown_apart p q ns ms x y h =
@@ -112,18 +109,18 @@ unknown_apart p q ns ms x y h =
 -- a place's part of a report: nothing, or that of a refuted or an unknown place
 data Shape : Type 0 where
   Nothing : Shape
-  Shown : Place → Counterexample → Shape
+  Shown : Place → List Bool → List Choice → Shape
   Spent : Place → List (Option Node) → Shape
 
 abbrev shape_text : List (List ℕ) → Shape → List ℕ
 shape_text names Nothing = []
-shape_text names (Shown p cex) = refuted_text names p cex
+shape_text names (Shown p vs cs) = refuted_text names p vs cs
 shape_text names (Spent p ns) = unknown_text p ns
 
 abbrev shape_if : Bool → Place → Verdict → Shape
 shape_if false p v = Nothing
 shape_if true p (verdict.Proved nodes) = Nothing
-shape_if true p (verdict.Refuted cex) = Shown p cex
+shape_if true p (verdict.Refuted cex) = Shown p (cex.globals.items ++ cex.frame.items) cex.choices.items
 shape_if true p (verdict.Unknown nodes) = Spent p nodes.items
 
 abbrev shape_of : Judged → Shape
@@ -147,39 +144,39 @@ all_shaped names (j ∷ js) =
 past_shapes : (names : List (List ℕ)) (ss : List Shape) (x : List ℕ) → IsPast x → IsPast (shapes_text names ss ++ x)
 past_shapes names [] x hx = hx
 past_shapes names (Nothing ∷ ss) x hx = past_shapes names ss x hx
-past_shapes names (Shown p cex ∷ ss) x hx = record { no_value = λ e. omega (arith, e); no_choice = λ e. omega (arith, e) }
+past_shapes names (Shown p vs cs ∷ ss) x hx = record { no_value = λ e. omega (arith, e); no_choice = λ e. omega (arith, e) }
 past_shapes names (Spent p ns ∷ ss) x hx = record { no_value = λ e. omega (arith, e); no_choice = λ e. omega (arith, e) }
 
 -- where no place is told, none is on the other side
 none_apart : (names : List (List ℕ)) (ss : List Shape) (x y : List ℕ) → IsHead x → x ≡ shapes_text names ss ++ y → x ≡ y
 none_apart names [] x y hx h = h
 none_apart names (Nothing ∷ ss) x y hx h = none_apart names ss x y hx h
-none_apart names (Shown p cex ∷ ss) x y hx h = absurd (hx.no_place (ap first h))
+none_apart names (Shown p vs cs ∷ ss) x y hx h = absurd (hx.no_place (ap first h))
 none_apart names (Spent p ns ∷ ss) x y hx h = absurd (hx.no_place (ap first h))
 
 -- a refuted place, and then a text t that is read in one way
-refuted_first : (names : List (List ℕ)) (q : Place) (c : Counterexample) (ss : List Shape) (t x y : List ℕ) → IsPast t → IsHead y → ((rest : List Shape) → t ≡ shapes_text names rest ++ y → x ≡ y) → refuted_text names q c ++ t ≡ shapes_text names ss ++ y → x ≡ y
-refuted_first names q c [] t x y ht hy ih h = absurd (hy.no_place (sym (ap first h)))
-refuted_first names q c (Nothing ∷ ss) t x y ht hy ih h = refuted_first names q c ss t x y ht hy ih h
-refuted_first names q c (Shown p cex ∷ ss) t x y ht hy ih h =
-    ih ss (refuted_apart names q p c cex t _ ht (past_shapes names ss y hy.past) (h ∙ append_assoc (refuted_text names p cex) (shapes_text names ss) y))
-refuted_first names q c (Spent p ns ∷ ss) t x y ht hy ih h = let e : 114 ≡ 117 = ap third h in absurd (omega (arith, e))
+refuted_first : (names : List (List ℕ)) (q : Place) (ws : List Bool) (ds : List Choice) (ss : List Shape) (t x y : List ℕ) → IsPast t → IsHead y → ((rest : List Shape) → t ≡ shapes_text names rest ++ y → x ≡ y) → refuted_text names q ws ds ++ t ≡ shapes_text names ss ++ y → x ≡ y
+refuted_first names q ws ds [] t x y ht hy ih h = absurd (hy.no_place (sym (ap first h)))
+refuted_first names q ws ds (Nothing ∷ ss) t x y ht hy ih h = refuted_first names q ws ds ss t x y ht hy ih h
+refuted_first names q ws ds (Shown p vs cs ∷ ss) t x y ht hy ih h =
+    ih ss (refuted_apart names q p ws vs ds cs t _ ht (past_shapes names ss y hy.past) (h ∙ append_assoc (refuted_text names p vs cs) (shapes_text names ss) y))
+refuted_first names q ws ds (Spent p ns ∷ ss) t x y ht hy ih h = let e : 114 ≡ 117 = ap third h in absurd (omega (arith, e))
 
 -- an unknown place, and then a text t that is read in one way
 unknown_first : (names : List (List ℕ)) (q : Place) (ms : List (Option Node)) (ss : List Shape) (t x y : List ℕ) → IsHead y → ((rest : List Shape) → t ≡ shapes_text names rest ++ y → x ≡ y) → unknown_text q ms ++ t ≡ shapes_text names ss ++ y → x ≡ y
 unknown_first names q ms [] t x y hy ih h = absurd (hy.no_place (sym (ap first h)))
 unknown_first names q ms (Nothing ∷ ss) t x y hy ih h = unknown_first names q ms ss t x y hy ih h
-unknown_first names q ms (Shown p cex ∷ ss) t x y hy ih h = let e : 117 ≡ 114 = ap third h in absurd (omega (arith, e))
+unknown_first names q ms (Shown p vs cs ∷ ss) t x y hy ih h = let e : 117 ≡ 114 = ap third h in absurd (omega (arith, e))
 unknown_first names q ms (Spent p ns ∷ ss) t x y hy ih h =
     ih ss (unknown_apart q p ms ns t _ (h ∙ append_assoc (unknown_text p ns) (shapes_text names ss) y))
 
 shapes_apart : (names : List (List ℕ)) (ss rs : List Shape) (x y : List ℕ) → IsHead x → IsHead y → shapes_text names ss ++ x ≡ shapes_text names rs ++ y → x ≡ y
 shapes_apart names [] rs x y hx hy h = none_apart names rs x y hx h
 shapes_apart names (Nothing ∷ ss) rs x y hx hy h = shapes_apart names ss rs x y hx hy h
-shapes_apart names (Shown p cex ∷ ss) rs x y hx hy h =
-    refuted_first names p cex rs (shapes_text names ss ++ x) x y (past_shapes names ss x hx.past) hy
+shapes_apart names (Shown p vs cs ∷ ss) rs x y hx hy h =
+    refuted_first names p vs cs rs (shapes_text names ss ++ x) x y (past_shapes names ss x hx.past) hy
     (λ (rest : List Shape). shapes_apart names ss rest x y hx hy)
-    (sym (append_assoc (refuted_text names p cex) (shapes_text names ss) x) ∙ h)
+    (sym (append_assoc (refuted_text names p vs cs) (shapes_text names ss) x) ∙ h)
 shapes_apart names (Spent p ns ∷ ss) rs x y hx hy h =
     unknown_first names p ns rs (shapes_text names ss ++ x) x y hy
     (λ (rest : List Shape). shapes_apart names ss rest x y hx hy)

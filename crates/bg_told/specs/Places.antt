@@ -9,7 +9,6 @@ use Rattle.bg_places.specs.declared.place.Spot.TheVariants.{Assert, Entry, Turn,
 use Rattle.bg_places.specs.declared.place.Place.{Place}
 use Rattle.bg_replay.specs.declared.choice.Choice.{Choice}
 use Rattle.bg_replay.specs.declared.choice.Choice.TheVariants.{Branch, Chosen}
-use Rattle.bg_model.specs.declared.counterexample.Counterexample.{Counterexample}
 use Rattle.bg_check.specs.declared.verdict.Verdict.{Verdict}
 use Rattle.bg_check.specs.declared.verdict.Verdict.TheVariants as verdict
 use Rattle.bg_check.specs.declared.verdict.Judged.{Judged}
@@ -51,11 +50,10 @@ chosen_text (Chosen value) = truth_text value
 abbrev pub choice_text : Choice → List ℕ
 choice_text c = line (codes "    choice " ++ chosen_text c)
 
--- a refuted place: the entry values of the variables with these names, globals first, and the choices in order
-abbrev pub refuted_text : List (List ℕ) → Place → Counterexample → List ℕ
-refuted_text names p cex =
-    line (told_text Refuted p)
-    ++ (texts value_text names (cex.globals.items ++ cex.frame.items) ++ flat_map choice_text cex.choices.items)
+-- a refuted place: the entry values of the variables with these names, and the choices in order
+abbrev pub refuted_text : List (List ℕ) → Place → List Bool → List Choice → List ℕ
+refuted_text names p values choices =
+    line (told_text Refuted p) ++ (texts value_text names values ++ flat_map choice_text choices)
 
 -- whether a node of a partial tree has children
 abbrev pub is_inner : Option Node → Bool
@@ -67,10 +65,10 @@ is_inner _ = false
 abbrev pub unknown_text : Place → List (Option Node) → List ℕ
 unknown_text p nodes = line (told_text Unknown p ++ codes " nodes") ++ line (codes "    kept " ++ decimal (count_by is_inner nodes))
 
--- what is told of a place: nothing where it is proved
+-- what is told of a place: nothing where it is proved; of a counterexample the values of the globals, then those of the frame
 abbrev pub verdict_text : List (List ℕ) → Place → Verdict → List ℕ
 verdict_text names p (verdict.Proved nodes) = []
-verdict_text names p (verdict.Refuted cex) = refuted_text names p cex
+verdict_text names p (verdict.Refuted cex) = refuted_text names p (cex.globals.items ++ cex.frame.items) cex.choices.items
 verdict_text names p (verdict.Unknown nodes) = unknown_text p nodes.items
 
 -- only ordinary places are told of

@@ -24,7 +24,7 @@ fn put_refuted(
     place: &Place,
     cex: &Counterexample,
 ) -> Result<(), AllocError>
-    ensures { OnOk result (out.new.items ≡ out.old.items ++ refuted_text (names_of (map declared_of globals.now) (impl_of implementation.now)) place.now cex.now) }
+    ensures { OnOk result (out.new.items ≡ out.old.items ++ refuted_text (names_of (map declared_of globals.now) (impl_of implementation.now)) place.now (cex.now.globals.items ++ cex.now.frame.items) cex.now.choices.items) }
 {
     put_told(out, Word::Refuted, place)?;
     out.push(b'\n')?;
