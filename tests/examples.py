@@ -1,0 +1,48 @@
+#!/usr/bin/env python3
+"""Runs each program of examples/ and compares what is written, and the status, with what is stored beside it.
+
+usage: examples.py --bg COMMAND
+
+A text that begins with `error: ` is expected on the error stream, with status 3; any other one on the output, with the status that
+its lines tell. The last line is `N passed, M failed`.
+"""
+import argparse
+import glob
+import os
+import re
+import shlex
+import subprocess
+import sys
+
+TOP = os.path.dirname(os.path.dirname(os.path.abspath(__file__)))
+
+
+def wanted(text):
+    """Returns the output, the error line and the status that a stored text stands for."""
+    if text.startswith(b"error: "):
+        return b"", text, 3
+    said = re.findall(rb"^implementation \S+ \S+ (\w+)$", text, re.M)
+    return text, b"", 1 if b"refuted" in said else 2 if b"unknown" in said else 0
+
+
+def main():
+    parser = argparse.ArgumentParser(description=__doc__.split("\n", maxsplit=1)[0])
+    parser.add_argument("--bg", required=True)
+    args = parser.parse_args()
+    passed = failed = 0
+    for source in sorted(glob.glob(os.path.join(TOP, "examples", "*.bpl"))):
+        with open(source[: -len("bpl")] + "expected", "rb") as file:
+            out, err, status = wanted(file.read())
+        ran = subprocess.run([*shlex.split(args.bg), "verify", source], capture_output=True, timeout=120)
+        if (ran.stdout, ran.stderr, ran.returncode) == (out, err, status):
+            passed += 1
+            continue
+        failed += 1
+        print(f"{os.path.relpath(source, TOP)}: status {ran.returncode} for {status}")
+        sys.stdout.write((ran.stdout + ran.stderr).decode())
+    print(f"{passed} passed, {failed} failed")
+    return 1 if failed or not passed else 0
+
+
+if __name__ == "__main__":
+    sys.exit(main())

@@ -1,0 +1,231 @@
+#!/usr/bin/env python3
+"""Makes random programs over truth values with the whole statement language, and has their reports judged.
+
+usage: random_programs.py --bg COMMAND [--judge COMMAND] [--count N] [--seed K] [--keep FOLDER]
+
+COMMAND of --bg is the program, as `./bg`. COMMAND of --judge is an evaluator that gets the names of a program and of its report,
+and ends with 0 where it agrees. The last line is `N passed, M failed`.
+"""
+import argparse
+import collections
+import os
+import random
+import re
+import shlex
+import subprocess
+import sys
+import tempfile
+
+SIGNS = ["&&", "||", "==>", "<==", "<==>", "==", "!="]
+
+
+class Procedure:
+    """A procedure's names, and which globals it modifies."""
+
+    def __init__(self, rng, number, names):
+        self.name = f"P{number}"
+        self.params = [f"p{k}" for k in range(rng.randrange(3))]
+        self.results = [f"r{k}" for k in range(rng.randrange(3))]
+        self.modifies = [g for g in names if rng.random() < 0.5]
+
+
+class Body:
+    """Statements of one implementation."""
+
+    def __init__(self, rng, program, procedure, params, results):
+        self.rng, self.program, self.procedure = rng, program, procedure
+        self.locals = [f"x{k}" for k in range(rng.randrange(4))]
+        self.reads = program.names + params + results + self.locals
+        self.writes = procedure.modifies + results + self.locals
+        self.labels = 0
+
+    def label(self):
+        self.labels += 1
+        return f"L{self.labels}"
+
+    def formula(self, depth=2):
+        return self.program.formula(self.rng, self.reads, depth, old=True)
+
+    def sides(self, most=2):
+        names = self.rng.sample(self.writes, min(len(self.writes), self.rng.randint(1, most)))
+        return names, [self.formula() for _ in names]
+
+    def call(self, indent):
+        fits = [q for q in self.program.procedures
+                if set(q.modifies) <= set(self.procedure.modifies) and len(q.results) <= len(self.writes)]
+        if not fits:
+            return [f"{indent}assume {self.formula()};"]
+        q = self.rng.choice(fits)
+        takes = self.rng.sample(self.writes, len(q.results))
+        args = ", ".join(self.formula(1) for _ in q.params)
+        front = f"{', '.join(takes)} := " if takes else ""
+        return [f"{indent}call {front}{q.name}({args});"]
+
+    def loop(self, indent, depth, ahead, inside):
+        guard = "*" if self.rng.random() < 0.4 else self.formula(1)
+        label = self.label() if self.rng.random() < 0.3 else None
+        lines = [f"{indent}{label}:"] if label else []
+        lines.append(f"{indent}while ({guard})")
+        for _ in range(self.rng.randrange(3)):
+            free = "free " if self.rng.random() < 0.25 else ""
+            lines.append(f"{indent}  {free}invariant {self.formula()};")
+        within = inside + [None] + ([label] if label else [])
+        return lines + [f"{indent}{{"] + self.statements(indent + "  ", depth - 1, ahead, within) + [f"{indent}}}"]
+
+    def branch(self, indent, depth, ahead, inside):
+        label = self.label() if self.rng.random() < 0.2 else None
+        within = inside + ([label] if label else [])
+        lines = [f"{indent}{label}:"] if label else []
+        word = "if"
+        for _ in range(self.rng.randint(1, 2)):
+            guard = "*" if self.rng.random() < 0.3 else self.formula(1)
+            lines.append(f"{indent}{word} ({guard}) {{")
+            lines += self.statements(indent + "  ", depth - 1, ahead, within)
+            word = "} else if"
+        if self.rng.random() < 0.5:
+            lines.append(f"{indent}}} else {{")
+            lines += self.statements(indent + "  ", depth - 1, ahead, within)
+        return lines + [f"{indent}}}"]
+
+    def leave(self, indent, ahead, inside):
+        ways = ["return;"]
+        if ahead:
+            ways.append(f"goto {', '.join(self.rng.sample(ahead, self.rng.randint(1, min(2, len(ahead)))))};")
+        ways += ["break;" if name is None else f"break {name};" for name in inside]
+        return [f"{indent}{self.rng.choice(ways)}"]
+
+    def statement(self, indent, depth, ahead, inside):
+        kind = self.rng.random()
+        if kind < 0.2:
+            return [f"{indent}assert {self.formula()};"]
+        if kind < 0.3:
+            return [f"{indent}assume {self.formula()};"]
+        if kind < 0.4 and self.writes:
+            return [f"{indent}havoc {', '.join(self.sides()[0])};"]
+        if kind < 0.62 and self.writes:
+            names, values = self.sides()
+            return [f"{indent}{', '.join(names)} := {', '.join(values)};"]
+        if kind < 0.76:
+            return self.call(indent)
+        if kind < 0.84 and depth:
+            return self.loop(indent, depth, ahead, inside)
+        if kind < 0.94 and depth:
+            return self.branch(indent, depth, ahead, inside)
+        return self.leave(indent, ahead, inside)
+
+    def statements(self, indent, depth, ahead, inside):
+        count = self.rng.randrange(5)
+        marks = {k: self.label() for k in range(1, count + 1) if self.rng.random() < 0.25}
+        lines = []
+        for k in range(count):
+            lines += [f"{indent}{marks[k]}:"] if k in marks else []
+            later = [name for at, name in marks.items() if at > k]
+            lines += self.statement(indent, depth, later + ahead, inside)
+        return lines + ([f"{indent}{marks[count]}:"] if count in marks else [])
+
+    def lines(self):
+        declared = [f"  var {name}: bool;" for name in self.locals]
+        return ["{"] + declared + self.statements("  ", 3, [], []) + ["}"]
+
+
+class Program:
+    """A program: globals, procedures and implementations."""
+
+    def __init__(self, rng):
+        self.names = [f"g{k}" for k in range(rng.randrange(4))]
+        self.procedures = [Procedure(rng, k, self.names) for k in range(rng.randint(1, 4))]
+        self.text = "\n".join(self.lines(rng)) + "\n"
+
+    def formula(self, rng, names, depth, old=False):
+        kind = rng.random()
+        if not depth or kind < 0.3:
+            if not names or rng.random() < 0.1:
+                return rng.choice(["true", "false"])
+            return rng.choice(names)
+        if kind < 0.45:
+            return "!" + self.operand(rng, names, depth - 1, old)
+        if old and kind < 0.52:
+            return f"old({self.formula(rng, names, depth - 1)})"
+        sign = rng.choice(SIGNS)
+        count = rng.randint(2, 3) if sign in ("&&", "||", "==>") else 2
+        return f" {sign} ".join(self.operand(rng, names, depth - 1, old) for _ in range(count))
+
+    def operand(self, rng, names, depth, old):
+        text = self.formula(rng, names, depth, old)
+        return text if re.fullmatch(r"[\w!]+|old\(\w+\)", text) else f"({text})"
+
+    def specification(self, rng, q):
+        lines = [f"  modifies {', '.join(q.modifies)};"] if q.modifies else []
+        for word, names in (("requires", self.names + q.params), ("ensures", self.names + q.params + q.results)):
+            for _ in range(rng.randrange(3)):
+                free = "free " if rng.random() < 0.2 else ""
+                lines.append(f"  {free}{word} {self.formula(rng, names, 2, old=word == 'ensures')};")
+        return lines
+
+    def head(self, word, q, params, results):
+        typed = lambda names: ", ".join(f"{name}: bool" for name in names)
+        returns = f" returns ({typed(results)})" if results else ""
+        return f"{word} {q.name}({typed(params)}){returns}"
+
+    def lines(self, rng):
+        lines = [f"var {name}: bool;" for name in self.names]
+        for q in self.procedures:
+            if rng.random() < 0.6:
+                lines.append(self.head("procedure", q, q.params, q.results))
+                lines += self.specification(rng, q)
+                lines += Body(rng, self, q, q.params, q.results).lines()
+                continue
+            lines.append(self.head("procedure", q, q.params, q.results) + ";")
+            lines += self.specification(rng, q)
+            for _ in range(rng.randrange(3)):
+                params, results = ([f"{name}'" for name in names] for names in (q.params, q.results))
+                lines.append(self.head("implementation", q, params, results))
+                lines += Body(rng, self, q, params, results).lines()
+        return lines
+
+
+def judged(args, folder, number):
+    """Returns what is wrong with the report of one program, or None, with the words that the report says of implementations."""
+    text = Program(random.Random(args.seed * 1_000_003 + number)).text
+    source, report = os.path.join(folder, f"{number}.bpl"), os.path.join(folder, f"{number}.report")
+    with open(source, "w", encoding="ascii") as file:
+        file.write(text)
+    ran = subprocess.run([*shlex.split(args.bg), "verify", source], capture_output=True, timeout=300)
+    with open(report, "wb") as file:
+        file.write(ran.stdout)
+    said = re.findall(r"^implementation \S+ \S+ (\w+)$", ran.stdout.decode(), re.M)
+    want = 1 if "refuted" in said else 2 if "unknown" in said else 0
+    if ran.returncode != want or ran.stderr:
+        return f"status {ran.returncode} for {want}: {ran.stderr.decode().strip()}", said
+    if args.judge:
+        told = subprocess.run([*shlex.split(args.judge), source, report], capture_output=True, timeout=600)
+        if told.returncode:
+            return (told.stdout + told.stderr).decode().strip(), said
+    return None, said
+
+
+def main():
+    parser = argparse.ArgumentParser(description=__doc__.split("\n", maxsplit=1)[0])
+    parser.add_argument("--bg", required=True)
+    parser.add_argument("--judge")
+    parser.add_argument("--count", type=int, default=300)
+    parser.add_argument("--seed", type=int, default=1)
+    parser.add_argument("--keep")
+    args = parser.parse_args()
+    failed, words = 0, collections.Counter()
+    with tempfile.TemporaryDirectory() as folder:
+        if args.keep:
+            os.makedirs(args.keep, exist_ok=True)
+        for number in range(args.count):
+            wrong, said = judged(args, args.keep or folder, number)
+            words.update(said)
+            if wrong:
+                failed += 1
+                print(f"{number}: {wrong}")
+    print(", ".join(f"{words[word]} {word}" for word in ("verified", "refuted", "unknown")))
+    print(f"{args.count - failed} passed, {failed} failed")
+    return 1 if failed else 0
+
+
+if __name__ == "__main__":
+    sys.exit(main())
