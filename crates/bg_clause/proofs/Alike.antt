@@ -13,7 +13,7 @@ use Rattle.bg_formula.specs.Meaning.{Valuation, clauses_true}
 use Rattle.bg_clause.specs.Fitting.{fit_blocks}
 use Rattle.bg_clause.specs.Told.{entry_told}
 use Rattle.bg_clause.specs.Whole.{formula, clauses_of, truth_values, are_truths}
-use Rattle.bg_clause.proofs.Emitting.{all_in}
+use Rattle.bg_clause.proofs.Clausal.{all_in}
 use Rattle.bg_clause.proofs.Below.{lower}
 use Rattle.bg_clause.proofs.Backward.{entry_denied}
 use Rattle.bg_clause.proofs.Valuing.{behind, behind_past, behind_values, truth_at, truths_read}

@@ -6,14 +6,7 @@ use Rattle.bg_formula.specs.Meaning.{same}
 use Rattle.bg_clause.specs.Forms.{Form, Plain, Is, Both, Either, Any, literal_in, form_true}
 use Rattle.bg_clause.specs.Emitted.{names, denies, after, emitted}
 use Rattle.bg_clause.proofs.Meaning.{and_left, and_right}
-
-abbrev pub any_in : (ℕ → Bool) → List Literal → Bool
-any_in t [] = false
-any_in t (l ∷ ls) = literal_in t l || any_in t ls
-
-abbrev pub all_in : (ℕ → Bool) → List (List Literal) → Bool
-all_in t [] = true
-all_in t (c ∷ cs) = any_in t c && all_in t cs
+use Rattle.bg_clause.proofs.Clausal.{any_in, all_in, clause_true}
 
 -- the parts that have names, by name
 abbrev pub parts : Form → List Form
@@ -67,7 +60,7 @@ all_second t [] ys p = p
 all_second t (x ∷ xs) ys p = all_second t xs ys (and_right (any_in t x) (all_in t (xs ++ ys)) p)
 
 -- truth values, case by case
-plain_bools : (a : Bool) → (a && true) ≡ true → (a || false) ≡ true
+plain_bools : (a : Bool) → a ≡ true → (a || false) ≡ true
 plain_bools true e = refl
 plain_bools false e = e
 
@@ -75,16 +68,16 @@ or_bools : (a : Bool) → (a || true) ≡ true
 or_bools true = refl
 or_bools false = refl
 
-bools_plain : (a : Bool) → (a || false) ≡ true → (a && true) ≡ true
+bools_plain : (a : Bool) → (a || false) ≡ true → a ≡ true
 bools_plain true e = refl
 bools_plain false e = e
 
-is_bools : (a l : Bool) → ((l || a) && true) ≡ true → (a || l) ≡ true
+is_bools : (a l : Bool) → (l || a) ≡ true → (a || l) ≡ true
 is_bools true l e = refl
 is_bools false true e = refl
 is_bools false false e = e
 
-bools_is : (a l : Bool) → (a || l) ≡ true → ((l || a) && true) ≡ true
+bools_is : (a l : Bool) → (a || l) ≡ true → (l || a) ≡ true
 bools_is true true e = refl
 bools_is true false e = refl
 bools_is false true e = refl
@@ -146,9 +139,9 @@ module _ (t : ℕ → Bool) where
   -- where the clauses are true, so is one of the literals or the form
   pub emitted_sound : (f : Form) (ls : List Literal) (n : ℕ) → all_in t (emitted ls f n) ≡ true → (any_in t ls || form_true t f) ≡ true
   emitted_sound (Plain true) ls n e = or_bools (any_in t ls)
-  emitted_sound (Plain false) ls n e = plain_bools (any_in t ls) e
+  emitted_sound (Plain false) ls n e = plain_bools (any_in t ls) (sym (clause_true t ls) ∙ e)
   emitted_sound (Is l) ls n e =
-      is_bools (any_in t ls) (literal_in t l) (ap (λ x. x && true) (sym (any_last ls l)) ∙ e)
+      is_bools (any_in t ls) (literal_in t l) (sym (any_last ls l) ∙ sym (clause_true t (ls ++ l ∷ [])) ∙ e)
   emitted_sound (Both f g) ls n e =
       both_bools (any_in t ls) (form_true t f) (form_true t g) (emitted_sound f ls n (all_first t (emitted ls f n) (emitted ls g (after f n)) e)) (emitted_sound g ls (after f n) (all_second t (emitted ls f n) (emitted ls g (after f n)) e))
   emitted_sound (Either l f) ls n e =
@@ -161,9 +154,9 @@ module _ (t : ℕ → Bool) where
   -- where one of the literals or the form is true, and names are worth what they name, the clauses are true
   pub emitted_complete : (f : Form) (ls : List Literal) (n : ℕ) → Named t n (parts f) → (any_in t ls || form_true t f) ≡ true → all_in t (emitted ls f n) ≡ true
   emitted_complete (Plain true) ls n h e = refl
-  emitted_complete (Plain false) ls n h e = bools_plain (any_in t ls) e
+  emitted_complete (Plain false) ls n h e = clause_true t ls ∙ bools_plain (any_in t ls) e
   emitted_complete (Is l) ls n h e =
-      ap (λ x. x && true) (any_last ls l) ∙ bools_is (any_in t ls) (literal_in t l) e
+      clause_true t (ls ++ l ∷ []) ∙ any_last ls l ∙ bools_is (any_in t ls) (literal_in t l) e
   emitted_complete (Both f g) ls n h e =
       let d = named_split t f (parts g) n h in
       all_append t (emitted ls f n) (emitted ls g (after f n)) (emitted_complete f ls n d.0 (bools_first (any_in t ls) (form_true t f) (form_true t g) e)) (emitted_complete g ls (after f n) d.1 (bools_second (any_in t ls) (form_true t f) (form_true t g) e))

@@ -15,7 +15,8 @@ use Rattle.bg_clause.specs.Told.{Told, nothing, is_short, told_by, told, with_en
 use Rattle.bg_clause.specs.Whole.{truth_values}
 use Rattle.bg_clause.proofs.Meaning.{same_true, and_left, and_right}
 use Rattle.bg_clause.proofs.Failing.{not_not, wells, block_true}
-use Rattle.bg_clause.proofs.Emitting.{all_in, parts, all_append, emitted_complete, named_implied}
+use Rattle.bg_clause.proofs.Clausal.{all_in}
+use Rattle.bg_clause.proofs.Emitting.{parts, all_append, emitted_complete, named_implied}
 use Rattle.bg_clause.proofs.Below.{form_below, forms_below, and_both, lower}
 use Rattle.bg_clause.proofs.Locals.{Agree, parts_below, local, local_wells, local_clauses, extended, local_values}
 use Rattle.bg_clause.proofs.Wholes.{told_more, told_below, first_below}

@@ -1,5 +1,6 @@
 pub mod Meaning
 pub mod Failing
+pub mod Clausal
 pub mod Emitting
 pub mod Below
 pub mod Backward

@@ -7,7 +7,8 @@ use Rattle.bg_formula.specs.Meaning.{same}
 use Rattle.bg_clause.specs.Forms.{Form, Plain, Is, Both, Either, Any, form_true}
 use Rattle.bg_clause.specs.Whole.{truth_values}
 use Rattle.bg_clause.proofs.Meaning.{zero_below, below_suc, and_left, and_right}
-use Rattle.bg_clause.proofs.Emitting.{any_in, all_in, parts, Named}
+use Rattle.bg_clause.proofs.Clausal.{any_in, all_in}
+use Rattle.bg_clause.proofs.Emitting.{parts, Named}
 use Rattle.bg_clause.proofs.Failing.{wells}
 use Rattle.bg_clause.proofs.Below.{form_below, forms_below, and_both}
 use Rattle.bg_clause.proofs.Valuing.{behind, front, behind_first, behind_past}

@@ -32,7 +32,7 @@ not_or : (a b : Bool) → (not a && not b) ≡ not (a || b)
 not_or true b = refl
 not_or false b = refl
 
-same_not : (a s : Bool) → same a (not s) ≡ not (same a s)
+pub same_not : (a s : Bool) → same a (not s) ≡ not (same a s)
 same_not true true = refl
 same_not true false = refl
 same_not false true = refl

@@ -16,7 +16,7 @@ use Rattle.bg_clause.specs.Emitted.{names, denies, after, emitted}
 use Rattle.bg_clause.specs.Told.{Told, nothing, is_short, told_by, told, with_entry, entry_told}
 use Rattle.bg_clause.specs.Whole.{formula}
 use Rattle.bg_clause.proofs.Meaning.{none_below, below_suc, and_left, and_right}
-use Rattle.bg_clause.proofs.Emitting.{any_in, all_in}
+use Rattle.bg_clause.proofs.Clausal.{any_in, all_in, clause_below}
 use Rattle.bg_clause.proofs.Below.{form_below, forms_below, and_both, block_below}
 
 pub after_more : (f : Form) (n : ℕ) → n ≤ after f n
@@ -42,9 +42,9 @@ last_below n (k ∷ ls) l p q =
 module _ (n : ℕ) where
   emitted_below : (f : Form) (ls : List Literal) (k : ℕ) → literals_below n ls ≡ true → form_below n f ≡ true → after f k ≤ n → clauses_below n (emitted ls f k) ≡ true
   emitted_below (Plain true) ls k p q le = refl
-  emitted_below (Plain false) ls k p q le = and_both (literals_below n ls) true p refl
+  emitted_below (Plain false) ls k p q le = clause_below n ls p
   emitted_below (Is l) ls k p q le =
-      and_both (literals_below n (ls ++ l ∷ [])) true (last_below n ls l p q) refl
+      clause_below n (ls ++ l ∷ []) (last_below n ls l p q)
   emitted_below (Both f g) ls k p q le =
       append_below n (emitted ls f k) (emitted ls g (after f k)) (emitted_below f ls k p (and_left (form_below n f) (form_below n g) q) (omega (arith, le, after_more g (after f k)))) (emitted_below g ls (after f k) p (and_right (form_below n f) (form_below n g) q) le)
   emitted_below (Either l f) ls k p q le =

@@ -4,6 +4,7 @@ ghost use Rattle.bg_clause.specs.Emitted.{names, denies, after, emitted};
 ghost use Rattle.bg_clause.specs.Views.{form_in, clauses_in};
 ghost use Rattle.bg_clause.specs.Waiting.{waits_of, emitted_all, after_all, size_all};
 
+use crate::clause::add;
 use crate::form::Form;
 use bg_formula::Literal;
 use std::alloc::{AllocError, Global};
@@ -66,14 +67,6 @@ fn wait(
     Ok(())
 }
 
-/// One more clause.
-fn add(out: &mut Vec<Vec<Literal>>, literals: Vec<Literal>) -> Result<(), AllocError>
-    ensures { OnOk result (clauses_in out.new.items ≡ clauses_in out.old.items ++ literals.items ∷ []) }
-{
-    out.push(literals)?;
-    Ok(())
-}
-
 /// Two forms wait, of which both are to be true beside the literals.
 fn wait_both(
     alloc: Global,
@@ -123,11 +116,11 @@ fn emit_one(
     let Waiting { literals, form } = w;
     match form {
         Form::Plain(true) => Ok(()),
-        Form::Plain(false) => add(out, literals),
+        Form::Plain(false) => add(alloc, out, literals.as_slice()),
         Form::Is(l) => {
             let mut more = literals;
             more.push(l)?;
-            add(out, more)
+            add(alloc, out, more.as_slice())
         }
         Form::Both(f, g) => wait_both(
             alloc,

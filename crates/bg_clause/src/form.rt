@@ -47,7 +47,8 @@ pub fn is_true(atom: u32) -> Form
     Form::Is(Literal { atom, sign: true })
 }
 
-fn opposite(l: Literal) -> Literal
+/// The literal that holds where this one does not.
+pub fn opposite(l: Literal) -> Literal
     ensures { result ≡ opposite l }
 {
     Literal {

@@ -1,6 +1,7 @@
 //! Clauses that say that the entry block of an implementation is not well for a target, over truth values.
 #![tactic(auto)]
 
+mod clause;
 mod emit;
 mod fails;
 mod fits;
@@ -10,6 +11,8 @@ mod formed;
 pub mod laws;
 mod short;
 mod tell;
+#[cfg(test)]
+mod tests;
 mod ways;
 mod whole;
 mod worth;

@@ -1,0 +1,80 @@
+//! Clauses of a few blocks, by hand.
+use crate::clauses;
+use bg_ast::resolved::{Expr, Variable};
+use bg_base::{CandId, Pos};
+use bg_formula::Literal;
+use bg_incarnate::{Edge, PassiveBlock, PassiveCmd};
+use bg_places::Spot;
+use std::alloc::{AllocError, Global};
+use std::test::Fail;
+
+fn read(j: u32) -> Expr {
+    Expr::Read(Pos { line: 1, column: 1 }, Variable::Local(j))
+}
+
+fn block(
+    alloc: Global,
+    cmd: Option<PassiveCmd>,
+    ways: &[usize],
+) -> Result<PassiveBlock, AllocError> {
+    let mut cmds = Vec::new(alloc);
+    if let Some(k) = cmd {
+        cmds.push(k)?;
+    }
+    let mut next = Vec::new(alloc);
+    for to in ways {
+        next.push(Edge {
+            cmds: Vec::new(alloc),
+            to: *to,
+        })?;
+    }
+    Ok(PassiveBlock { cmds, next })
+}
+
+/// The first block leads to two blocks, of which the second claims incarnation 0 where candidate 0 is there,
+/// and the first leads there too, where incarnation 1 holds. The last block claims something else.
+fn blocks(alloc: Global) -> Result<Vec<PassiveBlock>, AllocError> {
+    let target = PassiveCmd::Claims(Spot::Assert(7), Some(CandId(0)), read(0));
+    let other = PassiveCmd::Claims(Spot::Assert(8), None, read(0));
+    let mut made = Vec::new(alloc);
+    made.push(block(alloc, None, &[0, 1])?)?;
+    made.push(block(alloc, Some(PassiveCmd::Supposes(None, read(1))), &[0, 1])?)?;
+    made.push(block(alloc, Some(target), &[0])?)?;
+    made.push(block(alloc, Some(other), &[])?)?;
+    Ok(made)
+}
+
+fn lit(atom: u32, sign: bool) -> Literal {
+    Literal { atom, sign }
+}
+
+#[test]
+fn clauses_of_four_blocks(rt: HostRuntime) -> Result<(), Fail> {
+    let alloc = rt.alloc();
+    let made = blocks(alloc)?;
+    let found = clauses(alloc, 2, 1, Spot::Assert(7), &made)?.ok_or("none")?;
+    // Atom 3 stands for the third block, atom 4 for the second; the last one has none.
+    let expected: [&[Literal]; 5] = [
+        &[lit(3, false), lit(2, true)],
+        &[lit(3, false), lit(0, false)],
+        &[lit(4, false), lit(1, true)],
+        &[lit(4, false), lit(3, true)],
+        &[lit(4, true), lit(3, true)],
+    ];
+    assert_eq!(rt; found.atoms.len(), 5);
+    assert_eq!(rt; found.candidates.as_slice(), [Some(2)].as_slice());
+    assert_eq!(rt; found.clauses.len(), 5);
+    for (i, c) in found.clauses.iter().enumerate() {
+        assert!(rt; i < 5);
+        assert_eq!(rt; c.as_slice(), expected[i]);
+    }
+    Ok(())
+}
+
+#[test]
+fn an_incarnation_that_is_not_there(rt: HostRuntime) -> Result<(), Fail> {
+    let alloc = rt.alloc();
+    let made = blocks(alloc)?;
+    assert!(rt; clauses(alloc, 1, 1, Spot::Assert(7), &made)?.is_none());
+    Ok(())
+}
