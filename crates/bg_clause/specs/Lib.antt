@@ -6,3 +6,4 @@ pub mod Emitted
 pub mod Whole
 pub mod Chains
 pub mod ChainForms
+pub mod Worth

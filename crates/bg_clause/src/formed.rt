@@ -104,14 +104,14 @@ fn one_more(
 
 /// A chain behind a form.
 #[tactic(auto, using(crate::proofs::ChainForms::chain_rules))]
-#[cycle(form_ex)]
+#[cycle(forming)]
 fn chain(alloc: Global, links: &[Link], first: Form) -> Result<Form, AllocError>
     ensures { IfOk result (λ x. form_in x ≡ chain_forms (form_in first) (links_of (map link_view links.now))) }
 {
     let mut waiting = Vec::new(alloc);
     let mut made = first;
     for l in links {
-        let g = formed(alloc, &l.operand)?;
+        let g = form_ex(alloc, &l.operand)?;
         made = one_more(alloc, &mut waiting, l.sign, made, g)?;
     }
     close(alloc, waiting, made)
@@ -119,27 +119,27 @@ fn chain(alloc: Global, links: &[Link], first: Form) -> Result<Form, AllocError>
 
 /// The form of an expression over truth values.
 #[tactic(auto, using(crate::proofs::ChainForms::chain_rules))]
-#[cycle(form_ex)]
-pub fn formed(alloc: Global, e: &Expr) -> Result<Form, AllocError>
+#[cycle(forming)]
+pub fn form_ex(alloc: Global, e: &Expr) -> Result<Form, AllocError>
     ensures { IfOk result (λ x. form_in x ≡ form_of (m.ex_of (ex_of e.now))) }
 {
     match e {
         Expr::Truth(_, b) => Ok(Form::Plain(*b)),
         Expr::Read(_, Variable::Local(j)) => Ok(is_true(*j)),
-        Expr::Parens(_, e) => formed(alloc, e),
+        Expr::Parens(_, e) => form_ex(alloc, e),
         Expr::Prefix(signs, e) => {
-            let f = formed(alloc, e)?;
+            let f = form_ex(alloc, e)?;
             signed(alloc, signs, f)
         }
         Expr::Postfix(e, brackets) => {
             if brackets.is_empty() {
-                formed(alloc, e)
+                form_ex(alloc, e)
             } else {
                 Ok(Form::Plain(false))
             }
         }
         Expr::Chain(e, links) => {
-            let f = formed(alloc, e)?;
+            let f = form_ex(alloc, e)?;
             chain(alloc, links, f)
         }
         Expr::Number(_, _) => Ok(Form::Plain(false)),

@@ -2,7 +2,7 @@ use Rattle.std.proofs.Common.{◌≡◌, map, drop}
 use Rattle.bg_ast.specs.Views.{links_of, link_view}
 use Rattle.bg_clause.specs.ChainForms.{chain_forms, folded}
 use Rattle.bg_clause.specs.Views.{form_in}
-use Rattle.bg_clause.proofs.formed.+form_ex.Given as goal
+use Rattle.bg_clause.proofs.formed.+forming.Given as goal
 
 abbrev pub invariant-chain-loop-l : goal.invariant-chain-loop-l
 invariant-chain-loop-l l =
