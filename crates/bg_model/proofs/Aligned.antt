@@ -1,11 +1,11 @@
 -- The choices by what the code has at hand are those along the walk.
-use Rattle.std.proofs.Common.{◌≡◌, ℕ, zero, suc, ◌+◌, Bool, true, false, List, [], ◌∷◌, ◌++◌, length, map, take, drop, Option, Some, None, refl, sym, ap, ◌∙◌, arith, length-append}
+use Rattle.std.proofs.Common.{◌≡◌, ℕ, zero, suc, Bool, List, [], ◌∷◌, ◌++◌, length, map, take, drop, refl, sym, ap, ◌∙◌, arith, length-append}
 use Rattle.std.specs.Prelude.{slice_get}
 use Rattle.bg_ast.specs.Syntax.{Exs, NoMore, More, Star, Test}
 use Rattle.bg_ast.specs.Execution.{Choice}
 use Rattle.bg_calls.specs.Core.{Demand, Saying, Cmd, Check, Suppose, Forget, Put, Perform, Finish}
 use Rattle.bg_flow.specs.Blocks.{Exit, Leap, Either, Block}
-use Rattle.bg_passive.specs.Passive.{PassiveCmd, Edge, PassiveBlock, Walked}
+use Rattle.bg_passive.specs.Passive.{PassiveCmd, PassiveBlock, Walked}
 use Rattle.bg_passive.specs.Incarnations.{Env, hold_next, after_vars, after_exs, each_ex, each_decl, claims_in, supposes_in, set_to, pass, pass_all, Arrival, edge_to, edges, passives, targets_of}
 use Rattle.bg_passive.specs.ReadBack.{exit_choices, choices_at, choices_to, follow_choices}
 use Rattle.bg_incarnate.specs.Even.{how_many}

@@ -1,8 +1,8 @@
 -- A walk through passive blocks that fails at the target gives choices up to the check that fails, by which a run fails there.
-use Rattle.std.proofs.Common.{◌≡◌, ℕ, zero, suc, Bool, true, false, List, [], ◌∷◌, ◌++◌, length, map, Option, Some, None, refl, sym, ap, ◌∙◌, subst, arith}
+use Rattle.std.proofs.Common.{◌≡◌, ℕ, zero, suc, Bool, true, false, List, [], ◌∷◌, ◌++◌, map, Some, refl, sym, ap, ◌∙◌, subst}
 use Rattle.std.specs.Prelude.{◌||◌, ◌&&◌, if◌then◌else◌, slice_get}
 use Rattle.bg_ast.specs.Values.{Val, Ty, truth_of}
-use Rattle.bg_ast.specs.Syntax.{Var, Global, Local, Ex, Prog, Proc, Impl, Decl}
+use Rattle.bg_ast.specs.Syntax.{Var, Global, Local, Prog, Proc, Impl, Decl}
 use Rattle.bg_sense.specs.Eval.{Scope, ev, evs, value_at}
 use Rattle.bg_ast.specs.Execution.{Interp, Choice, Spot, State}
 use Rattle.bg_sense.specs.Flow.{World, Failed, Flow, Next, and_then}
@@ -13,14 +13,14 @@ use Rattle.bg_sense.specs.Run.{context, start, induction_run}
 use Rattle.bg_sense.specs.Types.{are_of}
 use Rattle.bg_calls.specs.Core.{Saying, Plan, Cmd, Check, Suppose, Forget, Put, Perform, Finish, check_these, suppose_these, perform, act, act_all, frame_decls, routine_of}
 use Rattle.bg_flow.specs.Blocks.{Block, Table, at_table, enter, index, leave, table, blocks_of}
-use Rattle.bg_passive.specs.Passive.{PassiveCmd, Claims, Supposes, PassiveBlock, Walked, On, Stopped, Hit, is_absent, walk_cmds, walk_at, follow, walks}
+use Rattle.bg_passive.specs.Passive.{PassiveCmd, Walked, On, Stopped, Hit, is_absent, walk_cmds, walk_at, follow, walks}
 use Rattle.bg_passive.specs.Incarnations.{Env, rename, hold_next, after_vars, after_exs, each_ex, each_decl, claims_in, supposes_in, set_to, pass_call, pass, pass_all, Arrival, edges, passives, FitsCmd, FitsCmds, FitsBlocks, MakesPassive, ValuesFrom, first_state, entry_env, ty_of, incarnations, passive_scope}
 use Rattle.bg_passive.specs.ReadBack.{cmd_choices, choices_at, follow_choices}
-use Rattle.bg_clause.specs.Fitting.{fits_ex, fits_candidate, fits_cmds, fit_edges, fit_blocks}
+use Rattle.bg_clause.specs.Fitting.{fits_cmds, fit_edges, fit_blocks}
 use Rattle.bg_clause.specs.Whole.{truth_values}
 use Rattle.bg_calls.proofs.CoreRuns.{then_assoc}
 use Rattle.bg_flow.proofs.BlockRuns.{blocks_same}
-use Rattle.bg_sense.proofs.Bools.{and_left, and_right, both}
+use Rattle.bg_sense.proofs.Bools.{and_left, and_right}
 use Rattle.bg_passive.proofs.Renaming.{values, seen, same_scopes, Met, met_scope, MetBy}
 use Rattle.bg_passive.proofs.Walks.{Hits, hits_map, walk_hits, split_walk}
 use Rattle.bg_passive.proofs.PassiveBackward.{with_choices, checks_back, sets_off, cmd_back, exit_back}

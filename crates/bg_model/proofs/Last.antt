@@ -1,5 +1,5 @@
 -- The last block first.
-use Rattle.std.proofs.Common.{◌≡◌, List, [], ◌∷◌, ◌++◌, map, refl, sym, ap, ◌∙◌}
+use Rattle.std.proofs.Common.{◌≡◌, List, [], ◌∷◌, ◌++◌, map, refl, ap, ◌∙◌}
 use Rattle.bg_passive.specs.Passive.{PassiveCmd, PassiveBlock, Walked}
 use Rattle.bg_model.specs.declared.turn.Turn.{Turn}
 use Rattle.bg_model.specs.Turns.{turn_at, turns_onto}

@@ -5,3 +5,6 @@ pub mod Aligned
 pub mod Last
 pub mod Steps
 pub mod Sharing
+pub mod Going
+pub mod Visits
+pub mod Found

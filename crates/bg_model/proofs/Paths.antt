@@ -10,7 +10,7 @@ use Rattle.bg_sense.proofs.Bools.{and_left, and_right}
 use Rattle.bg_wp.proofs.Equations.{cmds_told}
 use Rattle.bg_model.specs.declared.turn.Turn.{Turn}
 use Rattle.bg_model.specs.declared.turn.Turn.TheVariants.{Well, Ends, Leads}
-use Rattle.bg_model.specs.Turns.{fails, fails_by, edge_fails, lowest, turn_by, turn_at, turns, turns_onto}
+use Rattle.bg_model.specs.Turns.{fails, fails_by, edge_fails, lowest, turn_by, turn_at, turns}
 
 -- the walk that turns lead along, from the block that is so far ahead
 abbrev pub to_of : Option Edge → ℕ

@@ -7,7 +7,7 @@ use Rattle.bg_ast.specs.Values.{Truth}
 use Rattle.bg_ast.specs.Syntax as s
 use Rattle.bg_ast.specs.Resolved as r
 use Rattle.bg_ast.specs.Meaning as m
-use Rattle.bg_ast.specs.Views.{call_of, proc_of, declared_of, exs_in, ex_of, placed_of, var_of, target_of, clause_of}
+use Rattle.bg_ast.specs.Views.{call_of, proc_of, declared_of, exs_in, placed_of, var_of, target_of}
 use Rattle.bg_ast.specs.Execution as e
 use Rattle.bg_ast.specs.Execution.{AtCall}
 use Rattle.bg_ast.specs.declared.resolved.Clause.{Clause}
@@ -17,8 +17,8 @@ use Rattle.bg_ast.specs.declared.resolved.Call.{Call}
 use Rattle.bg_ast.specs.declared.resolved.Procedure.{Procedure}
 use Rattle.bg_ast.specs.declared.resolved.Variable.{Variable}
 use Rattle.bg_calls.specs.Core.{Plan, Forget, Put, Perform, demands, sayings, each_one}
-use Rattle.bg_blocks.specs.Views.{clauses_in, target_variable}
-use Rattle.bg_passive.specs.Incarnations.{Env, Passed, hold_next, hold_all, after_vars, after_exs, each_ex, claims_in, supposes_in, set_to, pass}
+use Rattle.bg_blocks.specs.Views.{clauses_in}
+use Rattle.bg_passive.specs.Incarnations.{Env, Passed, hold_next, after_vars, after_exs, each_ex, claims_in, supposes_in, set_to, pass}
 use Rattle.bg_sense.specs.Variables.{count_from}
 use Rattle.bg_incarnate.specs.Even.{how_many}
 use Rattle.bg_incarnate.specs.Views.{plan_in}

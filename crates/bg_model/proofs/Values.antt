@@ -1,22 +1,21 @@
 -- Truth values as the values of incarnations, and walks over them.
-use Rattle.std.proofs.Common.{◌≡◌, ℕ, zero, suc, Bool, true, false, List, [], ◌∷◌, ◌++◌, length, map, Some, Option, refl, sym, ap, ◌∙◌, arith}
-use Rattle.std.specs.Prelude.{◌&&◌, ◌||◌, if◌then◌else◌, slice_get}
-use Rattle.bg_ast.specs.Values.{Val, Ty, Truth, is_of, truth_of}
-use Rattle.bg_ast.specs.Syntax.{Var, Ex, Decl}
-use Rattle.bg_ast.specs.Execution.{Spot, Choice, Chosen}
-use Rattle.bg_sense.specs.Eval.{Scope, ev, value_at}
+use Rattle.std.proofs.Common.{◌≡◌, ℕ, zero, suc, Bool, true, List, [], ◌∷◌, ◌++◌, length, map, Some, refl, ap, ◌∙◌}
+use Rattle.std.specs.Prelude.{◌&&◌, slice_get}
+use Rattle.bg_ast.specs.Values.{Ty, Truth, is_of}
+use Rattle.bg_ast.specs.Syntax.{Var, Decl}
+use Rattle.bg_ast.specs.Execution.{Spot, Chosen}
+use Rattle.bg_sense.specs.Eval.{Scope, value_at}
 use Rattle.bg_sense.specs.Types.{are_of, types_of}
 use Rattle.bg_calls.specs.Core.{Cmd, Check, Suppose, Forget, Put, Perform, Finish}
-use Rattle.bg_passive.specs.Passive.{PassiveCmd, Claims, Supposes, spot_eq, is_absent, Walked, On, Stopped, Hit, walk_cmds}
+use Rattle.bg_passive.specs.Passive.{PassiveCmd, Claims, Supposes, walk_cmds}
 use Rattle.bg_passive.specs.Incarnations.{after_vars, after_exs, TypesFrom, FitsCmd}
 use Rattle.bg_passive.specs.ReadBack.{vars_choices, decls_choices, cmd_choices}
-use Rattle.bg_clause.specs.Forms.{form_true, form_of}
 use Rattle.bg_clause.specs.Fitting.{fits_ex, fits_candidate, fits_cmds}
 use Rattle.bg_clause.specs.Whole.{truth_values}
 use Rattle.bg_sense.proofs.Bools.{and_left, and_right, both}
 use Rattle.bg_clause.proofs.Meaning.{form_means}
 use Rattle.bg_model.specs.Fronts.{chosen_from, cmd_truths}
-use Rattle.bg_model.specs.Over.{is_met, walk_over}
+use Rattle.bg_model.specs.Over.{walk_over}
 
 -- a typed value that is there is the truth value
 pub there : (ts : List Ty) (truth : ℕ → Bool) (many j : ℕ) (t : Ty) → are_of ts (truth_values truth many) ≡ true → slice_get ts j ≡ Some t → value_at (truth_values truth many) j ≡ Truth (truth j)

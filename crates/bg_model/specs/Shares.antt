@@ -1,5 +1,5 @@
 -- What a command has of its block's passive commands and of the incarnations.
-use Rattle.std.specs.Prelude.{◌≡◌, ℕ, ◌+◌, Bool, List}
+use Rattle.std.specs.Prelude.{◌≡◌, ℕ, ◌+◌, Bool}
 use Rattle.bg_calls.specs.Core.{Cmd}
 use Rattle.bg_model.specs.declared.share.Share.{Share}
 use Rattle.bg_model.specs.Fronts.{chosen_from, cmd_truths}

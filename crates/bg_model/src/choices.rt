@@ -1,5 +1,5 @@
 //! The choices along a walk that fails.
-ghost use Rattle.std.specs.Prelude.{◌≡◌, ◌+◌, ◌∷◌, ℕ, List, map, drop, IfOk};
+ghost use Rattle.std.specs.Prelude.{◌≡◌, ◌+◌, ◌∷◌, ◌++◌, ℕ, List, map, drop, IfOk};
 ghost use Rattle.bg_ast.specs.Execution as e;
 ghost use Rattle.bg_ast.specs.Resolved.{Program};
 ghost use Rattle.bg_flow.specs.Blocks as f;
@@ -14,11 +14,25 @@ use crate::exit::exit;
 use crate::front::Front;
 use crate::trial::Trial;
 use crate::turn::Turn;
-use bg_blocks::Block;
+use bg_blocks::{Block, Exit};
 use bg_incarnate::{Passive, PassiveBlock};
 use bg_replay::Choice;
 use std::alloc::AllocError;
 use std::collections::VecDeque;
+
+/// Adds the choice at the end of a block by its turn, and gives the block behind it that the walk goes to; none where it ends here.
+fn turned(made: &mut Vec<Choice>, turn: Turn, x: &Exit<'_>) -> Result<Option<usize>, AllocError>
+    ensures { IfOk result (λ to. (behind : ℕ → List e.Choice) → map choice_of made.old.items ++ turn_choices turn (exit_of x.now) behind ≡ map choice_of made.new.items ++ choices_on to behind) }
+{
+    match turn {
+        Turn::Well => Ok(None),
+        Turn::Ends => Ok(None),
+        Turn::Leads(j) => {
+            let to = exit(made, x, j)?;
+            Ok(to)
+        }
+    }
+}
 
 /// Adds the choices of a block, and gives the block behind it that the walk goes to; none where it ends here.
 fn block<'a>(
@@ -36,11 +50,8 @@ fn block<'a>(
     if !commands(trial, front, &b.cmds)? {
         return Ok(None);
     }
-    match turn {
-        Turn::Well => Ok(None),
-        Turn::Ends => Ok(None),
-        Turn::Leads(j) => exit(&mut front.made, &b.exit, j),
-    }
+    let to = turned(&mut front.made, turn, &b.exit)?;
+    Ok(to)
 }
 
 /// Adds the choices of the block of this number, as `block` does; none where its passive block, first incarnation or turn isn't there.
@@ -63,7 +74,8 @@ fn visit<'a>(
     let Some(turn) = turns.get(i) else {
         return Ok(None);
     };
-    block(trial, front, b, q, *first, *turn)
+    let to = block(trial, front, b, q, *first, *turn)?;
+    Ok(to)
 }
 
 /// The choices along the walk that the turns lead.
