@@ -1,0 +1,10 @@
+pub mod Values
+pub mod Fronts
+pub mod Paths
+pub mod Aligned
+pub mod Last
+pub mod Steps
+pub mod Sharing
+pub mod Going
+pub mod Visits
+pub mod Found

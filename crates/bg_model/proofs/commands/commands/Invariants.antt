@@ -1,0 +1,10 @@
+use Rattle.std.proofs.Common.{◌≡◌, List, map, drop}
+use Rattle.bg_ast.specs.Execution as e
+use Rattle.bg_ast.specs.Resolved.{Program}
+use Rattle.bg_blocks.specs.Views.{cmd_of}
+use Rattle.bg_model.specs.Views.{made_by, next_by}
+use Rattle.bg_model.proofs.commands.commands.Given as goal
+
+abbrev pub invariant-loop-k : goal.invariant-loop-k
+invariant-loop-k l =
+    (p : Program) (rest : List e.Choice) → made_by l.front (next_by l.trial (map (cmd_of p) (drop l.k-index l.ks)) l.front rest) ≡ made_by l.fn.front (next_by l.trial (map (cmd_of p) l.ks) l.fn.front rest)

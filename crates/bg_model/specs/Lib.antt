@@ -1,0 +1,6 @@
+pub mod Fronts
+pub mod Turns
+pub mod Over
+pub mod Views
+pub mod Shares
+pub mod Counterexamples

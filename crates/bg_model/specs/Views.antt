@@ -1,0 +1,42 @@
+-- How the code's walks are read.
+use Rattle.std.specs.Prelude.{ℕ, Bool, true, false, List, [], ◌++◌, map}
+use Rattle.bg_ast.specs.Execution.{Choice}
+use Rattle.bg_places.specs.Views.{spot_of}
+use Rattle.bg_calls.specs.Core.{Cmd}
+use Rattle.bg_passive.specs.Passive.{PassiveCmd, Walked, On, Stopped, Hit}
+use Rattle.bg_incarnate.specs.Views.{cmds_of}
+use Rattle.bg_clause.specs.Worth.{bools_at}
+use Rattle.bg_replay.specs.Moments.{choice_of}
+use Rattle.bg_replay.specs.Views.{set_of}
+use Rattle.bg_model.specs.declared.front.Front.{Front}
+use Rattle.bg_model.specs.declared.trial.Trial.{Trial}
+use Rattle.bg_model.specs.declared.walk.Went.{Went}
+use Rattle.bg_model.specs.declared.walk.Went.TheVariants as went
+use Rattle.bg_model.specs.Over.{walk_over}
+use Rattle.bg_model.specs.Turns.{front_of}
+
+abbrev pub walked_of : Went → Walked
+walked_of went.On = On
+walked_of went.Stopped = Stopped
+walked_of went.Hit = Hit
+
+-- the truth values of the incarnations
+abbrev pub truth_in : Trial → ℕ → Bool
+truth_in t = bools_at t.truths.now
+
+-- how a walk goes
+abbrev pub walk_in : Trial → List PassiveCmd → Walked
+walk_in t = walk_over (set_of t.set.now) (spot_of t.target) (bools_at t.truths.now)
+
+-- what is chosen behind commands, where the walk goes on there
+abbrev pub if_goes : Bool → List Choice → List Choice
+if_goes true rest = rest
+if_goes false rest = []
+
+-- the choices so far, and these
+abbrev pub made_by : Front → List Choice → List Choice
+made_by f rest = map choice_of f.made.items ++ rest
+
+-- the choices of these commands, which come next
+abbrev pub next_by : Trial → List Cmd → Front → List Choice → List Choice
+next_by t ks f rest = front_of (walk_in t) (truth_in t) ks (cmds_of f.left.now) f.next rest

@@ -1,0 +1,107 @@
+//! The choices along a walk that fails.
+ghost use Rattle.std.specs.Prelude.{◌≡◌, ◌+◌, ◌∷◌, ◌++◌, ℕ, List, map, drop, IfOk};
+ghost use Rattle.bg_ast.specs.Execution as e;
+ghost use Rattle.bg_ast.specs.Resolved.{Program};
+ghost use Rattle.bg_flow.specs.Blocks as f;
+ghost use Rattle.bg_blocks.specs.Views.{block_of, cmd_of, exit_of};
+ghost use Rattle.bg_incarnate.specs.Views.{cmds_of, passive_block_of};
+ghost use Rattle.bg_replay.specs.Moments.{choice_of};
+ghost use Rattle.bg_model.specs.Turns.{front_of, turn_choices, choices_on, taken};
+ghost use Rattle.bg_model.specs.Views.{walk_in, truth_in, made_by};
+
+use crate::commands::commands;
+use crate::exit::exit;
+use crate::front::Front;
+use crate::trial::Trial;
+use crate::turn::Turn;
+use bg_blocks::{Block, Exit};
+use bg_incarnate::{Passive, PassiveBlock};
+use bg_replay::Choice;
+use std::alloc::AllocError;
+use std::collections::VecDeque;
+
+/// Adds the choice at the end of a block by its turn, and gives the block behind it that the walk goes to; none where it ends here.
+fn turned(made: &mut Vec<Choice>, turn: Turn, x: &Exit<'_>) -> Result<Option<usize>, AllocError>
+    ensures { IfOk result (λ to. (behind : ℕ → List e.Choice) → map choice_of made.old.items ++ turn_choices turn (exit_of x.now) behind ≡ map choice_of made.new.items ++ choices_on to behind) }
+{
+    match turn {
+        Turn::Well => Ok(None),
+        Turn::Ends => Ok(None),
+        Turn::Leads(j) => {
+            let to = exit(made, x, j)?;
+            Ok(to)
+        }
+    }
+}
+
+/// Adds the choices of a block, and gives the block behind it that the walk goes to; none where it ends here.
+fn block<'a>(
+    trial: Trial<'_>,
+    front: &mut Front<'a>,
+    b: &Block<'_>,
+    q: &'a PassiveBlock,
+    first: u32,
+    turn: Turn,
+) -> Result<Option<usize>, AllocError>
+    ensures { IfOk result (λ to. (p : Program) (behind : ℕ → List e.Choice) → made_by front.old (front_of (walk_in trial.entry) (truth_in trial.entry) (map (cmd_of p) b.now.cmds.items) (cmds_of q.now.cmds.items) first (turn_choices turn (exit_of b.now.exit) behind)) ≡ made_by front.new (choices_on to behind)) }
+{
+    front.left = &q.cmds;
+    front.next = first as usize;
+    if !commands(trial, front, &b.cmds)? {
+        return Ok(None);
+    }
+    let to = turned(&mut front.made, turn, &b.exit)?;
+    Ok(to)
+}
+
+/// Adds the choices of the block of this number, as `block` does; none where its passive block, first incarnation or turn isn't there.
+fn visit<'a>(
+    trial: Trial<'_>,
+    front: &mut Front<'a>,
+    b: &Block<'_>,
+    passive: &'a Passive,
+    turns: &VecDeque<Turn>,
+    i: usize,
+) -> Result<Option<usize>, AllocError>
+    ensures { IfOk result (λ to. (p : Program) (bs : List f.Block) → made_by front.old (taken (walk_in trial.entry) (truth_in trial.entry) (block_of p b.now ∷ bs) (map passive_block_of (drop i passive.now.blocks.items)) (drop i passive.now.firsts.items) (drop i turns.now.items) 0) ≡ made_by front.new (choices_on to (taken (walk_in trial.entry) (truth_in trial.entry) bs (map passive_block_of (drop (i + 1) passive.now.blocks.items)) (drop (i + 1) passive.now.firsts.items) (drop (i + 1) turns.now.items)))) }
+{
+    let Some(q) = passive.blocks.get(i) else {
+        return Ok(None);
+    };
+    let Some(first) = passive.firsts.get(i) else {
+        return Ok(None);
+    };
+    let Some(turn) = turns.get(i) else {
+        return Ok(None);
+    };
+    let to = block(trial, front, b, q, *first, *turn)?;
+    Ok(to)
+}
+
+/// The choices along the walk that the turns lead.
+pub fn choices(
+    trial: Trial<'_>,
+    blocks: &[Block<'_>],
+    passive: &Passive,
+    turns: &VecDeque<Turn>,
+) -> Result<Vec<Choice>, AllocError>
+    ensures { IfOk result (λ made. (p : Program) → map choice_of made.items ≡ taken (walk_in trial.entry) (truth_in trial.entry) (map (block_of p) blocks.now) (map passive_block_of passive.now.blocks.items) passive.now.firsts.items turns.now.items 0) }
+{
+    let mut front = Front {
+        made: Vec::new(trial.alloc),
+        left: &[],
+        next: 0,
+    };
+    let mut skip = 0;
+    for (i, b) in blocks.iter().enumerate() {
+        if skip > 0 {
+            skip -= 1;
+        } else {
+            match visit(trial, &mut front, b, passive, turns, i)? {
+                None => return Ok(front.made),
+                Some(k) => skip = k,
+            }
+        }
+    }
+    Ok(front.made)
+}

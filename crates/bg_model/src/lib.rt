@@ -1,0 +1,19 @@
+//! From truth values under which the equations of a check deny the entry block to a run that fails there.
+#![tactic(auto)]
+
+mod choices;
+mod choose;
+mod commands;
+mod exit;
+mod failure;
+mod find;
+mod front;
+mod share;
+mod spot;
+mod trial;
+mod turn;
+mod turns;
+mod walk;
+
+pub use failure::Counterexample;
+pub use find::counterexample;
