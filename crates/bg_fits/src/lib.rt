@@ -1,9 +1,2 @@
-//! Whether a program is one of straight lines over truth values.
+//! Whether a program is one over truth values.
 #![tactic(auto)]
-
-mod body;
-mod plain;
-mod program;
-mod types;
-
-pub use program::is_straight;
