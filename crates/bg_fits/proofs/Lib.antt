@@ -1,0 +1,4 @@
+pub mod Chains
+pub mod Empties
+pub mod Statements
+pub mod Bools
