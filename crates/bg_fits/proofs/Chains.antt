@@ -1,6 +1,7 @@
 -- Chains, rows of prefix signs and brackets, as the code goes through them.
 use Rattle.std.proofs.Common.{◌≡◌, Bool, true, false, List, [], ◌∷◌, refl, sym, ap, ◌∙◌, map, Option, Some, None, Vec, Box, Global}
 use Rattle.std.specs.Prelude.{◌&&◌}
+use Rattle.std.proofs.Math.Bool.{and_assoc}
 use Rattle.bg_base.specs.declared.pos.Pos.{Pos}
 use Rattle.bg_text.specs.declared.expr.InfixSign.{InfixSign}
 use Rattle.bg_text.specs.declared.expr.InfixSign.TheVariants as sign
@@ -17,7 +18,8 @@ use Rattle.bg_ast.specs.declared.resolved.Expr.TheVariants as expr
 use Rattle.bg_ast.specs.declared.resolved.Link.{Link}
 use Rattle.bg_ast.specs.declared.resolved.Bracket.{Bracket}
 use Rattle.bg_ast.proofs.Lists.{ex_of-Chain, ex_of-Postfix}
-use Rattle.bg_fits.specs.Plain.{is_none, is_not, are_nots, is_plain, are_plain_links}
+use Rattle.bg_fits.specs.Truths.{is_empty, is_plain}
+use Rattle.bg_fits.specs.Written.{is_not, are_nots, are_plain_links}
 
 and_true : (a : Bool) → (a && true) ≡ a
 and_true true = refl
@@ -26,10 +28,6 @@ and_true false = refl
 and_false : (a : Bool) → false ≡ (a && false)
 and_false true = refl
 and_false false = refl
-
-and_three : (a b c : Bool) → ((a && b) && c) ≡ (a && (b && c))
-and_three true b c = refl
-and_three false b c = refl
 
 and_swap : (a b c : Bool) → ((b && a) && c) ≡ (a && (b && c))
 and_swap true true c = refl
@@ -44,7 +42,7 @@ Behind ls = (a : s.Ex) → is_plain (chained a (links_of ls)) ≡ (is_plain a &&
 -- a sign that groups to the left and takes truth values
 left : (o : s.Op) (a : s.Ex) (e : r.Ex) (ls : List (Pos × InfixSign × r.Ex)) → Behind ls → is_plain (s.Binary o a (ex_of e)) ≡ (is_plain a && is_plain (ex_of e)) → is_plain (chained (s.Binary o a (ex_of e)) (links_of ls)) ≡ (is_plain a && (is_plain (ex_of e) && are_plain_links ls))
 left o a e ls h k =
-    h (s.Binary o a (ex_of e)) ∙ ap (λ b. b && are_plain_links ls) k ∙ and_three (is_plain a) (is_plain (ex_of e)) (are_plain_links ls)
+    h (s.Binary o a (ex_of e)) ∙ ap (λ b. b && are_plain_links ls) k ∙ and_assoc (is_plain a) (is_plain (ex_of e)) (are_plain_links ls)
 
 -- a sign that takes numbers
 never : (o : s.Op) (a : s.Ex) (e : r.Ex) (ls : List (Pos × InfixSign × r.Ex)) → Behind ls → is_plain (s.Binary o a (ex_of e)) ≡ false → is_plain (chained (s.Binary o a (ex_of e)) (links_of ls)) ≡ (is_plain a && false)
@@ -78,7 +76,7 @@ before prefix.Minus e b h = refl
 nots_are : (xs : List TreePrefix) (e : s.Ex) → is_plain (signed xs e) ≡ (are_nots xs && is_plain e)
 nots_are [] e = refl
 nots_are (x ∷ xs) e =
-    before x.sign (signed xs e) (are_nots xs && is_plain e) (nots_are xs e) ∙ sym (and_three (is_not x.sign) (are_nots xs) (is_plain e))
+    before x.sign (signed xs e) (are_nots xs && is_plain e) (nots_are xs e) ∙ sym (and_assoc (is_not x.sign) (are_nots xs) (is_plain e))
 
 behind_false : (bs : r.Brackets) (m : s.Ex) → is_plain m ≡ false → is_plain (behind m bs) ≡ false
 behind_false r.NoBracket m h = h
@@ -89,7 +87,7 @@ parts_false : (m : s.Ex) (p : Pos) (es : r.Exs) (o : Option r.Ex) (bs : r.Bracke
 parts_false m p es None bs = behind_false bs (s.Select m (exs_of es)) refl
 parts_false m p es (Some e) bs = behind_false bs (s.Update m (exs_of es) (ex_of e)) refl
 
-postfix_is : (m : s.Ex) (bs : List Bracket) → is_plain (behind m (brackets_of (map bracket_view bs))) ≡ (is_none bs && is_plain m)
+postfix_is : (m : s.Ex) (bs : List Bracket) → is_plain (behind m (brackets_of (map bracket_view bs))) ≡ (is_empty bs && is_plain m)
 postfix_is m [] = refl
 postfix_is m (b ∷ bs) = let v = bracket_view b in parts_false m v.0 v.1 v.2 (brackets_of (map bracket_view bs))
 
@@ -100,5 +98,5 @@ chain_expr e ls =
 pub prefix_expr : (signs : Vec TreePrefix Global) (e : Box Expr Global) → is_plain (ex_of (view.ex_of (expr.Prefix signs e))) ≡ (are_nots signs.items && is_plain (ex_of (view.ex_of e.value)))
 prefix_expr signs e = nots_are signs.items (ex_of (view.ex_of e.value))
 
-pub postfix_expr : (e : Box Expr Global) (bs : Vec Bracket Global) → is_plain (ex_of (view.ex_of (expr.Postfix e bs))) ≡ (is_none bs.items && is_plain (ex_of (view.ex_of e.value)))
+pub postfix_expr : (e : Box Expr Global) (bs : Vec Bracket Global) → is_plain (ex_of (view.ex_of (expr.Postfix e bs))) ≡ (is_empty bs.items && is_plain (ex_of (view.ex_of e.value)))
 postfix_expr e bs = ap (λ x. is_plain (ex_of x)) (ex_of-Postfix e bs) ∙ postfix_is (ex_of (view.ex_of e.value)) bs.items

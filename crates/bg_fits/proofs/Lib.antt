@@ -1,5 +1,4 @@
 pub mod Chains
-pub mod Decls
-pub mod Expressions
+pub mod Empties
 pub mod Statements
-pub mod Programs
+pub mod Bools

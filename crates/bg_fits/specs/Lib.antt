@@ -1,2 +1,2 @@
-pub mod Plain
-pub mod Straight
+pub mod Truths
+pub mod Written

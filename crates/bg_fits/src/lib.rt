@@ -1,9 +1,10 @@
-//! Whether a program is one of straight lines over truth values.
+//! Whether a program is one over truth values.
 #![tactic(auto)]
 
 mod body;
+mod clauses;
 mod plain;
 mod program;
 mod types;
 
-pub use program::is_straight;
+pub use program::is_over_truths;

@@ -1,16 +1,17 @@
 //! Expressions of truth values.
 ghost use Rattle.std.specs.Prelude.{◌≡◌, ◌&&◌, map};
-ghost use Rattle.bg_ast.specs.Meaning.{ex_of};
+ghost use Rattle.bg_ast.specs.Meaning.{ex_of, exs_of};
 ghost use Rattle.bg_ast.specs.Views as view;
-ghost use Rattle.bg_ast.specs.Views.{link_view};
-ghost use Rattle.bg_fits.specs.Plain.{is_none, is_truth_sign, is_not, are_nots, is_plain, are_plain_links};
+ghost use Rattle.bg_ast.specs.Views.{link_view, exs_in};
+ghost use Rattle.bg_fits.specs.Truths.{is_empty, is_plain, are_plain};
+ghost use Rattle.bg_fits.specs.Written.{is_truth_sign, is_not, are_nots, are_plain_links};
 
 use bg_ast::resolved::{Expr, Link};
 use bg_text::{InfixSign, PrefixSign, TreePrefix};
 
 /// Whether there is nothing.
-pub fn is_none<T>(xs: &[T]) -> bool
-    ensures { result ≡ is_none xs.now }
+pub fn is_empty<T>(xs: &[T]) -> bool
+    ensures { result ≡ is_empty xs.now }
 {
     xs.is_empty()
 }
@@ -57,13 +58,14 @@ fn are_nots(signs: &[TreePrefix]) -> bool
     true
 }
 
-fn both(a: bool, b: bool) -> bool
+/// Whether both hold.
+pub fn both(a: bool, b: bool) -> bool
     ensures { result ≡ (a && b) }
 {
     a && b
 }
 
-/// Whether an expression is plain: truth values, variables, and operators on truth values.
+/// Whether an expression is plain: truth values, variables, `old`, and operators on truth values.
 #[cycle(is_plain)]
 #[tactic(auto, using(crate::proofs::Chains::prefix_expr))]
 pub fn is_plain(e: &Expr) -> bool
@@ -72,20 +74,20 @@ pub fn is_plain(e: &Expr) -> bool
     match e {
         Expr::Truth(_, _) => true,
         Expr::Read(_, _) => true,
+        Expr::Old(_, e) => is_plain(e),
         Expr::Parens(_, e) => is_plain(e),
         Expr::Prefix(signs, e) => both(are_nots(signs), is_plain(e)),
-        Expr::Chain(first, links) => both(is_plain(first), are_plain(links)),
-        Expr::Postfix(e, brackets) => both(is_none(brackets), is_plain(e)),
+        Expr::Chain(first, links) => both(is_plain(first), are_plain_links(links)),
+        Expr::Postfix(e, brackets) => both(is_empty(brackets), is_plain(e)),
         Expr::Number(_, _) => false,
         Expr::Constant(_, _) => false,
         Expr::Apply(_, _, _) => false,
-        Expr::Old(_, _) => false,
     }
 }
 
 /// Whether each operand of a chain is plain, and each sign takes truth values.
 #[cycle(is_plain)]
-fn are_plain(links: &[Link]) -> bool
+fn are_plain_links(links: &[Link]) -> bool
     ensures { result ≡ are_plain_links (map link_view links.now) }
 {
     for link in links {
@@ -93,6 +95,18 @@ fn are_plain(links: &[Link]) -> bool
             return false;
         }
         if !is_plain(&link.operand) {
+            return false;
+        }
+    }
+    true
+}
+
+/// Whether each of a list is plain.
+pub fn are_plain(es: &[Expr]) -> bool
+    ensures { result ≡ are_plain (exs_of (exs_in es.now)) }
+{
+    for e in es {
+        if !is_plain(e) {
             return false;
         }
     }

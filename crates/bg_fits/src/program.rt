@@ -1,70 +1,70 @@
-//! Programs of straight lines.
-ghost use Rattle.std.specs.Prelude.{◌≡◌, ◌↔◌, map, IsTrue};
-ghost use Rattle.bg_ast.specs.Views.{proc_of, impl_of, program_of};
-ghost use Rattle.bg_judge.specs.Straight.{IsStraight};
-ghost use Rattle.bg_fits.specs.Straight.{is_straight_procedure, are_straight_procedures, is_straight_implementation, are_straight_implementations, is_bare, is_straight};
+//! Programs over truth values.
+ghost use Rattle.std.specs.Prelude.{◌≡◌, ◌&&◌, ◌==◌, map};
+ghost use Rattle.bg_ast.specs.Meaning as meaning;
+ghost use Rattle.bg_ast.specs.Meaning.{named_of, meaning_of};
+ghost use Rattle.bg_ast.specs.Views.{type_name_of, proc_of, impl_of, program_of};
+ghost use Rattle.bg_fits.specs.Truths.{is_empty, is_truth_proc, are_truth_procs, is_truth_impl, are_truth_impls, is_over_truths};
 
-use crate::body::is_straight_body;
-use crate::plain::is_none;
-use crate::types::are_bools;
-use bg_ast::resolved::{Implementation, Procedure, Resolved};
+use crate::body::is_plain_body;
+use crate::clauses::are_plain_clauses;
+use crate::plain::is_empty;
+use crate::types::are_truths;
+use bg_ast::resolved::{Implementation, Procedure, Resolved, TypeName};
 
-/// Whether there are procedures alone.
-fn is_bare(program: &Resolved) -> bool
-    ensures { result ≡ is_bare (program_of program.now) }
+/// Whether a procedure's variables and clauses are over truth values, where these types are declared.
+fn is_truth_procedure(types: &[TypeName], q: &Procedure) -> bool
+    ensures { result ≡ is_truth_proc (meaning.proc_of (named_of (map type_name_of types.now)) (proc_of q.now)) }
 {
-    is_none(&program.globals)
-        && (is_none(&program.constants)
-            && (is_none(&program.functions) && is_none(&program.axioms)))
+    are_truths(types, &q.params)
+        && (are_truths(types, &q.results)
+            && (are_plain_clauses(&q.requires_) && are_plain_clauses(&q.ensures_)))
 }
 
-fn is_straight_procedure(q: &Procedure) -> bool
-    ensures { result ≡ is_straight_procedure (proc_of q.now) }
-{
-    are_bools(&q.params)
-        && (are_bools(&q.results) && (is_none(&q.requires_) && is_none(&q.ensures_)))
-}
-
-fn are_straight_procedures(procedures: &[Procedure]) -> bool
-    ensures { result ≡ are_straight_procedures (map proc_of procedures.now) }
+fn are_truth_procedures(types: &[TypeName], procedures: &[Procedure]) -> bool
+    ensures { result ≡ are_truth_procs (map (meaning.proc_of (named_of (map type_name_of types.now))) (map proc_of procedures.now)) }
 {
     for q in procedures {
-        if !is_straight_procedure(q) {
+        if !is_truth_procedure(types, q) {
             return false;
         }
     }
     true
 }
 
-fn is_straight_implementation(m: &Implementation) -> bool
-    ensures { result ≡ is_straight_implementation (impl_of m.now) }
+/// Whether an implementation's locals and body are over truth values.
+fn is_truth_implementation(types: &[TypeName], m: &Implementation) -> bool
+    ensures { result ≡ is_truth_impl (meaning.impl_of (named_of (map type_name_of types.now)) (impl_of m.now)) }
 {
-    are_bools(&m.locals) && is_straight_body(&m.body)
+    are_truths(types, &m.locals) && is_plain_body(&m.body)
 }
 
-fn are_straight_implementations(implementations: &[Implementation]) -> bool
-    ensures { result ≡ are_straight_implementations (map impl_of implementations.now) }
+fn are_truth_implementations(types: &[TypeName], implementations: &[Implementation]) -> bool
+    ensures { result ≡ are_truth_impls (map (meaning.impl_of (named_of (map type_name_of types.now))) (map impl_of implementations.now)) }
 {
     for m in implementations {
-        if !is_straight_implementation(m) {
+        if !is_truth_implementation(types, m) {
             return false;
         }
     }
     true
 }
 
-/// The test of all parts.
-fn passes(program: &Resolved) -> bool
-    ensures { result ≡ is_straight (program_of program.now) }
+/// Whether there are neither constants, functions and axioms, nor candidates.
+#[tactic(auto, using(crate::proofs::Empties::none_forms))]
+fn is_bare(program: &Resolved) -> bool
+    ensures { let p = meaning_of (program_of program.now) in result ≡ (is_empty p.constants && (is_empty p.functions && (is_empty p.axioms && p.candidates == 0))) }
 {
-    is_bare(program)
-        && (are_straight_procedures(&program.procedures)
-            && are_straight_implementations(&program.implementations))
+    is_empty(&program.constants)
+        && (is_empty(&program.functions)
+            && (is_empty(&program.axioms) && is_empty(&program.candidates)))
 }
 
-/// Whether a program has procedures over truth values alone, whose bodies are straight lines.
-pub fn is_straight(program: &Resolved) -> bool
-    ensures { IsTrue result ↔ IsStraight (program_of program.now) }
+/// Whether a program has variables, procedures and implementations over truth values, and nothing else.
+pub fn is_over_truths(program: &Resolved) -> bool
+    ensures { result ≡ is_over_truths (meaning_of (program_of program.now)) }
 {
-    passes(program)
+    are_truths(&program.types, &program.globals)
+        && (is_bare(program)
+            && (are_truth_procedures(&program.types, &program.procedures)
+                && are_truth_implementations(&program.types, &program.implementations)))
 }

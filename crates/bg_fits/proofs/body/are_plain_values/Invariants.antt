@@ -1,6 +1,6 @@
 use Rattle.std.proofs.Common.{◌≡◌, drop, map}
 use Rattle.bg_ast.specs.Views.{target_of, exs_in}
-use Rattle.bg_fits.specs.Straight.{are_plain_values}
+use Rattle.bg_fits.specs.Written.{are_plain_values}
 use Rattle.bg_fits.proofs.body.are_plain_values.Given as goal
 
 abbrev pub invariant-loop-i : goal.invariant-loop-i
