@@ -1,22 +1,22 @@
 -- The blocks of a typed implementation over truth values.
-use Rattle.std.proofs.Common.{◌≡◌, ℕ, zero, suc, ◌+◌, ◌≤◌, Bool, true, false, List, [], ◌∷◌, ◌++◌, length, map, Option, Some, None, refl, sym, ap, ◌∙◌, subst, arith}
+use Rattle.std.proofs.Common.{◌≡◌, ℕ, suc, ◌+◌, ◌≤◌, true, List, [], ◌∷◌, ◌++◌, length, map, Some, refl, sym, ap, ◌∙◌, subst, arith}
 use Rattle.std.specs.Prelude.{◌&&◌, slice_get}
 use Rattle.bg_ast.specs.Values.{Ty, BoolTy}
-use Rattle.bg_ast.specs.Syntax.{Var, Global, Local, Ex, Clause, Guard, Star, Test, Call, St, Skip, Then, Label, Assert, Assume, Havoc, Assign, Invoke, If, While, Break, Goto, Return, Decl, Proc, Impl, Prog}
-use Rattle.bg_ast.specs.Execution.{AtAssert, AtEntry, AfterTurn, AtCall, AtReturn}
+use Rattle.bg_ast.specs.Syntax.{Var, Global, Local, Guard, Star, Test, Call, St, Skip, Then, Label, Assert, Assume, Havoc, Assign, Invoke, If, While, Break, Goto, Return, Decl, Proc, Prog}
+use Rattle.bg_ast.specs.Execution.{AtAssert, AtEntry, AfterTurn, AtCall}
 use Rattle.bg_sense.specs.Types.{types_of}
-use Rattle.bg_sense.specs.Variables.{type_in, decl_in, wheres_in, wheres_of, wheres_at, targets, procedure_of, may_change, modified, variables_in}
-use Rattle.bg_sense.specs.Typing.{Sig, sig_in, types_in}
+use Rattle.bg_sense.specs.Variables.{wheres_in, wheres_of, wheres_at, targets, procedure_of, may_change, modified, variables_in}
+use Rattle.bg_sense.specs.Typing.{types_in}
 use Rattle.bg_sense.specs.Typed.{IsFormula, IsGuard, Around, IsTypedCall, IsTypedStatement, sig_around}
 use Rattle.bg_sense.proofs.Bools.{and_left, and_right}
-use Rattle.bg_calls.specs.Core.{Demand, Saying, Cmd, Check, Suppose, Head, arrival, turn, Core, Nil, Seq, Mark, Do, To, Choose, Loop, Routine, still, demands, sayings, each_one, the_checked, the_free, plain, plan_of, calls_of, head_of, desugar}
-use Rattle.bg_flow.specs.Blocks.{Block, Places, past, next_one, code, to_closing, blocks_of}
+use Rattle.bg_calls.specs.Core.{Demand, Saying, Head, Core, Nil, Seq, Mark, Do, To, Choose, Loop, still, each_one, the_checked, the_free, plan_of, calls_of, desugar}
+use Rattle.bg_flow.specs.Blocks.{Places, past, next_one, code, to_closing, blocks_of}
 use Rattle.bg_incarnate.specs.Even.{how_many}
 use Rattle.bg_passive.specs.Incarnations.{ty_of}
-use Rattle.bg_truths.specs.Truths.{is_plain, are_plain, is_plain_clause, are_plain_clauses, is_plain_guard, is_plain_st}
-use Rattle.bg_truths.proofs.Plain.{OverEx, OverExs, over_ex, over_exs, exs_even}
-use Rattle.bg_truths.proofs.Cmds.{AreBools, OverDemands, OverSayings, OverList, OverClauses, list_append, list_wider, clauses_wider, over_demands, over_sayings, over_plain, OverPlan, OverCmds, OverGuard, OverBlocks, blocks_append}
-use Rattle.bg_truths.proofs.Decls.{over_clause, over_clauses, OverDecls, decls_wider, decls_bools, decls_wheres, types_count, types_append, IsBoolDecl, OverProc, AreBoolVars, filtered, all_variables, modified_vars, all_changed, var_bools}
+use Rattle.bg_truths.specs.Truths.{are_plain, are_plain_clauses, is_plain_guard, is_plain_st}
+use Rattle.bg_truths.proofs.Plain.{OverExs, over_ex, over_exs, exs_even}
+use Rattle.bg_truths.proofs.Cmds.{AreBools, OverDemands, OverSayings, OverList, list_append, list_wider, clauses_wider, over_demands, over_sayings, over_plain, OverPlan, OverCmds, OverGuard, OverBlocks, blocks_append}
+use Rattle.bg_truths.proofs.Decls.{over_clause, over_clauses, OverDecls, decls_wider, decls_bools, decls_wheres, types_count, types_append, OverProc, AreBoolVars, filtered, all_variables, modified_vars, all_changed, var_bools}
 
 module _ (tys : Var → Ty) (g f : ℕ) where
   abbrev OverHead : Head → Type 0

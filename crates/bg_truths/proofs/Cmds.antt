@@ -1,5 +1,5 @@
 -- Commands over truth values, with as many values as targets.
-use Rattle.std.proofs.Common.{◌≡◌, ℕ, zero, suc, ◌+◌, ◌≤◌, Bool, true, false, if◌then◌else◌, List, [], ◌∷◌, ◌++◌, length, map, Option, Some, None, refl, arith}
+use Rattle.std.proofs.Common.{◌≡◌, ℕ, ◌+◌, ◌≤◌, Bool, true, false, List, [], ◌∷◌, ◌++◌, length, map, None, refl}
 use Rattle.bg_ast.specs.Values.{Ty, BoolTy}
 use Rattle.bg_ast.specs.Syntax.{Var, Ex, Clause, Guard, Star, Test}
 use Rattle.bg_ast.specs.Execution.{Spot}

@@ -1,12 +1,12 @@
 -- Declarations and clauses of a typed program over truth values.
-use Rattle.std.proofs.Common.{◌≡◌, ℕ, zero, suc, ◌+◌, ◌<◌, ◌≤◌, Bool, true, false, if◌then◌else◌, List, [], ◌∷◌, ◌++◌, length, map, Option, Some, None, refl, sym, ap, ◌∙◌, subst, inl, inr, arith}
-use Rattle.std.specs.Prelude.{◌⊎◌, ◌&&◌, slice_get, All, Contains, filter, is_none}
-use Rattle.bg_ast.specs.Values.{Ty, IntTy, BoolTy, UserTy, MapTy, is_bool}
-use Rattle.bg_ast.specs.Syntax.{Var, Global, Local, Ex, Clause, Decl, Proc, Impl, Prog}
+use Rattle.std.proofs.Common.{◌≡◌, ℕ, zero, suc, ◌+◌, ◌<◌, ◌≤◌, Bool, true, false, if◌then◌else◌, List, [], ◌∷◌, ◌++◌, length, map, Option, Some, None, refl, ap, subst, inl, inr, arith}
+use Rattle.std.specs.Prelude.{slice_get, All, filter, is_none}
+use Rattle.bg_ast.specs.Values.{Ty, BoolTy, is_bool}
+use Rattle.bg_ast.specs.Syntax.{Var, Global, Local, Ex, Clause, Decl, Proc, Prog}
 use Rattle.bg_sense.specs.Types.{types_of}
 use Rattle.bg_sense.specs.Variables.{type_in, wheres_in, wheres_of, decl_in, count_from, globals_of, modified, is_among, variables_in}
 use Rattle.bg_sense.specs.Typing.{Sig, sig_in, HasType}
-use Rattle.bg_sense.specs.Typed.{HasNoOld, IsFormula, Around, MayChange, AreTypedDecls, IsTypedProc}
+use Rattle.bg_sense.specs.Typed.{HasNoOld, IsFormula, MayChange, AreTypedDecls, IsTypedProc}
 use Rattle.bg_sense.proofs.Bools.{and_left, and_right}
 use Rattle.bg_sense.proofs.Members.{In, member}
 use Rattle.bg_passive.specs.Incarnations.{ty_of}

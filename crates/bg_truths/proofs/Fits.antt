@@ -1,5 +1,5 @@
 -- Over truth values passive blocks hold formulas that name incarnations that are there.
-use Rattle.std.proofs.Common.{◌≡◌, ℕ, zero, suc, ◌+◌, ◌<◌, ◌≤◌, Bool, true, false, if◌then◌else◌, List, [], ◌∷◌, ◌++◌, length, map, Option, Some, None, refl, sym, ap, ◌∙◌, subst, arith}
+use Rattle.std.proofs.Common.{◌≡◌, ℕ, zero, suc, ◌+◌, ◌<◌, ◌≤◌, Bool, true, false, if◌then◌else◌, List, [], ◌∷◌, ◌++◌, length, map, Option, None, refl, ap, ◌∙◌, arith}
 use Rattle.std.specs.Prelude.{◌&&◌, ◌==◌, slice_get, slice_set, nat_lt}
 use Rattle.std.proofs.lemmas.List.{length-append}
 use Rattle.bg_ast.specs.Values.{Ty}
@@ -7,7 +7,7 @@ use Rattle.bg_ast.specs.Syntax.{Var, Global, Local, Equal, Ex, Exs, Number, Fact
 use Rattle.bg_sense.proofs.Bools.{both}
 use Rattle.bg_calls.specs.Core.{Demand, Saying, Plan, Cmd, Check, Suppose, Forget, Put, Perform, Finish}
 use Rattle.bg_flow.specs.Blocks.{Exit, Leap, Either, Block}
-use Rattle.bg_passive.specs.Passive.{PassiveCmd, Claims, Supposes, Edge, PassiveBlock}
+use Rattle.bg_passive.specs.Passive.{PassiveCmd, Claims, Supposes}
 use Rattle.bg_passive.specs.Incarnations.{Env, rename_at, rename, hold, hold_all, hold_next, after_vars, after_exs, after_decls, each_ex, each_decl, claims_in, supposes_in, set_to, pass, pass_call, pass_all, Arrival, joins, join_env, edge_to, edges, passives, ty_of, Below, entry_env, targets_of}
 use Rattle.bg_passive.specs.Arrivals.{all_begin, tails, merge, after_merge, globals_in, frames_in, arrive_at, Ways, ways_here, ways_on, way_to, ways_to, arrive}
 use Rattle.bg_passive.proofs.Renaming.{below_set, below_append}
@@ -200,11 +200,13 @@ module _ (n m : ℕ) where
           let args = row_exs n j k.args le1 in
           let results = row_decls n n2 k.results le in
           let v2 = hold_next k.modifies n1 v in
-          let h2 = hold_next_fits k.modifies n1 v le2 h in
-          (cmds_append (set_to j k.args v) _ (sets_fit k.args j g f v o.0 h le1)
-          (cmds_append (claims_in (record { globals = v.globals; before = v.globals; frame = each_ex j k.args }) k.needs) _
-          (claims_fit k.needs g (how_many k.args) (record { globals = v.globals; before = v.globals; frame = each_ex j k.args }) o.1.0 (h.0, (h.0, args)))
-          (supposes_fit k.gives g (how_many k.args + length k.results) (record { globals = v2.globals; before = v.globals; frame = each_ex j k.args ++ each_decl n2 k.results }) o.1.1.0 (h2.0, (h.0, row_append n (how_many k.args) (length k.results) (each_ex j k.args) (each_decl n2 k.results) args results)))), hold_all_fits k.takes (each_decl n2 k.results) v2 results.1 h2)
+          let h2 = hold_next_fits k.modifies n1 v le2 h in (
+            cmds_append (set_to j k.args v) _ (sets_fit k.args j g f v o.0 h le1)
+                (cmds_append (claims_in (record { globals = v.globals; before = v.globals; frame = each_ex j k.args }) k.needs) _
+                (claims_fit k.needs g (how_many k.args) (record { globals = v.globals; before = v.globals; frame = each_ex j k.args }) o.1.0 (h.0, (h.0, args)))
+                (supposes_fit k.gives g (how_many k.args + length k.results) (record { globals = v2.globals; before = v.globals; frame = each_ex j k.args ++ each_decl n2 k.results }) o.1.1.0 (h2.0, (h.0, row_append n (how_many k.args) (length k.results) (each_ex j k.args) (each_decl n2 k.results) args results)))),
+            hold_all_fits k.takes (each_decl n2 k.results) v2 results.1 h2,
+          )
 
       pass_fits : (k : Cmd) (v : Env) (j : ℕ) → OverCmd tys g f k → EnvFits n g f v → (pass k v j).next ≤ n → (fits_cmds n m (pass k v j).cmds ≡ true) × EnvFits n g f (pass k v j).env
       pass_fits (Check ds) v j o h le = (claims_fit ds g f v o h, h)

@@ -1,7 +1,7 @@
 -- Over truth values all incarnations are truth values.
-use Rattle.std.proofs.Common.{◌≡◌, ℕ, zero, suc, Bool, true, false, if◌then◌else◌, List, [], ◌∷◌, ◌++◌, length, map, refl, sym, ap, ◌∙◌, subst}
+use Rattle.std.proofs.Common.{◌≡◌, ℕ, Bool, true, false, if◌then◌else◌, List, [], ◌∷◌, length, map, refl, ap, ◌∙◌}
 use Rattle.std.specs.Prelude.{◌&&◌}
-use Rattle.bg_ast.specs.Values.{Ty, BoolTy, Val, Num, Truth, Element, Default, Entry, is_of}
+use Rattle.bg_ast.specs.Values.{Ty, Val, Num, Truth, Element, Default, Entry, is_of}
 use Rattle.bg_ast.specs.Syntax.{Var, Decl, Prog}
 use Rattle.bg_sense.specs.Types.{are_of, types_of}
 use Rattle.bg_calls.specs.Core.{Cmd, Check, Suppose, Forget, Put, Perform, Finish}
