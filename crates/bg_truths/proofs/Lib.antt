@@ -5,3 +5,4 @@ pub mod Bodies
 pub mod Incs
 pub mod Fits
 pub mod Whole
+pub mod Starts

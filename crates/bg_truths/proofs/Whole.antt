@@ -1,5 +1,5 @@
 -- What a typed implementation over truth values has.
-use Rattle.std.proofs.Common.{◌≡◌, ℕ, zero, suc, ◌+◌, ◌≤◌, true, List, [], ◌∷◌, ◌++◌, length, Some, refl, sym, ap, ◌∙◌, subst, arith}
+use Rattle.std.proofs.Common.{Bool, ◌≡◌, ℕ, zero, suc, ◌+◌, ◌≤◌, true, List, [], ◌∷◌, ◌++◌, length, Some, refl, sym, ap, ◌∙◌, subst, arith}
 use Rattle.std.specs.Prelude.{◌&&◌, ◌==◌, slice_get}
 use Rattle.bg_ast.specs.Values.{Val}
 use Rattle.bg_ast.specs.Syntax.{Decl, Proc, Impl, Prog}
@@ -9,20 +9,22 @@ use Rattle.bg_sense.specs.Variables.{count_from, procedure_of, wheres_of}
 use Rattle.bg_sense.specs.Typing.{sig_in}
 use Rattle.bg_sense.specs.Typed.{AreTypedDecls, IsTypedStatement, around, sig_around, IsTypedImpl, IsTypedProc, IsTyped}
 use Rattle.bg_sense.proofs.Bools.{and_left, and_right}
+use Rattle.bg_sense.specs.Claims.{IsState}
 use Rattle.bg_calls.specs.Core.{frame_decls, demands, sayings, each_one, plain}
 use Rattle.bg_flow.specs.Blocks.{Block}
-use Rattle.bg_passive.specs.Incarnations.{ty_of, Below, entry_env, incarnations}
+use Rattle.bg_passive.specs.Incarnations.{first_state, ty_of, Below, entry_env, incarnations}
 use Rattle.bg_passive.specs.Arrivals.{arrived}
 use Rattle.bg_incarnate.specs.Walked.{walk_after}
 use Rattle.bg_incarnate.specs.Even.{BlocksEven}
 use Rattle.bg_clause.specs.Fitting.{fit_blocks}
-use Rattle.bg_clause.specs.Whole.{are_truths}
+use Rattle.bg_clause.specs.Whole.{truth_values, are_truths}
 use Rattle.bg_truths.specs.Truths.{is_empty, are_truth_decls, is_plain_st, is_truth_impl, are_truth_impls, are_truth_procs, is_over_truths}
 use Rattle.bg_truths.specs.Passives.{blocks_in, incarnations_in, passives_in}
 use Rattle.bg_truths.proofs.Cmds.{AreBools, bools_append, clauses_wider, over_demands, over_sayings, over_plain, OverBlocks, blocks_even}
 use Rattle.bg_truths.proofs.Decls.{all_at, OverDecls, over_decls, decls_wider, decls_append, decls_bools, decls_wheres, types_count, types_append, OverProc, over_proc, proc_at}
 use Rattle.bg_truths.proofs.Bodies.{routine_over}
 use Rattle.bg_truths.proofs.Incs.{made_bools, truths_are}
+use Rattle.bg_truths.proofs.Starts.{starts}
 use Rattle.bg_truths.proofs.Fits.{EnvFits, walk_more, blocks_fit}
 
 impl_at : (ms : List Impl) (k : ℕ) (m : Impl) → are_truth_impls ms ≡ true → slice_get ms k ≡ Some m → is_truth_impl m ≡ true
@@ -130,3 +132,6 @@ module _ (p : Prog) (k : ℕ) (m : Impl) (q : Proc) (t : IsTyped p) (o : is_over
       let first : n0 ≤ n = subst (λ j. n0 ≤ j) c x in
       let last : walk_after (entry_env p ds) (blocks_in p k m q) [] n0 ≤ n = subst (λ j. walk_after (entry_env p ds) (blocks_in p k m q) [] n0 ≤ j) c (omega arith) in
       (blocks_fit n p.candidates p ds g f (blocks_in p k m q) [] n0 (entry_fits p ds n first) over tt last).0
+
+  pub first : (truth : ℕ → Bool) → IsState p k (first_state p ds (truth_values truth (length (incarnations_in p k m q))))
+  first truth = starts p k m q bools im pr truth

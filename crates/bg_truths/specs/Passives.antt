@@ -1,7 +1,8 @@
 -- The passive blocks of an implementation, and their incarnations.
-use Rattle.std.specs.Prelude.{ℕ, List}
+use Rattle.std.specs.Prelude.{ℕ, List, []}
 use Rattle.bg_ast.specs.Values.{Ty}
 use Rattle.bg_ast.specs.Syntax.{Proc, Impl, Prog}
+use Rattle.bg_ast.specs.Execution.{Interp}
 use Rattle.bg_calls.specs.Core.{frame_decls, routine_of}
 use Rattle.bg_flow.specs.Blocks.{Block, blocks_of}
 use Rattle.bg_passive.specs.Passive.{PassiveBlock}
@@ -23,3 +24,7 @@ incarnations_in p k m q = incarnations p (frame_decls m q) (arrivals_in p k m q)
 -- its passive blocks
 abbrev pub passives_in : Prog → ℕ → Impl → Proc → List PassiveBlock
 passives_in p k m q = passives (arrivals_in p k m q).arrivals (blocks_in p k m q)
+
+-- there are no constants and no functions
+abbrev pub no_interp : Interp
+no_interp = record { constants = []; tables = [] }
