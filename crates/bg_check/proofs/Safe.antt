@@ -1,0 +1,81 @@
+-- An implementation whose places are all proved is safe.
+use Rattle.std.proofs.Common.{◌≡◌, ℕ, zero, suc, ◌+◌, ◌<◌, Bool, true, List, [], ◌∷◌, length, map, Some, refl, sym, ap, ◌∙◌, subst, inl, inr, arith}
+use Rattle.std.specs.Prelude.{slice_get}
+use Rattle.std.proofs.lemmas.List.{length-map}
+use Rattle.bg_ast.specs.Syntax.{Prog}
+use Rattle.bg_ast.specs.Resolved as r
+use Rattle.bg_ast.specs.Meaning.{meaning_of, named_of, impl_of}
+use Rattle.bg_ast.specs.Execution.{Place}
+use Rattle.bg_sense.specs.Typed.{IsTyped}
+use Rattle.bg_sense.specs.Places.{places}
+use Rattle.bg_sense.specs.Claims.{Safe}
+use Rattle.bg_sense.proofs.Bools.{and_left, and_right}
+use Rattle.bg_sense.proofs.Members.{In, member}
+use Rattle.bg_places.specs.Placed.{place_in, placed_impl}
+use Rattle.bg_cert.specs.declared.cert.Node.{Node}
+use Rattle.bg_cert.specs.Certs.{node_of}
+use Rattle.bg_cert.specs.Walks.{no_instance}
+use Rattle.bg_truths.specs.Truths.{is_over_truths}
+use Rattle.bg_check.specs.declared.verdict.Verdict.{Verdict}
+use Rattle.bg_check.specs.declared.verdict.Verdict.TheVariants.{Proved, Refuted, Unknown}
+use Rattle.bg_check.specs.declared.verdict.Judged.{Judged}
+use Rattle.bg_check.specs.Verdicts.{HasCertificate, IsRight, placed_at, AreRightAt, AreRightOf, AreRightFrom, AreRightUnder, is_proved, are_proved, ProvedAreSafe}
+use Rattle.bg_check.proofs.LawTypes.{FunctionLaw, BodyLaw, SafeLaw, PlaceLaw, PassiveLaw, FitLaw, DenyLaw, ClauseLaw, WholeLaw, TruthLaw, CertLaw, UsedLaw, InsideLaw}
+use Rattle.bg_check.proofs.Failures.{no_failure}
+use Rattle.bg_check.proofs.Numbered.{has}
+
+-- a certificate of a place
+pub record Proof (p : Prog) (set : ℕ → Bool) (t : Place) : Type 0 where
+  pub nodes : List Node
+  pub certificate : HasCertificate p set t nodes
+
+proof_of : (budget : ℕ) (p : Prog) (set : ℕ → Bool) (t : Place) (v : Verdict) → IsRight budget p set t v → is_proved v ≡ true → Proof p set t
+proof_of budget p set t (Proved nodes) h e = record { nodes = nodes.items; certificate = h }
+proof_of budget p set t (Refuted cex) h e = absurd (let bad : ⊥ = cc in bad)
+proof_of budget p set t (Unknown parts) h e = absurd (let bad : ⊥ = cc in bad)
+
+judged_place : (budget : ℕ) (p : Prog) (set : ℕ → Bool) (js : List Judged) (t : Place) → AreRightAt budget p set js → are_proved js ≡ true → In (map place_in (map placed_at js)) t → Proof p set t
+judged_place budget p set [] t h e i = absurd i
+judged_place budget p set (j ∷ js) t h e (inl s) =
+    subst (Proof p set) s (proof_of budget p set (placed_at j).place j.verdict h.0 (and_left (is_proved j.verdict) (are_proved js) e))
+judged_place budget p set (j ∷ js) t h e (inr i) =
+    judged_place budget p set js t h.1 (and_right (is_proved j.verdict) (are_proved js) e) i
+
+module _ (functions : FunctionLaw) (bodies : BodyLaw) (safe : SafeLaw) (place : PlaceLaw) (runs : PassiveLaw) (fits : FitLaw) (denies : DenyLaw) (clauses : ClauseLaw) (whole : WholeLaw) (truths : TruthLaw) (certs : CertLaw) (used : UsedLaw) (inside : InsideLaw) (set : ℕ → Bool) (budget : ℕ) (p : r.Program) (t : IsTyped (meaning_of p)) (o : is_over_truths (meaning_of p) ≡ true) where
+  one_safe : (k : ℕ) (m : r.Impl) (js : List Judged) → slice_get p.implementations k ≡ Some m → AreRightOf budget p set k m js → are_proved js ≡ true → Safe (meaning_of p) set k
+  one_safe k m js at right proved =
+      safe (meaning_of p) set k t below
+      (λ u i s choices c number kept fails.
+      let h = has p.procedures 0 p.implementations u (subst (λ l. In l u) (sym (place p)) (member (places (meaning_of p)) u c)) in
+      let same : h.index ≡ k = index_is h.index u number h.number in
+      let mine : Some h.implementation ≡ Some m = sym h.there ∙ (ap (slice_get p.implementations) same ∙ at) in
+      let is : h.implementation ≡ m = cc in
+      let inside_it = subst (λ x. In (map place_in (placed_impl p.procedures k x)) u) is (subst (λ x. In (map place_in (placed_impl p.procedures x h.implementation)) u) number h.member) in
+      let x = judged_place budget (meaning_of p) set js u right.right proved (subst (λ l. In (map place_in l) u) (sym right.places) inside_it) in
+      no_failure functions bodies runs fits denies clauses whole truths (meaning_of p) t o certs used set set u x.nodes x.certificate (λ n g. inside x.certificate.formula set no_instance (map node_of x.nodes) x.certificate.accepted n g) i s choices fails)
+    where
+      there : (ms : List r.Impl) (j : ℕ) → slice_get ms j ≡ Some m → j < length ms
+      there [] j e = absurd (let bad : ⊥ = cc in bad)
+      there (x ∷ ms) zero e = omega arith
+      there (x ∷ ms) (suc j) e = let l = there ms j e in omega (arith, l)
+
+      below : k < length (meaning_of p).implementations
+      below =
+          let l = there p.implementations k at in
+          let e = length-map p.implementations (impl_of (named_of p.types)) in
+          omega (arith, l, e)
+
+      index_is : (x : ℕ) (u : Place) → u.implementation ≡ k → u.implementation ≡ 0 + x → x ≡ k
+      index_is x u a b = omega (arith, a, b)
+
+  all_safe : (ms : List r.Impl) (k : ℕ) (os : List (List Judged)) → ((j : ℕ) (m : r.Impl) → slice_get ms j ≡ Some m → slice_get p.implementations (k + j) ≡ Some m) → AreRightFrom budget p set k ms os → ProvedAreSafe p set k os
+  all_safe [] k [] at h = tt
+  all_safe [] k (js ∷ os) at h = absurd h
+  all_safe (m ∷ ms) k [] at h = absurd h
+  all_safe (m ∷ ms) k (js ∷ os) at h = (
+    one_safe k m js (ap (slice_get p.implementations) (omega arith) ∙ at 0 m refl) h.0,
+    all_safe ms (suc k) os (λ j q e. ap (slice_get p.implementations) (omega arith) ∙ at (suc j) q e) h.1,
+  )
+
+  pub proved_safe : (os : List (List Judged)) → AreRightUnder set budget p os → ProvedAreSafe p set 0 os
+  proved_safe os h = all_safe p.implementations 0 os (λ j m e. ap (slice_get p.implementations) (omega arith) ∙ e) h

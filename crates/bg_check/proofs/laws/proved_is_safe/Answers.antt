@@ -1,0 +1,5 @@
+use Rattle.bg_check.specs.Clauses.{none}
+use Rattle.bg_check.proofs.laws.proved_is_safe.Goals as goal
+
+pub returns : goal.returns
+returns c p budget outcome typed over h = c.proved_under_a_set_is_safe.ensures p none budget outcome typed over h

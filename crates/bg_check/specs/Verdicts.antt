@@ -1,0 +1,91 @@
+-- What is known of each place of a program, and when it is right.
+use Rattle.std.specs.Prelude.{◌≡◌, ℕ, suc, Bool, true, false, ◌&&◌, List, [], ◌∷◌, map, Option, Some, Vec}
+use Rattle.std.specs.declared.alloc.Global.{Global}
+use Rattle.bg_ast.specs.Syntax.{Prog}
+use Rattle.bg_ast.specs.Resolved as r
+use Rattle.bg_ast.specs.Meaning.{meaning_of}
+use Rattle.bg_ast.specs.Execution.{Place}
+use Rattle.bg_sense.specs.Claims.{Safe, Fails}
+use Rattle.bg_formula.specs.Formulas.{Formula}
+use Rattle.bg_cert.specs.declared.cert.Node.{Node}
+use Rattle.bg_cert.specs.Certs.{Accepts, node_of, root}
+use Rattle.bg_cert.specs.Walks.{no_instance}
+use Rattle.bg_tree.specs.Trees.{tree, part_of}
+use Rattle.bg_places.specs.Placed.{Placed, placed_impl}
+use Rattle.bg_places.specs.Views.{placed_of}
+use Rattle.bg_replay.specs.Moments.{choice_of}
+use Rattle.bg_replay.specs.Endings.{state_of}
+use Rattle.bg_model.specs.declared.counterexample.Counterexample.{Counterexample}
+use Rattle.bg_check.specs.declared.verdict.Verdict.{Verdict}
+use Rattle.bg_check.specs.declared.verdict.Verdict.TheVariants.{Proved, Refuted, Unknown}
+use Rattle.bg_check.specs.declared.verdict.Judged.{Judged}
+use Rattle.bg_check.specs.Clauses.{formula_at, none, no_interp}
+
+-- the place's clauses have this certificate under a set of candidates
+pub record HasCertificate (p : Prog) (set : ℕ → Bool) (t : Place) (nodes : List Node) : Type 0 where
+  pub formula : Formula
+  pub is : formula_at p t ≡ Some formula
+  pub accepted : Accepts formula set no_instance (map node_of nodes)
+
+-- they have this tree of as many inner nodes as the budget says, with an open leaf
+pub record IsSpent (p : Prog) (set : ℕ → Bool) (t : Place) (budget : ℕ) (parts : List (Option Node)) : Type 0 where
+  pub formula : Formula
+  pub is : formula_at p t ≡ Some formula
+  pub spent : tree formula set budget false (root formula ∷ []) (map part_of parts) ≡ true
+
+-- the induction run from these values, with these choices, fails at the place
+abbrev pub IsFailure : Prog → (ℕ → Bool) → Place → Counterexample → Type 0
+IsFailure p set t cex =
+    Fails p set t no_interp (state_of cex.globals.items cex.frame.items) (map choice_of cex.choices.items)
+
+-- a verdict on a place, under a set of candidates
+abbrev pub IsRight : ℕ → Prog → (ℕ → Bool) → Place → Verdict → Type 0
+IsRight budget p set t (Proved nodes) = HasCertificate p set t nodes.items
+IsRight budget p set t (Refuted cex) = IsFailure p set t cex
+IsRight budget p set t (Unknown parts) = IsSpent p set t budget parts.items
+
+abbrev pub placed_at : Judged → Placed
+placed_at j = placed_of j.place
+
+-- each verdict is right
+abbrev pub AreRightAt : ℕ → Prog → (ℕ → Bool) → List Judged → Type 0
+AreRightAt budget p set [] = Unit {0}
+AreRightAt budget p set (j ∷ js) = IsRight budget p set (placed_at j).place j.verdict × AreRightAt budget p set js
+
+-- one right verdict for each place of the implementation with this number, in order
+pub record AreRightOf (budget : ℕ) (p : r.Program) (set : ℕ → Bool) (k : ℕ) (m : r.Impl) (js : List Judged) : Type 0 where
+  pub places : map placed_at js ≡ placed_impl p.procedures k m
+  pub right : AreRightAt budget (meaning_of p) set js
+
+-- for each of these implementations, numbered from k on
+abbrev pub AreRightFrom : ℕ → r.Program → (ℕ → Bool) → ℕ → List r.Impl → List (List Judged) → Type 0
+AreRightFrom budget p set k [] [] = Unit {0}
+AreRightFrom budget p set k [] (js ∷ os) = ⊥
+AreRightFrom budget p set k (m ∷ ms) [] = ⊥
+AreRightFrom budget p set k (m ∷ ms) (js ∷ os) = AreRightOf budget p set k m js × AreRightFrom budget p set (suc k) ms os
+
+-- one right verdict for each place of a program, under a set of candidates
+abbrev pub AreRightUnder : (ℕ → Bool) → ℕ → r.Program → List (List Judged) → Type 0
+AreRightUnder set budget p outcome = AreRightFrom budget p set 0 p.implementations outcome
+
+-- under no candidate
+abbrev pub AreRight : ℕ → r.Program → List (List Judged) → Type 0
+AreRight = AreRightUnder none
+
+abbrev pub is_proved : Verdict → Bool
+is_proved (Proved nodes) = true
+is_proved (Refuted cex) = false
+is_proved (Unknown parts) = false
+
+abbrev pub are_proved : List Judged → Bool
+are_proved [] = true
+are_proved (j ∷ js) = is_proved j.verdict && are_proved js
+
+-- each implementation whose places are all proved is safe
+abbrev pub ProvedAreSafe : r.Program → (ℕ → Bool) → ℕ → List (List Judged) → Type 0
+ProvedAreSafe p set k [] = Unit {0}
+ProvedAreSafe p set k (js ∷ os) = (are_proved js ≡ true → Safe (meaning_of p) set k) × ProvedAreSafe p set (suc k) os
+
+-- the verdicts as lists
+abbrev pub judged : List (Vec Judged Global) → List (List Judged)
+judged = map (λ v. v.items)
