@@ -1,5 +1,5 @@
 -- What isn't judged yet: tokens that no program may have.
-use Rattle.std.specs.Prelude.{◌≡◌, ℕ, ◌+◌, ◌-◌, List, [], ◌∷◌, ◌++◌, Bool, true, false, not, ◌&&◌, ◌||◌, ◌==◌, if◌then◌else◌, Option, Some, None, codes}
+use Rattle.std.specs.Prelude.{◌≡◌, ℕ, List, [], ◌∷◌, ◌++◌, Bool, true, false, not, ◌&&◌, ◌||◌, if◌then◌else◌, Option, Some, None, codes}
 use Rattle.bg_base.specs.declared.pos.Pos.{Pos}
 use Rattle.bg_text.specs.declared.token.Kind.{Kind}
 use Rattle.bg_text.specs.declared.token.Kind.TheVariants as kinds
@@ -8,18 +8,6 @@ use Rattle.bg_front.specs.declared.later.Spot.{Spot}
 
 -- the tokens that aren't judged yet, wherever they stand; a line goes when its construct is judged
 abbrev pub is_unjudged : Kind → Bool
-is_unjudged kinds.If = true
-is_unjudged kinds.While = true
-is_unjudged kinds.Goto = true
-is_unjudged kinds.Break = true
-is_unjudged kinds.Return = true
-is_unjudged kinds.Requires = true
-is_unjudged kinds.Ensures = true
-is_unjudged kinds.Modifies = true
-is_unjudged kinds.Free = true
-is_unjudged kinds.Call = true
-is_unjudged kinds.Implementation = true
-is_unjudged kinds.Old = true
 is_unjudged kinds.Type = true
 is_unjudged kinds.Const = true
 is_unjudged kinds.Function = true
@@ -29,35 +17,30 @@ is_unjudged (kinds.Number z) = true
 is_unjudged kinds.OpenBracket = true
 is_unjudged _ = false
 
--- those that aren't judged yet where they begin a declaration
-abbrev pub begins_unjudged : Kind → Bool
-begins_unjudged kinds.Var = true
-begins_unjudged _ = false
-
 -- what is named: the word `number` for a number, else the token as it is written
 abbrev pub word_of : Kind → List ℕ → List ℕ
 word_of (kinds.Number z) text = codes "number"
 word_of _ text = text
 
--- outside of all braces
+-- outside of all attributes
 abbrev pub outside : Spot
-outside = record { depth = 0; opened = false; inside = false }
+outside = record { opened = false; inside = false }
 
 -- where the next token stands; an attribute goes from a brace with a colon behind it to its closing brace
 abbrev pub behind : Spot → Kind → Spot
-behind s kinds.OpenBrace = record { depth = s.depth + 1; opened = true; inside = s.inside }
-behind s kinds.CloseBrace = record { depth = s.depth - 1; opened = false; inside = false }
-behind s kinds.Colon = record { depth = s.depth; opened = false; inside = s.inside || s.opened }
-behind s _ = record { depth = s.depth; opened = false; inside = s.inside }
+behind s kinds.OpenBrace = record { opened = true; inside = s.inside }
+behind s kinds.CloseBrace = record { opened = false; inside = false }
+behind s kinds.Colon = record { opened = false; inside = s.inside || s.opened }
+behind s _ = record { opened = false; inside = s.inside }
 
 -- where a token stands that has these before it
 abbrev pub spot_from : Spot → List Tok → Spot
 spot_from s [] = s
 spot_from s (t ∷ ts) = spot_from (behind s t.kind) ts
 
--- outside attributes, a token that isn't judged yet, there or anywhere
+-- outside attributes, a token that isn't judged yet
 abbrev pub is_refused : Spot → Kind → Bool
-is_refused s k = not s.inside && (is_unjudged k || (s.depth == 0 && begins_unjudged k))
+is_refused s k = not s.inside && is_unjudged k
 
 -- each token is judged where it stands
 abbrev pub AreJudgedFrom : Spot → List Tok → Type 0

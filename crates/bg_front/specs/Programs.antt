@@ -1,11 +1,12 @@
 -- The program of a text, and why it has none.
-use Rattle.std.specs.Prelude.{◌≡◌, ◌≤◌, ◌<◌, ℕ, List, [], ◌++◌, length}
+use Rattle.std.specs.Prelude.{◌≡◌, ◌≤◌, ◌<◌, ℕ, nat_lt, Bool, true, false, if◌then◌else◌, List, [], ◌++◌, length, Option, Some, None}
 use Rattle.bg_text.specs.Tokens.{Tok}
 use Rattle.bg_text.specs.Trees.{Decl}
 use Rattle.bg_ast.specs.Resolved as r
 use Rattle.bg_names.specs.Faults as n
 use Rattle.bg_resolve.specs.Program.{plain_faults, named}
 use Rattle.bg_resolve.specs.Resolves.{Recursion}
+use Rattle.bg_size.specs.Counts.{most_places, most_expanded, place_counts, expanded_counts, first_above, is_any_above}
 use Rattle.bg_types.specs.Verdicts.{IsWellTyped, IsFault}
 use Rattle.bg_front.specs.Later.{AreJudged, IsUnjudged}
 use Rattle.bg_front.specs.Limits.{most_bytes, most_implementations}
@@ -31,13 +32,31 @@ pub record IsMeaningOf (bytes : List ℕ) (ts : List Tok) (program : r.Program) 
   pub names : AreNamed decls
   pub meant : program ≡ named decls
 
--- the bytes spell the program: it has a type everywhere, each of its tokens is judged, and it has few implementations
+-- too many places of the first implementation that has too many, or too many nodes of one
+abbrev pub size_limit : Option ℕ → Bool → Option f.Refusal
+size_limit (Some places) large = Some (f.Places places)
+size_limit None true = Some f.Expanded
+size_limit None false = None
+
+-- the first limit that the program exceeds: of implementations, of the places of one, of the expression nodes of one
+abbrev pub limit_of : r.Program → Option f.Refusal
+limit_of p =
+    if nat_lt most_implementations (length p.implementations)
+    then Some (f.Implementations (length p.implementations))
+    else size_limit (first_above most_places (place_counts p)) (is_any_above most_expanded (expanded_counts p))
+
+-- the bytes spell the program: it has a type everywhere, each of its tokens is judged, and it exceeds no limit
 pub record IsProgramOf (bytes : List ℕ) (program : r.Program) : Type 0 where
   pub tokens : List Tok
   pub spelled : IsMeaningOf bytes tokens program
   pub typed : IsWellTyped program
   pub judged : AreJudged tokens
-  pub few : length program.implementations ≤ most_implementations
+  pub within : limit_of program ≡ None
+
+-- the bytes spell a program that is typed and judged, and exceeds this limit first
+abbrev pub ExceedsLimit : List ℕ → f.Refusal → Type 0
+ExceedsLimit bytes limit =
+    (ts : List Tok) × (p : r.Program) × IsMeaningOf bytes ts p × IsWellTyped p × AreJudged ts × (limit_of p ≡ Some limit)
 
 -- why a text has no program; each reason stands only where none before it does
 abbrev pub IsRefusedBy : List ℕ → f.Refusal → Type 0
@@ -45,8 +64,9 @@ IsRefusedBy bytes f.TooLong = most_bytes < length bytes
 IsRefusedBy bytes (f.Names fault) = (length bytes ≤ most_bytes) × (ts : List Tok) × (ds : List Decl) × IsTreeOf bytes ts ds × IsNameFault ds fault
 IsRefusedBy bytes (f.Types ds fault) = (ts : List Tok) × (p : r.Program) × IsMeaningOf bytes ts p × IsFault p fault × (ds ≡ p.types)
 IsRefusedBy bytes (f.Later pos word) = (ts : List Tok) × (p : r.Program) × IsMeaningOf bytes ts p × IsWellTyped p × IsUnjudged ts pos word
-IsRefusedBy bytes (f.Implementations count) =
-    (ts : List Tok) × (p : r.Program) × IsMeaningOf bytes ts p × IsWellTyped p × AreJudged ts × (most_implementations < count) × (count ≡ length p.implementations)
+IsRefusedBy bytes (f.Implementations n) = ExceedsLimit bytes (f.Implementations n)
+IsRefusedBy bytes (f.Places n) = ExceedsLimit bytes (f.Places n)
+IsRefusedBy bytes f.Expanded = ExceedsLimit bytes f.Expanded
 IsRefusedBy bytes reason = (length bytes ≤ most_bytes) × HasNoTree bytes reason
 
 -- a refusal, the name of a fault of names apart

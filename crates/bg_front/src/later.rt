@@ -1,16 +1,14 @@
 //! What isn't judged yet: one list of tokens that no program may have.
-ghost use Rattle.std.specs.Prelude.{◌≡◌, ◌<◌, ◌^◌, MatchOption, option_map};
+ghost use Rattle.std.specs.Prelude.{◌≡◌, MatchOption, option_map};
 ghost use Rattle.bg_text.specs.Tokens.{views};
-ghost use Rattle.bg_front.specs.Later.{is_unjudged, begins_unjudged, word_of, behind, is_refused, outside, first_from, AreJudged, IsUnjudged};
+ghost use Rattle.bg_front.specs.Later.{is_unjudged, word_of, behind, is_refused, outside, first_from, AreJudged, IsUnjudged};
 
 use bg_base::Pos;
 use bg_text::{Kind, Token};
 
-/// Where a token stands: how many braces are open, whether the token before it opened one, and whether it stands in
-/// an attribute.
+/// Where a token stands: whether the token before it opened a brace, and whether it stands in an attribute.
 #[derive(Clone, Copy)]
 pub(crate) struct Spot {
-    pub(crate) depth: usize,
     pub(crate) opened: bool,
     pub(crate) inside: bool,
 }
@@ -20,20 +18,6 @@ fn is_unjudged(kind: Kind) -> bool
     ensures { result ≡ is_unjudged kind }
 {
     match kind {
-        // jumps and loops
-        Kind::If => true,
-        Kind::While => true,
-        Kind::Goto => true,
-        Kind::Break => true,
-        Kind::Return => true,
-        // procedures
-        Kind::Requires => true,
-        Kind::Ensures => true,
-        Kind::Modifies => true,
-        Kind::Free => true,
-        Kind::Call => true,
-        Kind::Implementation => true,
-        Kind::Old => true,
         // functions and axioms
         Kind::Type => true,
         Kind::Const => true,
@@ -44,17 +28,6 @@ fn is_unjudged(kind: Kind) -> bool
         Kind::Number(_) => true,
         // maps
         Kind::OpenBracket => true,
-        _ => false,
-    }
-}
-
-/// Those that aren't judged yet where they begin a declaration.
-fn begins_unjudged(kind: Kind) -> bool
-    ensures { result ≡ begins_unjudged kind }
-{
-    match kind {
-        // procedures
-        Kind::Var => true,
         _ => false,
     }
 }
@@ -70,27 +43,22 @@ fn word_of<'a>(kind: Kind, text: &'a [u8]) -> &'a [u8]
 }
 
 fn behind(spot: Spot, kind: Kind) -> Spot
-    requires { spot.depth < 2 ^ 63 }
     ensures { result ≡ behind spot kind }
 {
     match kind {
         Kind::OpenBrace => Spot {
-            depth: spot.depth + 1,
             opened: true,
             inside: spot.inside,
         },
         Kind::CloseBrace => Spot {
-            depth: spot.depth.saturating_sub(1),
             opened: false,
             inside: false,
         },
         Kind::Colon => Spot {
-            depth: spot.depth,
             opened: false,
             inside: spot.inside || spot.opened,
         },
         _ => Spot {
-            depth: spot.depth,
             opened: false,
             inside: spot.inside,
         },
@@ -100,14 +68,13 @@ fn behind(spot: Spot, kind: Kind) -> Spot
 fn is_refused(spot: Spot, kind: Kind) -> bool
     ensures { result ≡ is_refused spot kind }
 {
-    !spot.inside && (is_unjudged(kind) || (spot.depth == 0 && begins_unjudged(kind)))
+    !spot.inside && is_unjudged(kind)
 }
 
 fn first_of<'a>(tokens: &[Token<'a>]) -> Option<(Pos, &'a [u8])>
     ensures { option_map (λ r. (r.0, r.1.now)) result ≡ first_from outside (views tokens.now) }
 {
     let mut spot = Spot {
-        depth: 0,
         opened: false,
         inside: false,
     };

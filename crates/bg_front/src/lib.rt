@@ -7,6 +7,7 @@ pub mod laws;
 mod limits;
 mod lines;
 mod refusal;
+mod sizes;
 mod text;
 mod tree;
 

@@ -9,6 +9,7 @@ use crate::lines::{put_fault, put_limit, put_named};
 use bg_base::Pos;
 use bg_lex::Fault;
 use bg_resolve::NameFault;
+use bg_size::MOST_EXPANDED;
 use bg_types::Refusal as TypeRefusal;
 use std::alloc::{AllocError, Global};
 
@@ -31,6 +32,10 @@ pub enum Refusal<'a> {
     Later(Pos, &'a [u8]),
     /// There are so many implementations, more than `MOST_IMPLEMENTATIONS`.
     Implementations(usize),
+    /// The first implementation that has more places than `MOST_PLACES` has so many, as far as 64 bits tell it.
+    Places(usize),
+    /// An implementation has more expression nodes than `MOST_EXPANDED`, with the clauses of what it calls.
+    Expanded,
 }
 
 /// Why there is no program.
@@ -51,6 +56,8 @@ impl<'a> Refusal<'a> {
             Refusal::TooLong => true,
             Refusal::Nesting => true,
             Refusal::Implementations(_) => true,
+            Refusal::Places(_) => true,
+            Refusal::Expanded => true,
             _ => false,
         }
     }
@@ -67,6 +74,8 @@ impl<'a> Refusal<'a> {
             Refusal::Types(refusal) => put_type(out, &refusal.types, &refusal.fault),
             Refusal::Later(pos, word) => put_named(out, *pos, b"unsupported ", *word),
             Refusal::Implementations(count) => put_limit(out, b"implementations", *count),
+            Refusal::Places(count) => put_limit(out, b"places", *count),
+            Refusal::Expanded => put_limit(out, b"expanded", MOST_EXPANDED as usize + 1),
         }
     }
 

@@ -113,14 +113,6 @@ const TYPES: [(&[u8], &[u8]); 9] = [
 
 const LATER: [(&[u8], &[u8]); 8] = [
     (
-        b"procedure P() { while (true) { } }",
-        b"error: 1:17 unsupported while\n",
-    ),
-    (
-        b"procedure P() { goto A; A: return; }",
-        b"error: 1:17 unsupported goto\n",
-    ),
-    (
         b"procedure {:n 1} P(x: int) { }",
         b"error: 1:23 unsupported int\n",
     ),
@@ -129,18 +121,32 @@ const LATER: [(&[u8], &[u8]); 8] = [
         b"error: 1:24 unsupported number\n",
     ),
     (
-        b"procedure P() { } var g: bool;",
-        b"error: 1:19 unsupported var\n",
+        b"procedure P() { } const c: bool;",
+        b"error: 1:19 unsupported const\n",
     ),
+    (
+        b"var g: bool; function f(x: bool): bool;",
+        b"error: 1:14 unsupported function\n",
+    ),
+    (b"type T;", b"error: 1:1 unsupported type\n"),
     (
         b"procedure P(m: [int]bool);",
         b"error: 1:16 unsupported [\n",
     ),
     (
-        b"procedure P() { } procedure Q(); requires true;",
-        b"error: 1:34 unsupported requires\n",
+        b"procedure P() { } procedure Q(); requires true; axiom true;",
+        b"error: 1:49 unsupported axiom\n",
     ),
     (b"axiom true;", b"error: 1:1 unsupported axiom\n"),
+];
+
+const JUDGED: [&[u8]; 6] = [
+    b"procedure P() { while (true) invariant false; { break; } }",
+    b"procedure P() { if (*) { goto A; } else { return; } A: }",
+    b"procedure P() { } var g: bool;",
+    b"procedure P(a: bool) returns (b: bool); requires a; free ensures b == old(a);",
+    b"var g: bool; procedure P(); modifies g; procedure Q() modifies g; { call P(); }",
+    b"procedure P(); implementation P() { } implementation P() { assert true; }",
 ];
 
 #[test]
@@ -150,6 +156,9 @@ fn each_text_has_its_line(rt: HostRuntime) -> Result<(), Fail> {
     }
     for (text, line) in LATER.as_slice() {
         assert!(rt; says(rt.alloc(), *text, *line)?);
+    }
+    for text in JUDGED.as_slice() {
+        assert!(rt; says(rt.alloc(), *text, b"")?);
     }
     Ok(())
 }
@@ -226,5 +235,75 @@ fn ten_thousand_implementations_are_taken(rt: HostRuntime) -> Result<(), Fail> {
     assert!(rt; says(rt.alloc(), &text, b"")?);
     let text = many(rt.alloc(), 10001)?;
     assert!(rt; says(rt.alloc(), &text, b"error: limit implementations 10001\n")?);
+    Ok(())
+}
+
+/// A procedure with so many times this statement, between these texts.
+fn repeated(
+    alloc: Global,
+    front: &[u8],
+    statement: &[u8],
+    count: u32,
+    behind: &[u8],
+) -> Result<Vec<u8>, AllocError> {
+    let mut text = Vec::new(alloc);
+    text.extend_from_slice(front)?;
+    for _ in 0..count {
+        text.extend_from_slice(statement)?;
+    }
+    text.extend_from_slice(behind)?;
+    Ok(text)
+}
+
+/// Implementations with so many assertions.
+fn asserted(alloc: Global, count: u32) -> Result<Vec<u8>, AllocError> {
+    repeated(
+        alloc,
+        b"procedure O() { } procedure P() { ",
+        b"assert true;",
+        count,
+        b" }",
+    )
+}
+
+#[test]
+fn an_implementation_may_have_65535_places(rt: HostRuntime) -> Result<(), Fail> {
+    let text = asserted(rt.alloc(), 65535)?;
+    assert!(rt; says(rt.alloc(), &text, b"")?);
+    let text = asserted(rt.alloc(), 65536)?;
+    assert!(rt; says(rt.alloc(), &text, b"error: limit places 65536\n")?);
+    let text = repeated(
+        rt.alloc(),
+        b"procedure Q(); requires true; free requires true; ensures true; procedure P() { ",
+        b"call Q();",
+        65537,
+        b" } procedure R() { return; }",
+    )?;
+    assert!(rt; says(rt.alloc(), &text, b"error: limit places 65537\n")?);
+    Ok(())
+}
+
+/// A procedure with 999 free clauses, and one that calls it 1,001 times between these texts.
+fn called(alloc: Global, front: &[u8], behind: &[u8]) -> Result<Vec<u8>, AllocError> {
+    let mut text = repeated(
+        alloc,
+        b"procedure Q(); ",
+        b"free requires true;",
+        999,
+        b" procedure P() ",
+    )?;
+    let body = repeated(alloc, front, b"call Q();", 1001, behind)?;
+    text.extend_from_slice(&body)?;
+    Ok(text)
+}
+
+#[test]
+fn an_implementation_may_expand_to_a_million_nodes(rt: HostRuntime) -> Result<(), Fail> {
+    let text = called(rt.alloc(), b"{ ", b"assume (true); }")?;
+    assert!(rt; says(rt.alloc(), &text, b"")?);
+    let text = called(rt.alloc(), b"{ ", b"assume !true; }")?;
+    assert!(rt; says(rt.alloc(), &text, b"error: limit expanded 1000001\n")?);
+    let text = called(rt.alloc(), b"ensures true; { ", b"assume true; }")?;
+    assert!(rt; says(rt.alloc(), &text, b"error: limit expanded 1000001\n")?);
     Ok(())
 }

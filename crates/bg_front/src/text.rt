@@ -10,8 +10,9 @@ ghost use Rattle.bg_front.specs.Programs.{IsMeaningOf, IsProgramOf, IsRefused};
 ghost use Rattle.bg_front.specs.Trees.{IsTreeOf};
 
 use crate::later::first_unjudged;
-use crate::limits::{MOST_BYTES, MOST_IMPLEMENTATIONS};
+use crate::limits::MOST_BYTES;
 use crate::refusal::{ReadError, Refusal};
+use crate::sizes::limit_of;
 use crate::tree::{Read, tree_of};
 use bg_ast::resolved::Resolved;
 use bg_resolve::{ResolveError, resolve};
@@ -69,23 +70,33 @@ fn typed<'a>(
     }
 }
 
-/// The same, where it has few implementations.
-fn counted<'a>(bytes: &'a [u8], tokens: &[Token<'a>], typed: Typed) -> Result<Typed, ReadError<'a>>
+/// The same, where it exceeds no limit.
+fn counted<'a>(
+    alloc: Global,
+    bytes: &'a [u8],
+    tokens: &[Token<'a>],
+    typed: Typed,
+) -> Result<Typed, ReadError<'a>>
     requires meant { IsMeaningOf bytes.now (views tokens.now) (program_of typed.program) }
     requires typed { IsWellTyped (program_of typed.program) }
     requires judged { AreJudged (views tokens.now) }
     ensures program { IfOk result (λ t. IsProgramOf bytes.now (program_of t.program)) }
     ensures refused { IfErr result (λ e. IsRefused bytes.now e) }
 {
-    let count = typed.program.implementations.len();
-    if count > MOST_IMPLEMENTATIONS {
-        return Err(ReadError::Refused(Refusal::Implementations(count)));
+    match limit_of(alloc, &typed.program) {
+        Ok(None) => Ok(typed),
+        Ok(Some(limit)) => Err(ReadError::Refused(limit)),
+        Err(_) => Err(ReadError::Memory),
     }
-    Ok(typed)
 }
 
 /// The same, where each token is judged.
-fn judged<'a>(bytes: &'a [u8], tokens: &[Token<'a>], typed: Typed) -> Result<Typed, ReadError<'a>>
+fn judged<'a>(
+    alloc: Global,
+    bytes: &'a [u8],
+    tokens: &[Token<'a>],
+    typed: Typed,
+) -> Result<Typed, ReadError<'a>>
     requires meant { IsMeaningOf bytes.now (views tokens.now) (program_of typed.program) }
     requires typed { IsWellTyped (program_of typed.program) }
     ensures program { IfOk result (λ t. IsProgramOf bytes.now (program_of t.program)) }
@@ -93,7 +104,7 @@ fn judged<'a>(bytes: &'a [u8], tokens: &[Token<'a>], typed: Typed) -> Result<Typ
 {
     match first_unjudged(tokens) {
         Some((pos, word)) => Err(ReadError::Refused(Refusal::Later(pos, word))),
-        None => counted(bytes, tokens, typed),
+        None => counted(alloc, bytes, tokens, typed),
     }
 }
 
@@ -103,7 +114,7 @@ fn judged<'a>(bytes: &'a [u8], tokens: &[Token<'a>], typed: Typed) -> Result<Typ
 /// `Refused` with the first of these that holds: there are too many bytes (`TooLong`); the bytes hold no tokens (`Bytes`);
 /// the tokens spell no program (`Syntax`) or open a 201st bracket (`Nesting`), whichever comes first; a rule of names
 /// (`Names`) or of types (`Types`) is broken; a token isn't judged yet (`Later`); there are too many implementations
-/// (`Implementations`). `Memory` where memory ran out. Positions are lines and byte columns from 1.
+/// (`Implementations`), or one has too many places (`Places`) or too many expression nodes (`Expanded`). `Memory` where memory ran out. Positions are lines and byte columns from 1.
 pub fn read_program<'a>(alloc: Global, bytes: &'a [u8]) -> Result<Typed, ReadError<'a>>
     ensures program { IfOk result (λ t. IsProgramOf bytes.now (program_of t.program)) }
     ensures refused { IfErr result (λ e. IsRefused bytes.now e) }
@@ -111,5 +122,5 @@ pub fn read_program<'a>(alloc: Global, bytes: &'a [u8]) -> Result<Typed, ReadErr
     let read = read(alloc, bytes)?;
     let program = meaning(alloc, bytes, &read.tokens, &read.tree.decls)?;
     let typed = typed(alloc, bytes, &read.tokens, program)?;
-    judged(bytes, &read.tokens, typed)
+    judged(alloc, bytes, &read.tokens, typed)
 }
