@@ -5,7 +5,7 @@ ghost use Rattle.bg_clause.specs.Views.{form_in, clauses_in};
 ghost use Rattle.bg_clause.specs.Waiting.{waits_of, emitted_all, after_all, size_all};
 
 use crate::clause::add;
-use crate::form::Form;
+use crate::form::{Form, Parts};
 use bg_formula::Literal;
 use std::alloc::{AllocError, Global};
 use std::collections::VecDeque;
@@ -114,36 +114,23 @@ fn emit_one(
     ensures smaller { OnOk result (size_all (map waits_of waiting.new.items) < size_all (waits_of w ∷ map waits_of waiting.old.items)) }
 {
     let Waiting { literals, form } = w;
-    match form {
-        Form::Plain(true) => Ok(()),
-        Form::Plain(false) => add(alloc, out, literals.as_slice()),
-        Form::Is(l) => {
+    match form.parts() {
+        Parts::Plain(true) => Ok(()),
+        Parts::Plain(false) => add(alloc, out, literals.as_slice()),
+        Parts::Is(l) => {
             let mut more = literals;
             more.push(l)?;
             add(alloc, out, more.as_slice())
         }
-        Form::Both(f, g) => wait_both(
-            alloc,
-            waiting,
-            literals,
-            Box::into_inner(f),
-            Box::into_inner(g),
-        ),
-        Form::Either(l, f) => {
+        Parts::Both(f, g) => wait_both(alloc, waiting, literals, f, g),
+        Parts::Either(l, f) => {
             let mut more = literals;
             more.push(l)?;
-            wait(waiting, more, Box::into_inner(f))
+            wait(waiting, more, f)
         }
-        Form::Any(f, g) => {
+        Parts::Any(f, g) => {
             let name = take_next(next)?;
-            wait_any(
-                alloc,
-                waiting,
-                literals,
-                Box::into_inner(f),
-                Box::into_inner(g),
-                name,
-            )
+            wait_any(alloc, waiting, literals, f, g, name)
         }
     }
 }

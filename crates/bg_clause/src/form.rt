@@ -1,19 +1,58 @@
 //! Formulas over truth values in which each denial is one of an atom.
 ghost use Rattle.std.specs.Prelude.{◌≡◌, IfOk};
 ghost use Rattle.bg_clause.specs.Forms.{plain_of, literal_of, is_true, opposite, both_behind, both_of, any_beside, any_behind, any_of, denied, equal_forms};
-ghost use Rattle.bg_clause.specs.Views.{form_in};
+ghost use Rattle.bg_clause.specs.Views.{form_in, parts_in};
 
 use bg_formula::Literal;
 use std::alloc::{AllocError, Global};
 
 /// A form. `Either` is a disjunction with one literal, for which clauses need no name.
-#[derive(Drop)]
 pub enum Form {
     Plain(bool),
     Is(Literal),
     Both(Box<Form>, Box<Form>),
     Either(Literal, Box<Form>),
     Any(Box<Form>, Box<Form>),
+}
+
+/// A form taken apart.
+#[derive(Drop)]
+pub enum Parts {
+    Plain(bool),
+    Is(Literal),
+    Both(Form, Form),
+    Either(Literal, Form),
+    Any(Form, Form),
+}
+
+impl Form {
+    /// The form, taken apart.
+    pub fn parts(self) -> Parts
+        ensures { parts_in result ≡ form_in self }
+    {
+        match self {
+            Form::Plain(b) => Parts::Plain(b),
+            Form::Is(l) => Parts::Is(l),
+            Form::Both(f, g) => Parts::Both(Box::into_inner(f), Box::into_inner(g)),
+            Form::Either(l, f) => Parts::Either(l, Box::into_inner(f)),
+            Form::Any(f, g) => Parts::Any(Box::into_inner(f), Box::into_inner(g)),
+        }
+    }
+}
+
+/// What stands behind others is let go in a loop, since commands make long rows of it.
+impl Drop for Form {
+    fn drop(mut self) {
+        loop {
+            match self {
+                Form::Plain(_) => return,
+                Form::Is(_) => return,
+                Form::Both(_f, g) => self = Box::into_inner(g),
+                Form::Either(_, f) => self = Box::into_inner(f),
+                Form::Any(_f, g) => self = Box::into_inner(g),
+            }
+        }
+    }
 }
 
 fn plain(f: &Form) -> Option<bool>
