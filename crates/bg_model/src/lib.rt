@@ -11,6 +11,8 @@ mod front;
 mod leaf;
 mod share;
 mod spot;
+#[cfg(test)]
+mod tests;
 mod trial;
 mod turn;
 mod turns;
