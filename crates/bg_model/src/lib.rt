@@ -8,8 +8,11 @@ mod exit;
 mod failure;
 mod find;
 mod front;
+mod leaf;
 mod share;
 mod spot;
+#[cfg(test)]
+mod tests;
 mod trial;
 mod turn;
 mod turns;
@@ -17,3 +20,4 @@ mod walk;
 
 pub use failure::Counterexample;
 pub use find::counterexample;
+pub use leaf::leaf_truths;
