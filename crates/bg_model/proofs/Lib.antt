@@ -8,3 +8,4 @@ pub mod Sharing
 pub mod Going
 pub mod Visits
 pub mod Found
+pub mod Leaving

@@ -8,6 +8,7 @@ mod exit;
 mod failure;
 mod find;
 mod front;
+mod leaf;
 mod share;
 mod spot;
 mod trial;
@@ -17,3 +18,4 @@ mod walk;
 
 pub use failure::Counterexample;
 pub use find::counterexample;
+pub use leaf::leaf_truths;
