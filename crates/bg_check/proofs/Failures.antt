@@ -16,7 +16,7 @@ use Rattle.bg_formula.specs.Meaning.{Valuation, clauses_true}
 use Rattle.bg_cert.specs.declared.cert.Node.{Node}
 use Rattle.bg_cert.specs.Certs.{node_of, uses}
 use Rattle.bg_cert.specs.Walks.{no_instance}
-use Rattle.bg_truths.specs.Truths.{is_over_truths}
+use Rattle.bg_fits.specs.Truths.{is_over_truths}
 use Rattle.bg_truths.specs.Passives.{arrivals_in, incarnations_in, passives_in}
 use Rattle.bg_clause.specs.Whole.{clauses_of}
 use Rattle.bg_check.specs.Clauses.{formula_in, formula_with, formula_by}

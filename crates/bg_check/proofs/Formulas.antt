@@ -60,7 +60,7 @@ past_candidates j zero c l = refl
 past_candidates j (suc m) zero l = absurd (omega arith)
 past_candidates j (suc m) (suc c) l = past_candidates (suc j) m c (omega arith)
 
-less_true : (a b : ℕ) → nat_lt a b ≡ true → a < b
+pub less_true : (a b : ℕ) → nat_lt a b ≡ true → a < b
 less_true a b h = grind arith
 
 unit_there : (n j m c : ℕ) → units_below n (map Some (count_from j m)) ≡ true → c < m → j + c < n

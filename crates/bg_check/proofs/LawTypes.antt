@@ -14,24 +14,26 @@ use Rattle.bg_sense.specs.Clauses.{is_kept}
 use Rattle.bg_sense.specs.Variables.{procedure_of}
 use Rattle.bg_sense.specs.Run.{context, induction_run}
 use Rattle.bg_sense.specs.Places.{places}
-use Rattle.bg_sense.specs.Interps.{IsInterp}
+use Rattle.bg_sense.specs.Interps.{IsInterp, Meets}
 use Rattle.bg_sense.specs.Claims.{IsState, Safe, Fails}
 use Rattle.bg_sense.specs.Typing.{AreTypedBodies, IsTypedSt}
 use Rattle.bg_sense.specs.Typed.{IsTyped}
 use Rattle.bg_calls.specs.Core.{frame_decls, routine_of}
 use Rattle.bg_flow.specs.Blocks.{blocks_of}
 use Rattle.bg_passive.specs.Passive.{PassiveBlock, SomeWalk}
-use Rattle.bg_passive.specs.Incarnations.{Arrival, passives, MakesPassive, passive_scope, ValuesFrom}
+use Rattle.bg_passive.specs.Incarnations.{Arrival, passives, MakesPassive, first_state, passive_scope, ValuesFrom}
 use Rattle.bg_passive.specs.Arrivals.{arrived}
 use Rattle.bg_wp.specs.Equations.{is_well, equations}
 use Rattle.bg_formula.specs.Formulas.{Formula, is_whole}
 use Rattle.bg_formula.specs.Meaning.{Valuation, clauses_true, AtomsAgree}
 use Rattle.bg_formula.specs.Instances.{Instance, SignedAtom, atoms_of}
 use Rattle.bg_cert.specs.Certs.{NodeOf, Accepts, HasNoValuation, uses}
+use Rattle.bg_incarnate.specs.Even.{BlocksEven}
+use Rattle.bg_clause.specs.Fitting.{fit_blocks}
 use Rattle.bg_clause.specs.Whole.{clauses_of, truth_values, are_truths}
 use Rattle.bg_places.specs.Placed.{placed, place_in}
-use Rattle.bg_truths.specs.Truths.{is_over_truths}
-use Rattle.bg_truths.specs.Passives.{incarnations_in}
+use Rattle.bg_fits.specs.Truths.{is_over_truths}
+use Rattle.bg_truths.specs.Passives.{blocks_in, incarnations_in, passives_in, no_interp}
 
 abbrev pub FunctionLaw : Type 0
 FunctionLaw = (p : Prog) → IsTyped p → AreTypedBodies p
@@ -113,3 +115,23 @@ abbrev pub InsideLaw : Type 0
 InsideLaw =
     (f : Formula) (set : ℕ → Bool) (adds : Instance → Option (List (List SignedAtom))) (cert : List NodeOf) →
     Accepts f set adds cert → (c : ℕ) → uses cert c ≡ true → set c ≡ true
+
+abbrev pub EvenLaw : Type 0
+EvenLaw =
+    (p : Prog) (k : ℕ) (m : Impl) (q : Proc) → IsTyped p → is_over_truths p ≡ true →
+    slice_get p.implementations k ≡ Some m → procedure_of p m.procedure ≡ Some q → BlocksEven (blocks_in p k m q)
+
+abbrev pub PassFitLaw : Type 0
+PassFitLaw =
+    (p : Prog) (k : ℕ) (m : Impl) (q : Proc) → IsTyped p → is_over_truths p ≡ true →
+    slice_get p.implementations k ≡ Some m → procedure_of p m.procedure ≡ Some q →
+    fit_blocks (length (incarnations_in p k m q)) p.candidates (passives_in p k m q) ≡ true
+
+abbrev pub StartLaw : Type 0
+StartLaw =
+    (p : Prog) (k : ℕ) (m : Impl) (q : Proc) → IsTyped p → is_over_truths p ≡ true →
+    slice_get p.implementations k ≡ Some m → procedure_of p m.procedure ≡ Some q →
+    (truth : ℕ → Bool) → IsState p k (first_state p (frame_decls m q) (truth_values truth (length (incarnations_in p k m q))))
+
+abbrev pub MeetLaw : Type 0
+MeetLaw = (p : Prog) → is_over_truths p ≡ true → Meets p no_interp

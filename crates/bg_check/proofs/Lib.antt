@@ -3,3 +3,7 @@ pub mod Formulas
 pub mod Failures
 pub mod Numbered
 pub mod Safe
+pub mod Leaves
+pub mod Prepares
+pub mod Refutes
+pub mod Judging

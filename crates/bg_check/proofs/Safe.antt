@@ -15,7 +15,7 @@ use Rattle.bg_places.specs.Placed.{place_in, placed_impl}
 use Rattle.bg_cert.specs.declared.cert.Node.{Node}
 use Rattle.bg_cert.specs.Certs.{node_of}
 use Rattle.bg_cert.specs.Walks.{no_instance}
-use Rattle.bg_truths.specs.Truths.{is_over_truths}
+use Rattle.bg_fits.specs.Truths.{is_over_truths}
 use Rattle.bg_check.specs.declared.verdict.Verdict.{Verdict}
 use Rattle.bg_check.specs.declared.verdict.Verdict.TheVariants.{Proved, Refuted, Unknown}
 use Rattle.bg_check.specs.declared.verdict.Judged.{Judged}

@@ -15,7 +15,7 @@ use Rattle.bg_places.specs.Placed.{Placed, placed_impl}
 use Rattle.bg_places.specs.Views.{placed_of}
 use Rattle.bg_replay.specs.Moments.{choice_of}
 use Rattle.bg_replay.specs.Endings.{state_of}
-use Rattle.bg_model.specs.declared.counterexample.Counterexample.{Counterexample}
+use Rattle.bg_model.specs.declared.failure.Counterexample.{Counterexample}
 use Rattle.bg_check.specs.declared.verdict.Verdict.{Verdict}
 use Rattle.bg_check.specs.declared.verdict.Verdict.TheVariants.{Proved, Refuted, Unknown}
 use Rattle.bg_check.specs.declared.verdict.Judged.{Judged}

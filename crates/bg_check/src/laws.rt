@@ -8,7 +8,7 @@ ghost use Rattle.bg_sense.specs.Typed.{IsTyped};
 ghost use Rattle.bg_sense.specs.Claims.{Fails};
 ghost use Rattle.bg_cert.specs.declared.cert.Node.{Node};
 ghost use Rattle.bg_cert.specs.Certs.{node_of, uses};
-ghost use Rattle.bg_truths.specs.Truths.{is_over_truths};
+ghost use Rattle.bg_fits.specs.Truths.{is_over_truths};
 ghost use Rattle.bg_check.specs.declared.verdict.Judged.{Judged};
 ghost use Rattle.bg_check.specs.Verdicts.{HasCertificate, AreRightUnder, AreRight, ProvedAreSafe};
 ghost use Rattle.bg_check.specs.Clauses.{none};

@@ -3,6 +3,13 @@
 #![tactic(auto)]
 
 pub mod laws;
+mod leaf;
+mod place;
+mod prepared;
+mod program;
 mod verdict;
 
+pub use place::check_place;
+pub use prepared::{Prepared, prepare};
+pub use program::check_program;
 pub use verdict::{Judged, Verdict};

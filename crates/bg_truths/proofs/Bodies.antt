@@ -13,7 +13,7 @@ use Rattle.bg_calls.specs.Core.{Demand, Saying, Head, Core, Nil, Seq, Mark, Do, 
 use Rattle.bg_flow.specs.Blocks.{Places, past, next_one, code, to_closing, blocks_of}
 use Rattle.bg_incarnate.specs.Even.{how_many}
 use Rattle.bg_passive.specs.Incarnations.{ty_of}
-use Rattle.bg_truths.specs.Truths.{are_plain, are_plain_clauses, is_plain_guard, is_plain_st}
+use Rattle.bg_fits.specs.Truths.{are_plain, are_plain_clauses, is_plain_guard, is_plain_st}
 use Rattle.bg_truths.proofs.Plain.{OverExs, over_ex, over_exs, exs_even}
 use Rattle.bg_truths.proofs.Cmds.{AreBools, OverDemands, OverSayings, OverList, list_append, list_wider, clauses_wider, over_demands, over_sayings, over_plain, OverPlan, OverCmds, OverGuard, OverBlocks, blocks_append}
 use Rattle.bg_truths.proofs.Decls.{over_clause, over_clauses, OverDecls, decls_wider, decls_bools, decls_wheres, types_count, types_append, OverProc, AreBoolVars, filtered, all_variables, modified_vars, all_changed, var_bools}

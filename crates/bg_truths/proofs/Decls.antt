@@ -10,7 +10,7 @@ use Rattle.bg_sense.specs.Typed.{HasNoOld, IsFormula, MayChange, AreTypedDecls, 
 use Rattle.bg_sense.proofs.Bools.{and_left, and_right}
 use Rattle.bg_sense.proofs.Members.{In, member}
 use Rattle.bg_passive.specs.Incarnations.{ty_of}
-use Rattle.bg_truths.specs.Truths.{is_plain, is_plain_clause, are_plain_clauses, are_plain_wheres, is_truth_decl, are_truth_decls, is_truth_proc, are_truth_procs}
+use Rattle.bg_fits.specs.Truths.{is_plain, is_plain_clause, are_plain_clauses, are_plain_wheres, is_truth_decl, are_truth_decls, is_truth_proc, are_truth_procs}
 use Rattle.bg_truths.proofs.Plain.{OverEx, over_ex}
 use Rattle.bg_truths.proofs.Cmds.{AreBools, OverList, OverClauses, list_append, list_wider}
 

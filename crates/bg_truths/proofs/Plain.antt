@@ -7,7 +7,7 @@ use Rattle.bg_sense.specs.Typing.{Sig, OpHasType, HasType, HaveTypes}
 use Rattle.bg_sense.proofs.Bools.{and_left, and_right}
 use Rattle.bg_clause.specs.Fitting.{joins_truths}
 use Rattle.bg_incarnate.specs.Even.{how_many}
-use Rattle.bg_truths.specs.Truths.{is_truth_op, is_plain, are_plain}
+use Rattle.bg_fits.specs.Truths.{is_truth_op, is_plain, are_plain}
 
 -- an expression over truth values, where there are so many globals and so many variables of the frame
 abbrev pub OverEx : ℕ → ℕ → Ex → Type 0

@@ -1,0 +1,65 @@
+-- Verdicts, one after the other.
+use Rattle.std.proofs.Common.{◌≡◌, ℕ, zero, suc, ◌+◌, ◌<◌, Bool, List, [], ◌∷◌, ◌++◌, length, map, Some, refl, sym, ap, ◌∙◌, subst, take, arith}
+use Rattle.std.specs.Prelude.{slice_get, get_or}
+use Rattle.bg_ast.specs.Syntax.{Prog}
+use Rattle.bg_ast.specs.Resolved as r
+use Rattle.bg_places.specs.declared.place.Place.{Place}
+use Rattle.bg_places.specs.Views.{placed_of, placed_in}
+use Rattle.bg_check.specs.declared.verdict.Judged.{Judged}
+use Rattle.bg_check.proofs.Prepares.{get_some}
+use Rattle.bg_check.specs.Numbered.{OfNumber}
+use Rattle.bg_check.specs.Verdicts.{IsRight, placed_at, AreRightAt, AreRightOf, AreRightFrom}
+
+-- one more verdict
+pub one_more : (budget : ℕ) (p : Prog) (set : ℕ → Bool) (js : List Judged) (j : Judged) → AreRightAt budget p set js → IsRight budget p set (placed_at j).place j.verdict → AreRightAt budget p set (js ++ (j ∷ []))
+one_more budget p set [] j h k = (k, tt)
+one_more budget p set (i ∷ js) j h k = (h.0, one_more budget p set js j h.1 k)
+
+pub places_more : (js : List Judged) (j : Judged) (ps : List Place) (n : ℕ) (x : Place) → map placed_at js ≡ placed_in (take n ps) → n < length ps → j.place ≡ get_or ps n x → map placed_at (js ++ (j ∷ [])) ≡ placed_in (take (n + 1) ps)
+places_more js j ps n x h l e = appended js ∙ (ap (λ xs. xs ++ (placed_at j ∷ [])) h ∙ (ap (λ q. placed_in (take n ps) ++ (placed_of q ∷ [])) e ∙ sym (next ps n l)))
+  where
+    appended : (is : List Judged) → map placed_at (is ++ (j ∷ [])) ≡ map placed_at is ++ (placed_at j ∷ [])
+    appended [] = refl
+    appended (i ∷ is) = ap (λ xs. placed_at i ∷ xs) (appended is)
+
+    next : (qs : List Place) (m : ℕ) → m < length qs → placed_in (take (m + 1) qs) ≡ placed_in (take m qs) ++ (placed_of (get_or qs m x) ∷ [])
+    next [] m k = absurd (omega arith)
+    next (q ∷ qs) zero k = refl
+    next (q ∷ qs) (suc m) k =
+        let s : suc m + 1 ≡ suc (m + 1) = omega arith in
+        ap (λ c. placed_in (take c (q ∷ qs))) s ∙ ap (λ xs. placed_of q ∷ xs) (next qs m (omega arith))
+
+pub number_at : (k : ℕ) (ps : List Place) (n : ℕ) (x : Place) → OfNumber k (placed_in ps) → n < length ps → (get_or ps n x).implementation ≡ k
+number_at k [] n x h l = absurd (omega arith)
+number_at k (q ∷ ps) zero x h l = h.0
+number_at k (q ∷ ps) (suc n) x h l = number_at k ps n x h.1 (omega arith)
+
+-- one more implementation
+pub from_more : (budget : ℕ) (p : r.Program) (set : ℕ → Bool) (k : ℕ) (ms : List r.Impl) (os : List (List Judged)) (m : r.Impl) (js : List Judged) → AreRightFrom budget p set k ms os → AreRightOf budget p set (k + length ms) m js → AreRightFrom budget p set k (ms ++ (m ∷ [])) (os ++ (js ∷ []))
+from_more budget p set k [] [] m js h g =
+    let e : k + 0 ≡ k = omega arith in (subst (λ i. AreRightOf budget p set i m js) e g, tt)
+from_more budget p set k [] (o ∷ os) m js h g = absurd h
+from_more budget p set k (i ∷ ms) [] m js h g = absurd h
+from_more budget p set k (i ∷ ms) (o ∷ os) m js h g =
+    let e : k + suc (length ms) ≡ suc k + length ms = omega arith in
+    (h.0, from_more budget p set (suc k) ms os m js h.1 (subst (λ j. AreRightOf budget p set j m js) e g))
+
+take_next : (xs : List r.Impl) (n : ℕ) (x : r.Impl) → slice_get xs n ≡ Some x → take (n + 1) xs ≡ take n xs ++ (x ∷ [])
+take_next [] n x e = absurd (let bad : ⊥ = cc in bad)
+take_next (y ∷ xs) zero x e = ap (λ z. z ∷ []) (let same : y ≡ x = cc in same)
+take_next (y ∷ xs) (suc n) x e =
+    let s : suc n + 1 ≡ suc (n + 1) = omega arith in
+    ap (λ c. take c (y ∷ xs)) s ∙ ap (λ l. y ∷ l) (take_next xs n x e)
+
+take_long : (xs : List r.Impl) (n : ℕ) → n < length xs → length (take n xs) ≡ n
+take_long [] n l = absurd (omega arith)
+take_long (y ∷ xs) zero l = refl
+take_long (y ∷ xs) (suc n) l = ap (λ i. suc i) (take_long xs n (omega arith))
+
+pub program_more : (budget : ℕ) (p : r.Program) (set : ℕ → Bool) (n : ℕ) (os : List (List Judged)) (js : List Judged) → n < length p.implementations → AreRightFrom budget p set 0 (take n p.implementations) os → ((m : r.Impl) → slice_get p.implementations n ≡ Some m → AreRightOf budget p set n m js) → AreRightFrom budget p set 0 (take (n + 1) p.implementations) (os ++ (js ∷ []))
+program_more budget p set n os js l h g =
+    let x = get_some p.implementations n l in
+    let t = take_long p.implementations n l in
+    let e : n ≡ 0 + length (take n p.implementations) = omega arith in
+    subst (λ ms. AreRightFrom budget p set 0 ms (os ++ (js ∷ []))) (sym (take_next p.implementations n x.0 x.1))
+    (from_more budget p set 0 (take n p.implementations) os x.0 js h (subst (λ k. AreRightOf budget p set k x.0 js) e (g x.0 x.1)))

@@ -1,0 +1,112 @@
+//! What is known of each place of a program.
+ghost use Rattle.std.specs.Prelude.{◌≡◌, ◌<◌, true, Some, map, length, slice_get, IfOk};
+ghost use Rattle.bg_ast.specs.Resolved as r;
+ghost use Rattle.bg_ast.specs.Meaning.{meaning_of};
+ghost use Rattle.bg_ast.specs.Views.{program_of};
+ghost use Rattle.bg_sense.specs.Typed.{IsTyped};
+ghost use Rattle.bg_blocks.specs.Callees.{IsModified};
+ghost use Rattle.bg_places.specs.Views.{placed_of, placed_in};
+ghost use Rattle.bg_cert.specs.Walks.{has};
+ghost use Rattle.bg_fits.specs.Truths.{is_over_truths};
+ghost use Rattle.bg_check.specs.Numbered.{OfNumber};
+ghost use Rattle.bg_check.specs.Prepared.{IsPrepared};
+ghost use Rattle.bg_check.specs.Verdicts.{IsRight, placed_at, AreRightAt, AreRightOf, AreRight, judged};
+
+use crate::place::check_place;
+use crate::prepared::{Prepared, prepare};
+use crate::verdict::Judged;
+use bg_ast::resolved::{Resolved, Variable};
+use bg_blocks::callees_of;
+use bg_places::{Place, places_of};
+use std::alloc::{AllocError, Global};
+
+/// What is known of a place of the implementation with this number.
+fn judge(
+    alloc: Global,
+    program: &Resolved,
+    prepared: &Prepared<'_>,
+    number: usize,
+    place: &Place,
+    set: &[bool],
+    budget: u32,
+) -> Result<Judged, AllocError>
+    requires typed { IsTyped (meaning_of (program_of program.now)) }
+    requires truths { is_over_truths (meaning_of (program_of program.now)) ≡ true }
+    requires prepared { IsPrepared (program_of program.now) number prepared.now }
+    requires here { place.now.implementation ≡ number }
+    ensures place { IfOk result (λ j. j.place ≡ place.now) }
+    ensures right { IfOk result (λ j. IsRight budget (meaning_of (program_of program.now)) (has set.now) (placed_at j).place j.verdict) }
+{
+    let verdict = check_place(alloc, program, prepared, place, set, budget)?;
+    Ok(Judged {
+        place: *place,
+        verdict,
+    })
+}
+
+/// What is known of each of these places of the implementation with this number.
+fn judge_places(
+    alloc: Global,
+    program: &Resolved,
+    prepared: &Prepared<'_>,
+    number: usize,
+    places: &[Place],
+    set: &[bool],
+    budget: u32,
+) -> Result<Vec<Judged>, AllocError>
+    requires typed { IsTyped (meaning_of (program_of program.now)) }
+    requires truths { is_over_truths (meaning_of (program_of program.now)) ≡ true }
+    requires prepared { IsPrepared (program_of program.now) number prepared.now }
+    requires numbered { OfNumber number (placed_in places.now) }
+    ensures places { IfOk result (λ made. map placed_at made.items ≡ placed_in places.now) }
+    ensures right { IfOk result (λ made. AreRightAt budget (meaning_of (program_of program.now)) (has set.now) made.items) }
+{
+    let mut made = Vec::new(alloc);
+    for place in places {
+        let one = judge(alloc, program, prepared, number, place, set, budget)?;
+        made.push(one)?;
+    }
+    Ok(made)
+}
+
+/// What is known of each place of the implementation with this number.
+fn judge_implementation(
+    alloc: Global,
+    program: &Resolved,
+    callees: &[Vec<Variable>],
+    number: usize,
+    set: &[bool],
+    budget: u32,
+) -> Result<Vec<Judged>, AllocError>
+    requires typed { IsTyped (meaning_of (program_of program.now)) }
+    requires truths { is_over_truths (meaning_of (program_of program.now)) ≡ true }
+    requires modified { IsModified (program_of program.now) callees.now }
+    requires there { number < length program.now.implementations.items }
+    ensures { IfOk result (λ made. (m : r.Impl) → slice_get (program_of program.now).implementations number ≡ Some m → AreRightOf budget (program_of program.now) (has set.now) number m made.items) }
+{
+    let prepared = prepare(alloc, program, callees, number)?;
+    let places = places_of(alloc, program, number)?;
+    judge_places(alloc, program, &prepared, number, &places, set, budget)
+}
+
+/// What is known of each place of a typed program over truth values, by implementation and place, under the empty set of candidates.
+/// A search makes at most `budget` inner nodes.
+///
+/// Only want of memory is an error; 2^32 incarnations, atoms or branches of an implementation count as such.
+pub fn check_program(
+    alloc: Global,
+    program: &Resolved,
+    budget: u32,
+) -> Result<Vec<Vec<Judged>>, AllocError>
+    requires typed { IsTyped (meaning_of (program_of program.now)) }
+    requires truths { is_over_truths (meaning_of (program_of program.now)) ≡ true }
+    ensures right { IfOk result (λ outcome. AreRight budget (program_of program.now) (judged outcome.items)) }
+{
+    let callees = callees_of(alloc, program)?;
+    let mut outcome = Vec::new(alloc);
+    for number in 0..program.implementations.len() {
+        let made = judge_implementation(alloc, program, &callees, number, &[], budget)?;
+        outcome.push(made)?;
+    }
+    Ok(outcome)
+}
