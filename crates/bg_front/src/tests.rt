@@ -238,72 +238,75 @@ fn ten_thousand_implementations_are_taken(rt: HostRuntime) -> Result<(), Fail> {
     Ok(())
 }
 
-/// A procedure with so many times this statement, between these texts.
+/// This text so many times, between two others.
 fn repeated(
     alloc: Global,
     front: &[u8],
-    statement: &[u8],
+    part: &[u8],
     count: u32,
     behind: &[u8],
 ) -> Result<Vec<u8>, AllocError> {
     let mut text = Vec::new(alloc);
     text.extend_from_slice(front)?;
     for _ in 0..count {
-        text.extend_from_slice(statement)?;
+        text.extend_from_slice(part)?;
     }
     text.extend_from_slice(behind)?;
     Ok(text)
 }
 
-/// Implementations with so many assertions.
-fn asserted(alloc: Global, count: u32) -> Result<Vec<u8>, AllocError> {
-    repeated(
-        alloc,
-        b"procedure O() { } procedure P() { ",
-        b"assert true;",
-        count,
-        b" }",
-    )
-}
-
-#[test]
-fn an_implementation_may_have_65535_places(rt: HostRuntime) -> Result<(), Fail> {
-    let text = asserted(rt.alloc(), 65535)?;
-    assert!(rt; says(rt.alloc(), &text, b"")?);
-    let text = asserted(rt.alloc(), 65536)?;
-    assert!(rt; says(rt.alloc(), &text, b"error: limit places 65536\n")?);
-    let text = repeated(
-        rt.alloc(),
-        b"procedure Q(); requires true; free requires true; ensures true; procedure P() { ",
-        b"call Q();",
-        65537,
-        b" } procedure R() { return; }",
-    )?;
-    assert!(rt; says(rt.alloc(), &text, b"error: limit places 65537\n")?);
-    Ok(())
-}
-
-/// A procedure with 999 free clauses, and one that calls it 1,001 times between these texts.
-fn called(alloc: Global, front: &[u8], behind: &[u8]) -> Result<Vec<u8>, AllocError> {
+/// A procedure with so many clauses, and one that calls it so often between these texts.
+fn called(
+    alloc: Global,
+    clause: (&[u8], u32),
+    front: &[u8],
+    count: u32,
+    behind: &[u8],
+) -> Result<Vec<u8>, AllocError> {
     let mut text = repeated(
         alloc,
         b"procedure Q(); ",
-        b"free requires true;",
-        999,
+        clause.0,
+        clause.1,
         b" procedure P() ",
     )?;
-    let body = repeated(alloc, front, b"call Q();", 1001, behind)?;
+    let body = repeated(alloc, front, b"call Q();", count, behind)?;
     text.extend_from_slice(&body)?;
     Ok(text)
 }
 
+/// 255 calls with 257 places each, between these texts.
+fn crowded(alloc: Global, front: &[u8], behind: &[u8]) -> Result<Vec<u8>, AllocError> {
+    called(alloc, (b"requires true;", 257), front, 255, behind)
+}
+
+#[test]
+fn an_implementation_may_have_65535_places(rt: HostRuntime) -> Result<(), Fail> {
+    let text = crowded(rt.alloc(), b"free ensures true; { ", b" }")?;
+    assert!(rt; says(rt.alloc(), &text, b"")?);
+    let text = crowded(rt.alloc(), b"{ assert true; ", b" }")?;
+    assert!(rt; says(rt.alloc(), &text, b"error: limit places 65536\n")?);
+    let text = crowded(
+        rt.alloc(),
+        b"ensures true; { ",
+        b" while (true) invariant true; { } }",
+    )?;
+    assert!(rt; says(rt.alloc(), &text, b"error: limit places 65538\n")?);
+    Ok(())
+}
+
+/// 1,001 calls with 999 nodes each, between these texts.
+fn expanded(alloc: Global, front: &[u8], behind: &[u8]) -> Result<Vec<u8>, AllocError> {
+    called(alloc, (b"free requires true;", 999), front, 1001, behind)
+}
+
 #[test]
 fn an_implementation_may_expand_to_a_million_nodes(rt: HostRuntime) -> Result<(), Fail> {
-    let text = called(rt.alloc(), b"{ ", b"assume (true); }")?;
+    let text = expanded(rt.alloc(), b"{ ", b"assume (true); }")?;
     assert!(rt; says(rt.alloc(), &text, b"")?);
-    let text = called(rt.alloc(), b"{ ", b"assume !true; }")?;
+    let text = expanded(rt.alloc(), b"{ ", b"assume !true; }")?;
     assert!(rt; says(rt.alloc(), &text, b"error: limit expanded 1000001\n")?);
-    let text = called(rt.alloc(), b"ensures true; { ", b"assume true; }")?;
+    let text = expanded(rt.alloc(), b"ensures true; { ", b"assume true; }")?;
     assert!(rt; says(rt.alloc(), &text, b"error: limit expanded 1000001\n")?);
     Ok(())
 }
