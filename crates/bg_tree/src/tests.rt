@@ -1,5 +1,5 @@
 //! The search on formulas made by hand, with ample memory, and its certificates checked again.
-use crate::{Outcome, search};
+use crate::{Hint, Outcome, index_of, search};
 use bg_cert::{Node, accepts, used};
 use bg_formula::{Atom, Clauses, Literal, is_whole};
 use std::alloc::Global;
@@ -149,5 +149,31 @@ fn push(alloc: Global, f: &mut Clauses, literals: &[(u32, bool)]) -> Result<(), 
         })?;
     }
     f.clauses.push(clause)?;
+    Ok(())
+}
+
+fn lengths(alloc: Global, lists: &[Vec<Hint>]) -> Result<Vec<usize>, Fail> {
+    let mut made = Vec::new(alloc);
+    for list in lists {
+        made.push(list.len())?;
+    }
+    Ok(made)
+}
+
+/// A literal's list names no other clauses than its own.
+#[test]
+fn lists_are_as_short_as_can_be(rt: HostRuntime) -> Result<(), Fail> {
+    let alloc = rt.alloc();
+    let clauses: [&[(u32, bool)]; 2] = [&[(0, true), (1, true)], &[(0, true), (1, false)]];
+    let f = formula(alloc, 2, &clauses, &[None, Some(1)])?;
+    if !is_whole(&f) {
+        return Err("an atom isn't there".into());
+    }
+    let i = index_of(alloc, &f, &[true, true])?;
+    assert!(rt; i.start.len() == 3);
+    let yes = lengths(alloc, &i.yes)?;
+    let no = lengths(alloc, &i.no)?;
+    assert!(rt; yes.as_slice() == &[2, 2][..]);
+    assert!(rt; no.as_slice() == &[0, 1][..]);
     Ok(())
 }
