@@ -1,6 +1,7 @@
 //! The program: the top call over the files and the streams of the system.
 #![tactic(auto)]
 
+use bg_claims::FreeGate;
 use bg_io::{RealFiles, StdSink};
 use bg_tool::{Status, run};
 use std::alloc::AllocError;
@@ -24,6 +25,6 @@ fn main(rt: HostRuntime) -> ExitCode {
     let mut files = RealFiles::new(&rt);
     let mut out = StdSink::new(rt.stdout());
     let mut err = StdSink::new(rt.stderr());
-    let status = run(&rt, &words, &mut files, &mut out, &mut err);
+    let status = run(&rt, &words, &mut files, &mut out, &mut err, &FreeGate);
     ExitCode::from(status.number())
 }

@@ -5,7 +5,7 @@ use Rattle.std.proofs.lemmas.List.{length-replicate}
 use Rattle.bg_io.specs.Causes.{joined_text, IsTextOf, IsTextOver}
 use Rattle.bg_ast.specs.Resolved.{Program}
 use Rattle.bg_front.specs.Programs.{IsProgramOf, IsRefusedBy, without_name}
-use Rattle.bg_front.specs.Refusals.{Refusal, TooLong, Bytes, Syntax, Nesting, Names, Types, Later, Implementations, is_limit}
+use Rattle.bg_front.specs.Refusals.{Refusal, TooLong, Bytes, Syntax, Nesting, Names, Types, Later, Implementations, Places, Expanded, is_limit}
 use Rattle.bg_tool.specs.declared.status.Status.{Status}
 use Rattle.bg_tool.specs.declared.status.Status.TheVariants as status
 use Rattle.bg_tool.specs.Statuses.{refusal_status, is_report, is_refused}
@@ -29,6 +29,8 @@ with_is (Names f) = refl
 with_is (Types ds f) = refl
 with_is (Later p w) = refl
 with_is (Implementations n) = refl
+with_is (Places n) = refl
+with_is Expanded = refl
 
 pub status_refuses : (r : Refusal) → IsTrue (is_refused (refusal_status r))
 status_refuses r = subst (λ s. IsTrue (is_refused s)) (sym (with_is r)) (refuses (is_limit r))
@@ -43,6 +45,8 @@ nameless (Names f) = refl
 nameless (Types ds f) = refl
 nameless (Later p w) = refl
 nameless (Implementations n) = refl
+nameless (Places n) = refl
+nameless Expanded = refl
 
 -- what is known of texts
 pub record Known : Type 0 where

@@ -5,8 +5,8 @@ use Rattle.bg_ast.specs.Resolved.{Program}
 use Rattle.bg_front.specs.Programs.{IsProgramOf, IsRefusedBy}
 use Rattle.bg_front.specs.Refusals.{Refusal}
 use Rattle.bg_front.specs.Lines.{line_of}
-use Rattle.bg_judge.specs.declared.check.Verdict.{Verdict}
-use Rattle.bg_judge.specs.Verdicts.{AreRight}
+use Rattle.bg_check.specs.declared.verdict.Judged.{Judged}
+use Rattle.bg_check.specs.Verdicts.{AreRight}
 use Rattle.bg_told.specs.Report.{result_text}
 use Rattle.bg_told.specs.Words.{word_for}
 use Rattle.bg_tool.specs.Safety.{VerifiedAreSafe}
@@ -20,7 +20,7 @@ use Rattle.bg_cli.specs.Cli.{IsTaken, files_in}
 pub record IsReport (budget : ℕ) (bytes : List ℕ) (ends : Status) (text : List ℕ) : Type 0 where
   pub program : Program
   pub spelled : IsProgramOf bytes program
-  pub outcome : List (List Verdict)
+  pub outcome : List (List Judged)
   pub right : AreRight budget program outcome
   pub safe : VerifiedAreSafe program 0 outcome
   pub is : text ≡ result_text program outcome

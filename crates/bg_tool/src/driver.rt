@@ -13,12 +13,14 @@ ghost use Rattle.bg_tool.specs.Answers.{Reported, ReportedSome, RefusedFor, IsRe
 
 use crate::status::Status;
 use bg_ast::resolved::Resolved;
+use bg_check::check_program;
+use bg_check::laws::proved_is_safe;
+use bg_claims::Gate;
 use bg_cli::{LineError, read_line};
-use bg_fits::is_straight;
+use bg_fits::is_over_truths;
 use bg_front::laws::{a_text_has_one_program_or_one_refusal, programs_are_typed};
 use bg_front::{MOST_BYTES, ReadError as TextError, Refusal, read_program};
 use bg_io::{Files, ReadError, Sink, read_all, write_all};
-use bg_judge::{check_program, proved_is_safe};
 use bg_told::{Word, result_text, verified_is_all_proved, word_of};
 use std::alloc::{AllocError, Global};
 
@@ -34,14 +36,14 @@ fn status_of(word: Word) -> Status
     }
 }
 
-/// The report of a typed program, and the status that its verdicts give. A program whose forms aren't judged yet has none: its text
-/// is refused before, and here it is want of memory.
+/// The report of a typed program, and the status that its verdicts give. A program that isn't one over truth values has none: its
+/// text is refused before, and here it is want of memory.
 fn report_of(alloc: Global, program: &Resolved, nodes: u32) -> Result<(Status, Vec<u8>), AllocError>
     requires typed { IsTyped (meaning_of (program_of program.now)) }
     ensures report { IfOk result (λ r. (bytes : List ℕ) → IsProgramOf bytes (program_of program.now) → IsReport nodes bytes r.0 r.1.items) }
     ensures ends { IfOk result (λ r. IsTrue (is_report r.0)) }
 {
-    if !is_straight(program) {
+    if !is_over_truths(program) {
         return Err(AllocError);
     }
     let outcome = check_program(alloc, program, nodes)?;
@@ -189,13 +191,14 @@ fn names_of(alloc: Global, files: &[&str]) -> Result<Vec<String>, AllocError>
 }
 
 /// Judges the program of the files that the words name, and writes its report to `out`; a refusal is one line on `err`.
-/// The first word is the program's own name.
-pub fn run<R: AllocGlobal, F: Files, S: Sink, E: Sink>(
+/// The first word is the program's own name. Workers that check places of candidates pass the gate before each; there are none yet.
+pub fn run<R: AllocGlobal, F: Files, S: Sink, E: Sink, G: Gate>(
     rt: &R,
     words: &[String],
     files: &mut F,
     out: &mut S,
     err: &mut E,
+    _gate: &G,
 ) -> Status
     ensures taken { (IsTrue (is_report result) ⊎ (IsTrue (is_refused result) ⊎ (result ≡ Status.Read))) → IsTaken (texts_of words.now) }
     ensures report { IsTrue (is_report result) → Wrote (nodes_in (texts_of words.now)) (F.contents files.old) (files_in (texts_of words.now)) result (S.written out.old) (S.written out.new) }

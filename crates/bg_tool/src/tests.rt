@@ -1,9 +1,6 @@
 use super::*;
-use bg_fits::is_straight;
-use bg_front::laws::programs_are_typed;
-use bg_front::read_program;
+use bg_claims::FreeGate;
 use bg_io::{MemFiles, MemSink, StoredFile};
-use bg_judge::{Ending, Node, accepts, entry_width, replay};
 use std::alloc::{AllocError, Global};
 use std::test::Fail;
 
@@ -45,7 +42,7 @@ fn verify(
     let mut out = MemSink::new(alloc, 10_000, most, [fails[1]].to_vec(alloc)?)?;
     let mut err = MemSink::new(alloc, 10_000, None, [fails[2]].to_vec(alloc)?)?;
     let words = words_of(alloc, words)?;
-    let status = run(rt, &words, &mut files, &mut out, &mut err);
+    let status = run(rt, &words, &mut files, &mut out, &mut err, &FreeGate);
     Ok(Ended {
         status,
         out: out.bytes().to_vec(alloc)?,
@@ -231,55 +228,92 @@ fn each_fault_has_its_status_and_leaves_a_front(rt: HostRuntime) -> Result<(), F
     Ok(())
 }
 
-#[test]
-fn a_certificate_is_accepted_and_half_of_one_is_not(rt: HostRuntime) -> Result<(), Fail> {
-    let alloc = rt.alloc();
-    let text = b"procedure P(a: bool, b: bool) { assert a == a; assert a == b; }";
-    let Ok(typed) = read_program(alloc, text) else {
-        panic!(rt; "the text spells a program");
-    };
-    let Some(first) = typed.program.implementations.first() else {
-        panic!(rt; "there is an implementation");
-    };
-    let table: [(usize, &[Node], bool); 5] = [
-        (0, &[Node::Closed], true),
-        (0, &[Node::Split(1), Node::Closed, Node::Closed], true),
-        (0, &[Node::Split(1), Node::Closed], false),
-        (1, &[Node::Closed], false),
-        (0, &[Node::Open], false),
-    ];
-    for (target, nodes, want) in table {
-        let got = accepts(alloc, &first.body, 2, target, nodes)?;
-        assert_eq!(rt; got, want, "{target} {nodes:?}");
-    }
-    Ok(())
-}
+// A text, the status that it has, and the lines of its report between the second and the summary.
+type Judged<'a> = (&'a str, Status, &'a str);
+
+const BUMP: &str = "var g: bool;\nprocedure Bump(); modifies g;\nprocedure P() modifies g; {\n  var k: bool;\n  k := false;\n  while (!k) { call Bump(); k := true; }\n  assert g == old(g);\n}";
+
+const TWO: &str = "procedure Q() returns (r: bool); ensures r;\nimplementation Q() returns (s: bool) { s := true; }\nimplementation Q() returns (r: bool) { r := false; }";
+
+const LOOP: &str = "procedure L(n: bool) {\n  var i: bool;\n  i := false;\n  while (i != n)\n    invariant i ==> n;\n  { i := true; }\n  assert i == n;\n}";
+
+const TURN: &str = "procedure L() {\n  var i: bool;\n  i := true;\n  while (*)\n    invariant i;\n  { i := false; }\n}";
+
+const GLOBAL: &str = "var g: bool;\nprocedure Flip() returns (was: bool); modifies g; ensures g == !old(g) && was == old(g);\nprocedure P() modifies g; ensures g == old(g); { call g := Flip(); }";
 
 #[test]
-fn a_counterexample_is_replayed(rt: HostRuntime) -> Result<(), Fail> {
-    let alloc = rt.alloc();
-    let text = b"procedure P(a: bool) { var b: bool; havoc b; assume b; assert true; assert a; }";
-    let Ok(typed) = read_program(alloc, text) else {
-        panic!(rt; "the text spells a program");
-    };
-    programs_are_typed();
-    if !is_straight(&typed.program) {
-        panic!(rt; "the program is judged");
-    }
-    if typed.program.implementations.is_empty() {
-        panic!(rt; "there is an implementation");
-    }
-    let width = entry_width(&typed.program, 0)?;
-    let table: [(bool, &[bool], Ending); 4] = [
-        (false, &[true], Ending::Failed(1)),
-        (true, &[true], Ending::Ended),
-        (true, &[false], Ending::Blocked),
-        (true, &[], Ending::BadChoice),
+fn each_statement_is_judged(rt: HostRuntime) -> Result<(), Fail> {
+    let table: [Judged; 14] = [
+        (
+            "procedure P() returns (r: bool, s: bool) ensures r || s; { goto A, B; A: r := true; return; B: s := true; }",
+            Status::Verified,
+            "implementation P 1:1 verified\n",
+        ),
+        (
+            BUMP,
+            Status::Refuted,
+            "implementation P 3:1 refuted\n  refuted assert 7:3\n",
+        ),
+        (
+            TWO,
+            Status::Refuted,
+            "implementation Q 2:1 verified\nimplementation Q 3:1 refuted\n  refuted postcondition 1:34\n",
+        ),
+        (
+            "procedure Q(x: bool); requires x;\nprocedure C() { call Q(true); call Q(false); }",
+            Status::Refuted,
+            "implementation C 2:1 refuted\n  refuted precondition 2:31 of 1:23\n",
+        ),
+        (
+            "procedure P() { var x: bool; goto A, B; A: x := true; goto C; B: x := false; C: assert x; }",
+            Status::Refuted,
+            "implementation P 1:1 refuted\n  refuted assert 1:81\n",
+        ),
+        (
+            "procedure P() { var k: bool; k := false; while (true) invariant !k; { break; } assert !k; }",
+            Status::Verified,
+            "implementation P 1:1 verified\n",
+        ),
+        (LOOP, Status::Verified, "implementation L 1:1 verified\n"),
+        (
+            TURN,
+            Status::Refuted,
+            "implementation L 1:1 refuted\n  refuted invariant turn 5:5\n",
+        ),
+        (
+            "procedure Q() returns (r: bool) free ensures r; { r := false; }\nprocedure C() { var a: bool; call a := Q(); assert a; }",
+            Status::Verified,
+            "implementation Q 1:1 verified\nimplementation C 2:1 verified\n",
+        ),
+        (
+            "procedure P(a: bool) { L: while (*) invariant a == a; { while (*) { break L; } assert false; } assert a; E: }",
+            Status::Refuted,
+            "implementation P 1:1 refuted\n  refuted assert 1:80\n",
+        ),
+        (
+            "procedure P(a: bool) returns (b: bool) ensures b == a; { b := a; while (false) { b := !b; } }",
+            Status::Verified,
+            "implementation P 1:1 verified\n",
+        ),
+        (GLOBAL, Status::Verified, "implementation P 3:1 verified\n"),
+        (
+            "var g: bool; procedure P() modifies g; ensures g == old(g); { g := !g; g := !g; }",
+            Status::Verified,
+            "implementation P 1:14 verified\n",
+        ),
+        (
+            "procedure P(a: bool) requires a; free requires a; { if (a) { return; } else if (*) { assert false; } assert false; }",
+            Status::Verified,
+            "implementation P 1:1 verified\n",
+        ),
     ];
-    for (value, choices, want) in table {
-        let entry = vec![in alloc; value; width]?;
-        let got = replay(alloc, &typed.program, 0, &entry, choices)?;
-        assert_eq!(rt; got, want, "{value} {choices:?}");
+    for (text, status, lines) in table {
+        let ended = verify(&rt, &["bg", "verify", "a.bpl"], text, [0; 3], None)?;
+        assert_eq!(rt; ended.status, status, "{text}");
+        let want = lines.as_bytes();
+        let from = "axioms: consistent\nretained set: greatest\n".len();
+        assert!(rt; ended.out.len() >= from + want.len(), "{text}");
+        assert_eq!(rt; &ended.out[from..from + want.len()], want, "{text}");
     }
     Ok(())
 }
