@@ -8,4 +8,3 @@ pub mod Sharing
 pub mod Going
 pub mod Visits
 pub mod Found
-pub mod Leaving

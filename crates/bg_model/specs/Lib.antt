@@ -4,4 +4,3 @@ pub mod Over
 pub mod Views
 pub mod Shares
 pub mod Counterexamples
-pub mod Leaves

@@ -8,7 +8,6 @@ mod exit;
 mod failure;
 mod find;
 mod front;
-mod leaf;
 mod share;
 mod spot;
 #[cfg(test)]
@@ -20,4 +19,3 @@ mod walk;
 
 pub use failure::Counterexample;
 pub use find::counterexample;
-pub use leaf::leaf_truths;

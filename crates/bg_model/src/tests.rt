@@ -1,9 +1,8 @@
 //! Counterexamples of blocks that are made by hand, with ample memory.
-use crate::{counterexample, leaf_truths};
+use crate::counterexample;
 use bg_ast::resolved::{Clause, Expr, Resolved, Variable};
 use bg_base::Pos;
 use bg_blocks::{Block, Cmd, Exit};
-use bg_cert::Decision;
 use bg_incarnate::passive;
 use bg_places::{Group, Spot};
 use bg_replay::Choice;
@@ -121,18 +120,5 @@ fn choices_end_at_the_check_that_fails(rt: HostRuntime) -> Result<(), Fail> {
             (_, _) => return Err("another answer".into()),
         }
     }
-    Ok(())
-}
-
-#[test]
-fn leaves_are_read(rt: HostRuntime) -> Result<(), Fail> {
-    let alloc = rt.alloc();
-    let leaf = [
-        Decision::Atom(2, true),
-        Decision::Atom(0, false),
-        Decision::Atom(1, true),
-    ];
-    let truths = leaf_truths(alloc, 3, &leaf)?;
-    assert!(rt; truths.len() == 3 && !truths[0] && truths[1] && truths[2]);
     Ok(())
 }
