@@ -53,23 +53,48 @@ fn note(p: &mut Probe, count: u32) -> Option<u32> {
     found
 }
 
-/// An atom of which each undecided literal of the clause makes the same, or that of a literal which can't be true.
-fn look(f: &Clauses, i: &Index, trail: &Trail, p: &mut Probe, clause: &[Literal]) -> Option<u32> {
+/// The atom of an undecided literal of the clause that can't be true.
+fn look_for_false(
+    f: &Clauses,
+    i: &Index,
+    trail: &Trail,
+    p: &mut Probe,
+    clause: &[Literal],
+) -> Option<u32> {
+    for l in clause {
+        if value_of(trail, p, l.atom).is_none() {
+            assume(p, *l);
+            let fails = spread(f, i, trail, p);
+            forget(p);
+            if fails {
+                return Some(l.atom);
+            }
+        }
+    }
+    None
+}
+
+/// An atom that has one value behind each undecided literal of the clause.
+fn look_for_common(
+    f: &Clauses,
+    i: &Index,
+    trail: &Trail,
+    p: &mut Probe,
+    clause: &[Literal],
+) -> Option<u32> {
     p.turn = p.turn.wrapping_add(1);
     let mut found = None;
-    let mut count = 0;
+    let mut count: u32 = 0;
     for l in clause {
         if value_of(trail, p, l.atom).is_none() {
             if count >= MOST_LITERALS {
                 return None;
             }
             assume(p, *l);
-            let fails = spread(f, i, trail, p);
-            found = if fails { Some(l.atom) } else { note(p, count) };
+            let _ = spread(f, i, trail, p);
+            found = note(p, count);
             forget(p);
-            if fails || found.is_none() {
-                return found;
-            }
+            found?;
             count = count.saturating_add(1);
         }
     }
@@ -116,6 +141,7 @@ fn look_at(
     p: &mut Probe,
     hint: Hint,
     left: &mut u32,
+    common: bool,
 ) -> Option<u32> {
     let Hint::Nth(k) = hint else {
         return None;
@@ -125,7 +151,11 @@ fn look_at(
         return None;
     }
     *left -= 1;
-    look(f, i, trail, p, clause)
+    if common {
+        look_for_common(f, i, trail, p, clause)
+    } else {
+        look_for_false(f, i, trail, p, clause)
+    }
 }
 
 /// An atom to split by what a decision's clauses tell.
@@ -136,35 +166,36 @@ fn look_along(
     p: &mut Probe,
     row: usize,
     left: &mut u32,
+    common: bool,
 ) -> Option<u32> {
     for hint in row_at(i, trail, row) {
-        if let Some(a) = look_at(f, i, trail, p, *hint, left) {
+        if let Some(a) = look_at(f, i, trail, p, *hint, left, common) {
             return Some(a);
         }
     }
     None
 }
 
-/// An atom to split by what the clauses of the last decisions tell.
-fn candidate(f: &Clauses, i: &Index, trail: &Trail, p: &mut Probe) -> Option<u32> {
+/// An atom to split by what the open clauses of the last decisions tell: of literals that can't be true, or of what all literals of a
+/// clause have in common.
+fn candidate(f: &Clauses, i: &Index, trail: &Trail, p: &mut Probe, common: bool) -> Option<u32> {
     let mut left = MOST_CLAUSES;
     let rows = trail.decisions.len();
     for back in 0..rows {
         if left == 0 {
             return None;
         }
-        if let Some(a) = look_along(f, i, trail, p, rows - back, &mut left) {
+        if let Some(a) = look_along(f, i, trail, p, rows - back, &mut left, common) {
             return Some(a);
         }
     }
     None
 }
 
-/// An undecided atom of an open clause, chosen by a look ahead; none where the look tells nothing.
-pub fn suggest(f: &Clauses, i: &Index, trail: &Trail, p: &mut Probe) -> Option<u32>
+/// The atom, where it is undecided and stands in a clause without a true literal.
+fn if_open(f: &Clauses, i: &Index, trail: &Trail, a: u32) -> Option<u32>
     ensures { IfSome result (λ a. IsOpenAt trail.now.decisions.items (map (λ c. c.items) f.now.clauses.items) a) }
 {
-    let a = candidate(f, i, trail, p)?;
     if is_decided(trail, a as usize) {
         return None;
     }
@@ -174,5 +205,18 @@ pub fn suggest(f: &Clauses, i: &Index, trail: &Trail, p: &mut Probe) -> Option<u
         Some(a)
     } else {
         None
+    }
+}
+
+/// An undecided atom of an open clause, chosen by a look ahead; none where the look tells nothing.
+pub fn suggest(f: &Clauses, i: &Index, trail: &Trail, p: &mut Probe) -> Option<u32>
+    ensures { IfSome result (λ a. IsOpenAt trail.now.decisions.items (map (λ c. c.items) f.now.clauses.items) a) }
+{
+    match candidate(f, i, trail, p, false) {
+        Some(a) => if_open(f, i, trail, a),
+        None => match candidate(f, i, trail, p, true) {
+            Some(a) => if_open(f, i, trail, a),
+            None => None,
+        },
     }
 }
