@@ -13,8 +13,13 @@ use crate::rows::{hints_at, row_at};
 use bg_cert::Trail;
 use bg_formula::{Clauses, Literal};
 
-/// How many clauses are looked at for one split, and how many literals one of them may leave undecided.
-const MOST_CLAUSES: u32 = 64;
+/// How many clauses are looked at for one split.
+const MOST_CLAUSES: u32 = 4096;
+
+/// How many splits at most are chosen without a look, where looks tell nothing.
+const MOST_REST: u32 = 1024;
+
+/// How many literals a clause may leave undecided.
 
 const MOST_LITERALS: u32 = 4;
 
@@ -53,23 +58,48 @@ fn note(p: &mut Probe, count: u32) -> Option<u32> {
     found
 }
 
-/// An atom of which each undecided literal of the clause makes the same, or that of a literal which can't be true.
-fn look(f: &Clauses, i: &Index, trail: &Trail, p: &mut Probe, clause: &[Literal]) -> Option<u32> {
+/// The atom of an undecided literal of the clause that can't be true.
+fn look_for_false(
+    f: &Clauses,
+    i: &Index,
+    trail: &Trail,
+    p: &mut Probe,
+    clause: &[Literal],
+) -> Option<u32> {
+    for l in clause {
+        if value_of(trail, p, l.atom).is_none() {
+            assume(p, *l);
+            let fails = spread(f, i, trail, p);
+            forget(p);
+            if fails {
+                return Some(l.atom);
+            }
+        }
+    }
+    None
+}
+
+/// An atom that has one value behind each undecided literal of the clause.
+fn look_for_common(
+    f: &Clauses,
+    i: &Index,
+    trail: &Trail,
+    p: &mut Probe,
+    clause: &[Literal],
+) -> Option<u32> {
     p.turn = p.turn.wrapping_add(1);
     let mut found = None;
-    let mut count = 0;
+    let mut count: u32 = 0;
     for l in clause {
         if value_of(trail, p, l.atom).is_none() {
             if count >= MOST_LITERALS {
                 return None;
             }
             assume(p, *l);
-            let fails = spread(f, i, trail, p);
-            found = if fails { Some(l.atom) } else { note(p, count) };
+            let _ = spread(f, i, trail, p);
+            found = note(p, count);
             forget(p);
-            if fails || found.is_none() {
-                return found;
-            }
+            found?;
             count = count.saturating_add(1);
         }
     }
@@ -108,27 +138,25 @@ fn open_with(f: &Clauses, trail: &Trail, hints: &[Hint], a: u32) -> Option<usize
     None
 }
 
-/// An atom to split by what an open clause tells.
+/// An atom to split by what an open clause tells: by a literal that can't be true, or by what all of them have in common.
 fn look_at(
     f: &Clauses,
     i: &Index,
     trail: &Trail,
     p: &mut Probe,
-    hint: Hint,
-    left: &mut u32,
+    k: usize,
+    common: bool,
 ) -> Option<u32> {
-    let Hint::Nth(k) = hint else {
-        return None;
-    };
     let clause = f.clauses.get(k)?;
-    if *left == 0 || some_left(trail, clause).is_none() {
-        return None;
+    some_left(trail, clause)?;
+    if common {
+        look_for_common(f, i, trail, p, clause)
+    } else {
+        look_for_false(f, i, trail, p, clause)
     }
-    *left -= 1;
-    look(f, i, trail, p, clause)
 }
 
-/// An atom to split by what a decision's clauses tell.
+/// An atom to split by what a decision's clauses tell, and the clause that tells it.
 fn look_along(
     f: &Clauses,
     i: &Index,
@@ -136,35 +164,69 @@ fn look_along(
     p: &mut Probe,
     row: usize,
     left: &mut u32,
-) -> Option<u32> {
+) -> Option<(u32, usize)> {
     for hint in row_at(i, trail, row) {
-        if let Some(a) = look_at(f, i, trail, p, *hint, left) {
-            return Some(a);
+        if let Hint::Nth(k) = hint {
+            if *left > 0 {
+                *left -= 1;
+                if let Some(a) = look_at(f, i, trail, p, *k, true) {
+                    return Some((a, *k));
+                }
+            }
         }
     }
     None
 }
 
-/// An atom to split by what the clauses of the last decisions tell.
-fn candidate(f: &Clauses, i: &Index, trail: &Trail, p: &mut Probe) -> Option<u32> {
+/// An atom to split by what the clauses of the last decisions tell, and the clause that tells it.
+fn look_back(f: &Clauses, i: &Index, trail: &Trail, p: &mut Probe) -> Option<(u32, usize)> {
     let mut left = MOST_CLAUSES;
     let rows = trail.decisions.len();
     for back in 0..rows {
         if left == 0 {
             return None;
         }
-        if let Some(a) = look_along(f, i, trail, p, rows - back, &mut left) {
-            return Some(a);
+        if let Some(found) = look_along(f, i, trail, p, rows - back, &mut left) {
+            return Some(found);
         }
     }
     None
 }
 
-/// An undecided atom of an open clause, chosen by a look ahead; none where the look tells nothing.
-pub fn suggest(f: &Clauses, i: &Index, trail: &Trail, p: &mut Probe) -> Option<u32>
+/// An atom to split by a look ahead. The clause that chose the last split is looked at first: below the value that all its literals
+/// deny, each of them can't be true. Where looks tell nothing they become rarer.
+fn candidate(
+    f: &Clauses,
+    i: &Index,
+    trail: &Trail,
+    p: &mut Probe,
+    look: &mut usize,
+) -> Option<u32> {
+    if let Some(a) = look_at(f, i, trail, p, *look, false) {
+        return Some(a);
+    }
+    if p.rest > 0 {
+        p.rest -= 1;
+        return None;
+    }
+    match look_back(f, i, trail, p) {
+        Some((a, k)) => {
+            *look = k;
+            p.pause = 0;
+            Some(a)
+        }
+        None => {
+            p.pause = MOST_REST.min(p.pause.saturating_mul(2).saturating_add(1));
+            p.rest = p.pause;
+            None
+        }
+    }
+}
+
+/// The atom, where it is undecided and stands in a clause without a true literal.
+fn if_open(f: &Clauses, i: &Index, trail: &Trail, a: u32) -> Option<u32>
     ensures { IfSome result (λ a. IsOpenAt trail.now.decisions.items (map (λ c. c.items) f.now.clauses.items) a) }
 {
-    let a = candidate(f, i, trail, p)?;
     if is_decided(trail, a as usize) {
         return None;
     }
@@ -174,5 +236,21 @@ pub fn suggest(f: &Clauses, i: &Index, trail: &Trail, p: &mut Probe) -> Option<u
         Some(a)
     } else {
         None
+    }
+}
+
+/// An undecided atom of an open clause, chosen by a look ahead; none where the look tells nothing.
+pub fn suggest(
+    f: &Clauses,
+    i: &Index,
+    trail: &Trail,
+    p: &mut Probe,
+    look: &mut usize,
+) -> Option<u32>
+    ensures { IfSome result (λ a. IsOpenAt trail.now.decisions.items (map (λ c. c.items) f.now.clauses.items) a) }
+{
+    match candidate(f, i, trail, p, look) {
+        Some(a) => if_open(f, i, trail, a),
+        None => None,
     }
 }

@@ -16,13 +16,15 @@ use bg_cert::Trail;
 use bg_formula::{Clauses, Literal};
 
 /// A place of a path's rows, before which no clause is a unit; the clause before which each has a
-/// true literal; and the atom before which each is decided.
+/// true literal; the atom before which each is decided; and the clause that chose the last split,
+/// at which to look first.
 #[derive(Clone, Copy, PartialEq, Eq, Debug)]
 pub struct Mark {
     pub row: usize,
     pub place: usize,
     pub clause: usize,
     pub atom: usize,
+    pub look: usize,
 }
 
 /// The first of the hints that names a false clause.
