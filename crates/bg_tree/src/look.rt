@@ -8,6 +8,7 @@ ghost use Rattle.bg_tree.specs.Marks.{stands_in, StandsOpen, IsOpenAt};
 use crate::hint::Hint;
 use crate::index::Index;
 use crate::left::{has_true, is_decided, some_left};
+use crate::mark::Mark;
 use crate::probe::{Common, Probe, assume, forget, spread, value_of};
 use crate::rows::{hints_at, row_at};
 use bg_cert::Trail;
@@ -156,21 +157,22 @@ fn look_at(
     }
 }
 
-/// An atom to split by what a decision's clauses tell, and the clause that tells it.
+/// An atom to split by what a decision's clauses tell. The mark keeps the clause that tells it.
 fn look_along(
     f: &Clauses,
     i: &Index,
     trail: &Trail,
     p: &mut Probe,
     row: usize,
-    left: &mut u32,
-) -> Option<(u32, usize)> {
+    mark: &mut Mark,
+) -> Option<u32> {
     for hint in row_at(i, trail, row) {
         if let Hint::Nth(k) = hint {
-            if *left > 0 {
-                *left -= 1;
+            if p.left > 0 {
+                p.left -= 1;
                 if let Some(a) = look_at(f, i, trail, p, *k, true) {
-                    return Some((a, *k));
+                    mark.look = *k;
+                    return Some(a);
                 }
             }
         }
@@ -178,49 +180,60 @@ fn look_along(
     None
 }
 
-/// An atom to split by what the clauses of the last decisions tell, and the clause that tells it.
-fn look_back(f: &Clauses, i: &Index, trail: &Trail, p: &mut Probe) -> Option<(u32, usize)> {
-    let mut left = MOST_CLAUSES;
-    let rows = trail.decisions.len();
-    for back in 0..rows {
-        if left == 0 {
+/// The same along the rows from `high` down to the one above `low`.
+fn look_down(
+    f: &Clauses,
+    i: &Index,
+    trail: &Trail,
+    p: &mut Probe,
+    high: usize,
+    low: usize,
+    mark: &mut Mark,
+) -> Option<u32> {
+    for row in (low..high).rev() {
+        if p.left == 0 {
             return None;
         }
-        if let Some(found) = look_along(f, i, trail, p, rows - back, &mut left) {
-            return Some(found);
+        if let Some(a) = look_along(f, i, trail, p, row.saturating_add(1), mark) {
+            mark.from = row;
+            mark.top = trail.decisions.len();
+            return Some(a);
         }
     }
     None
 }
 
+/// An atom to split by what the clauses of the decisions tell: first those of decisions behind the last look, then those before the
+/// one at which it ended, and at last those between, at which it looked in vain.
+fn look_back(f: &Clauses, i: &Index, trail: &Trail, p: &mut Probe, mark: &mut Mark) -> Option<u32> {
+    p.left = MOST_CLAUSES;
+    let (top, from) = (mark.top, mark.from);
+    if let Some(a) = look_down(f, i, trail, p, trail.decisions.len(), top, mark) {
+        return Some(a);
+    }
+    if let Some(a) = look_down(f, i, trail, p, from.saturating_add(1), 0, mark) {
+        return Some(a);
+    }
+    look_down(f, i, trail, p, top, from, mark)
+}
+
 /// An atom to split by a look ahead. The clause that chose the last split is looked at first: below the value that all its literals
 /// deny, each of them can't be true. Where looks tell nothing they become rarer.
-fn candidate(
-    f: &Clauses,
-    i: &Index,
-    trail: &Trail,
-    p: &mut Probe,
-    look: &mut usize,
-) -> Option<u32> {
-    if let Some(a) = look_at(f, i, trail, p, *look, false) {
+fn candidate(f: &Clauses, i: &Index, trail: &Trail, p: &mut Probe, mark: &mut Mark) -> Option<u32> {
+    if let Some(a) = look_at(f, i, trail, p, mark.look, false) {
         return Some(a);
     }
     if p.rest > 0 {
         p.rest -= 1;
         return None;
     }
-    match look_back(f, i, trail, p) {
-        Some((a, k)) => {
-            *look = k;
-            p.pause = 0;
-            Some(a)
-        }
-        None => {
-            p.pause = MOST_REST.min(p.pause.saturating_mul(2).saturating_add(1));
-            p.rest = p.pause;
-            None
-        }
-    }
+    let found = look_back(f, i, trail, p, mark);
+    p.pause = match found {
+        Some(_) => 0,
+        None => MOST_REST.min(p.pause.saturating_mul(2).saturating_add(1)),
+    };
+    p.rest = p.pause;
+    found
 }
 
 /// The atom, where it is undecided and stands in a clause without a true literal.
@@ -239,17 +252,21 @@ fn if_open(f: &Clauses, i: &Index, trail: &Trail, a: u32) -> Option<u32>
     }
 }
 
-/// An undecided atom of an open clause, chosen by a look ahead; none where the look tells nothing.
-pub fn suggest(
-    f: &Clauses,
-    i: &Index,
-    trail: &Trail,
-    p: &mut Probe,
-    look: &mut usize,
-) -> Option<u32>
-    ensures { IfSome result (λ a. IsOpenAt trail.now.decisions.items (map (λ c. c.items) f.now.clauses.items) a) }
+/// An undecided atom of an open clause, chosen by a look ahead; none where the look tells nothing. Of the mark it changes what is
+/// kept for the next look alone.
+pub fn suggest(f: &Clauses, i: &Index, trail: &Trail, p: &mut Probe, mark: &mut Mark) -> Option<u32>
+    ensures stands { IfSome result (λ a. IsOpenAt trail.now.decisions.items (map (λ c. c.items) f.now.clauses.items) a) }
+    ensures row { mark.new.row ≡ mark.old.row }
+    ensures place { mark.new.place ≡ mark.old.place }
+    ensures clause { mark.new.clause ≡ mark.old.clause }
+    ensures atom { mark.new.atom ≡ mark.old.atom }
 {
-    match candidate(f, i, trail, p, look) {
+    let mut look = *mark;
+    let found = candidate(f, i, trail, p, &mut look);
+    mark.look = look.look;
+    mark.top = look.top;
+    mark.from = look.from;
+    match found {
         Some(a) => if_open(f, i, trail, a),
         None => None,
     }

@@ -16,8 +16,8 @@ use bg_cert::Trail;
 use bg_formula::{Clauses, Literal};
 
 /// A place of a path's rows, before which no clause is a unit; the clause before which each has a
-/// true literal; the atom before which each is decided; and the clause that chose the last split,
-/// at which to look first.
+/// true literal; and the atom before which each is decided. Of the look ahead that chose the last
+/// split the clause, the number of rows then, and the clause's row.
 #[derive(Clone, Copy, PartialEq, Eq, Debug)]
 pub struct Mark {
     pub row: usize,
@@ -25,6 +25,8 @@ pub struct Mark {
     pub clause: usize,
     pub atom: usize,
     pub look: usize,
+    pub top: usize,
+    pub from: usize,
 }
 
 /// The first of the hints that names a false clause.

@@ -56,7 +56,7 @@ fn pick_atom(
     if let Some(a) = next_unit(f, set, i, trail, mark) {
         return Some(a as usize);
     }
-    if let Some(a) = suggest(f, i, trail, probe, &mut mark.look) {
+    if let Some(a) = suggest(f, i, trail, probe, mark) {
         return Some(a as usize);
     }
     if let Some((k, a)) = open_from(trail, &f.clauses, mark.clause) {

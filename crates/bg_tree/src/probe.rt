@@ -16,14 +16,16 @@ pub struct Common {
     pub value: bool,
 }
 
-/// Values that are assumed beside those of a path, in their order; those that literals of a clause have in common; and how many
-/// splits are chosen without a look from now on, and were after the last look in vain.
+/// Values that are assumed beside those of a path, in their order; those that literals of a clause have in common; how many
+/// clauses may still be looked at for this split; and how many splits are chosen without a look from now on, and were after the last
+/// look in vain.
 #[derive(Debug, Drop)]
 pub struct Probe {
     pub assumed: Vec<Option<bool>>,
     pub order: Vec<u32>,
     pub common: Vec<Common>,
     pub turn: u64,
+    pub left: u32,
     pub rest: u32,
     pub pause: u32,
 }
@@ -48,6 +50,7 @@ pub fn new_probe(alloc: Global, atoms: usize) -> Result<Probe, AllocError> {
         order: Vec::new(alloc),
         common: vec![in alloc; nothing; atoms]?,
         turn: 0,
+        left: 0,
         rest: 0,
         pause: 0,
     })

@@ -14,7 +14,7 @@ returns-in-Some-clause-split c =
 
 pub returns-in-Some-suggest-clause-split : goal.returns-in-Some-suggest-clause-split
 returns-in-Some-suggest-clause-split c =
-    at_may_split (formula_of c.args.f.now) (has c.args.set.now) c.args.trail.now.decisions.items c.in-Some-suggest.a c.requires.whole c.in_default.ensures.unit c.in-Some-suggest.ensures
+    at_may_split (formula_of c.args.f.now) (has c.args.set.now) c.args.trail.now.decisions.items c.in-Some-suggest.a c.requires.whole c.in_default.ensures.unit c.in-Some-suggest.ensures.stands
 
 pub open_from-requires-clause-fine : goal.open_from-requires-clause-fine
 open_from-requires-clause-fine c =
