@@ -1,6 +1,6 @@
--- An implementation whose places are all proved is safe.
-use Rattle.std.proofs.Common.{◌≡◌, ℕ, zero, suc, ◌+◌, ◌<◌, Bool, true, List, [], ◌∷◌, length, map, Some, refl, sym, ap, ◌∙◌, subst, inl, inr, arith}
-use Rattle.std.specs.Prelude.{slice_get}
+-- An implementation is safe of which each place is proved whose clause is there.
+use Rattle.std.proofs.Common.{◌≡◌, ℕ, zero, suc, ◌+◌, ◌<◌, Bool, true, false, cond, List, [], ◌∷◌, length, map, Some, refl, sym, ap, ◌∙◌, subst, inl, inr, arith}
+use Rattle.std.specs.Prelude.{slice_get, filter}
 use Rattle.std.proofs.lemmas.List.{length-map}
 use Rattle.bg_ast.specs.Syntax.{Prog}
 use Rattle.bg_ast.specs.Resolved as r
@@ -9,6 +9,7 @@ use Rattle.bg_ast.specs.Execution.{Place}
 use Rattle.bg_sense.specs.Typed.{IsTyped}
 use Rattle.bg_sense.specs.Places.{places}
 use Rattle.bg_sense.specs.Claims.{Safe}
+use Rattle.bg_sense.specs.Clauses.{is_kept}
 use Rattle.bg_sense.proofs.Bools.{and_left, and_right}
 use Rattle.bg_sense.proofs.Members.{In, member}
 use Rattle.bg_places.specs.Placed.{place_in, placed_impl}
@@ -19,7 +20,7 @@ use Rattle.bg_fits.specs.Truths.{is_over_truths}
 use Rattle.bg_check.specs.declared.verdict.Verdict.{Verdict}
 use Rattle.bg_check.specs.declared.verdict.Verdict.TheVariants.{Proved, Refuted, Unknown}
 use Rattle.bg_check.specs.declared.verdict.Judged.{Judged}
-use Rattle.bg_check.specs.Verdicts.{HasCertificate, IsRight, placed_at, AreRightAt, AreRightOf, AreRightFrom, AreRightUnder, is_proved, are_proved, ProvedAreSafe}
+use Rattle.bg_check.specs.Verdicts.{HasCertificate, IsRight, placed_at, AreRightAt, AreRightOf, AreRightFrom, AreRightUnder, is_proved, are_proved, is_there, ProvedAreSafe}
 use Rattle.bg_check.proofs.LawTypes.{FunctionLaw, BodyLaw, SafeLaw, PlaceLaw, PassiveLaw, FitLaw, DenyLaw, ClauseLaw, WholeLaw, TruthLaw, CertLaw, UsedLaw, InsideLaw}
 use Rattle.bg_check.proofs.Failures.{no_failure}
 use Rattle.bg_check.proofs.Numbered.{has}
@@ -34,15 +35,24 @@ proof_of budget p set t (Proved nodes) h e = record { nodes = nodes.items; certi
 proof_of budget p set t (Refuted cex) h e = absurd (let bad : ⊥ = cc in bad)
 proof_of budget p set t (Unknown parts) h e = absurd (let bad : ⊥ = cc in bad)
 
-judged_place : (budget : ℕ) (p : Prog) (set : ℕ → Bool) (js : List Judged) (t : Place) → AreRightAt budget p set js → are_proved js ≡ true → In (map place_in (map placed_at js)) t → Proof p set t
-judged_place budget p set [] t h e i = absurd i
-judged_place budget p set (j ∷ js) t h e (inl s) =
-    subst (Proof p set) s (proof_of budget p set (placed_at j).place j.verdict h.0 (and_left (is_proved j.verdict) (are_proved js) e))
-judged_place budget p set (j ∷ js) t h e (inr i) =
-    judged_place budget p set js t h.1 (and_right (is_proved j.verdict) (are_proved js) e) i
+first_by : (b : Bool) (j : Judged) (rest : List Judged) → are_proved (cond b (j ∷ rest) rest) ≡ true → b ≡ true → is_proved j.verdict ≡ true
+first_by true j rest h e = and_left (is_proved j.verdict) (are_proved rest) h
+first_by false j rest h e = absurd (let bad : ⊥ = cc in bad)
+
+rest_by : (b : Bool) (j : Judged) (rest : List Judged) → are_proved (cond b (j ∷ rest) rest) ≡ true → are_proved rest ≡ true
+rest_by true j rest h = and_right (is_proved j.verdict) (are_proved rest) h
+rest_by false j rest h = h
+
+judged_place : (budget : ℕ) (p : Prog) (set : ℕ → Bool) (js : List Judged) (t : Place) → AreRightAt budget p set js → are_proved (filter (is_there set) js) ≡ true → is_kept set t.candidate ≡ true → In (map place_in (map placed_at js)) t → Proof p set t
+judged_place budget p set [] t h e k i = absurd i
+judged_place budget p set (j ∷ js) t h e k (inl s) =
+    let kept = subst (λ u. is_kept set u.candidate ≡ true) (sym s) k in
+    subst (Proof p set) s (proof_of budget p set (placed_at j).place j.verdict h.0 (first_by (is_there set j) j (filter (is_there set) js) e kept))
+judged_place budget p set (j ∷ js) t h e k (inr i) =
+    judged_place budget p set js t h.1 (rest_by (is_there set j) j (filter (is_there set) js) e) k i
 
 module _ (functions : FunctionLaw) (bodies : BodyLaw) (safe : SafeLaw) (place : PlaceLaw) (runs : PassiveLaw) (fits : FitLaw) (denies : DenyLaw) (clauses : ClauseLaw) (whole : WholeLaw) (truths : TruthLaw) (certs : CertLaw) (used : UsedLaw) (inside : InsideLaw) (set : ℕ → Bool) (budget : ℕ) (p : r.Program) (t : IsTyped (meaning_of p)) (o : is_over_truths (meaning_of p) ≡ true) where
-  one_safe : (k : ℕ) (m : r.Impl) (js : List Judged) → slice_get p.implementations k ≡ Some m → AreRightOf budget p set k m js → are_proved js ≡ true → Safe (meaning_of p) set k
+  one_safe : (k : ℕ) (m : r.Impl) (js : List Judged) → slice_get p.implementations k ≡ Some m → AreRightOf budget p set k m js → are_proved (filter (is_there set) js) ≡ true → Safe (meaning_of p) set k
   one_safe k m js at right proved =
       safe (meaning_of p) set k t below
       (λ u i s choices c number kept fails.
@@ -51,7 +61,7 @@ module _ (functions : FunctionLaw) (bodies : BodyLaw) (safe : SafeLaw) (place : 
       let mine : Some h.implementation ≡ Some m = sym h.there ∙ (ap (slice_get p.implementations) same ∙ at) in
       let is : h.implementation ≡ m = cc in
       let inside_it = subst (λ x. In (map place_in (placed_impl p.procedures k x)) u) is (subst (λ x. In (map place_in (placed_impl p.procedures x h.implementation)) u) number h.member) in
-      let x = judged_place budget (meaning_of p) set js u right.right proved (subst (λ l. In (map place_in l) u) (sym right.places) inside_it) in
+      let x = judged_place budget (meaning_of p) set js u right.right proved kept (subst (λ l. In (map place_in l) u) (sym right.places) inside_it) in
       no_failure functions bodies runs fits denies clauses whole truths (meaning_of p) t o certs used set set u x.nodes x.certificate (λ n g. inside x.certificate.formula set no_instance (map node_of x.nodes) x.certificate.accepted n g) i s choices fails)
     where
       there : (ms : List r.Impl) (j : ℕ) → slice_get ms j ≡ Some m → j < length ms

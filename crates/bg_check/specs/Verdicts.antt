@@ -1,11 +1,12 @@
 -- What is known of each place of a program, and when it is right.
-use Rattle.std.specs.Prelude.{◌≡◌, ℕ, suc, Bool, true, false, ◌&&◌, List, [], ◌∷◌, map, Option, Some, Vec}
+use Rattle.std.specs.Prelude.{◌≡◌, ℕ, suc, Bool, true, false, ◌&&◌, List, [], ◌∷◌, map, filter, Option, Some, Vec}
 use Rattle.std.specs.declared.alloc.Global.{Global}
 use Rattle.bg_ast.specs.Syntax.{Prog}
 use Rattle.bg_ast.specs.Resolved as r
 use Rattle.bg_ast.specs.Meaning.{meaning_of}
 use Rattle.bg_ast.specs.Execution.{Place}
 use Rattle.bg_sense.specs.Claims.{Safe, Fails}
+use Rattle.bg_sense.specs.Clauses.{is_kept}
 use Rattle.bg_formula.specs.Formulas.{Formula}
 use Rattle.bg_cert.specs.declared.cert.Node.{Node}
 use Rattle.bg_cert.specs.Certs.{Accepts, node_of, root}
@@ -81,10 +82,14 @@ abbrev pub are_proved : List Judged → Bool
 are_proved [] = true
 are_proved (j ∷ js) = is_proved j.verdict && are_proved js
 
--- each implementation whose places are all proved is safe
+-- a place whose clause is there under a set of candidates
+abbrev pub is_there : (ℕ → Bool) → Judged → Bool
+is_there set j = is_kept set (placed_at j).place.candidate
+
+-- each implementation is safe of which each place is proved whose clause is there
 abbrev pub ProvedAreSafe : r.Program → (ℕ → Bool) → ℕ → List (List Judged) → Type 0
 ProvedAreSafe p set k [] = Unit {0}
-ProvedAreSafe p set k (js ∷ os) = (are_proved js ≡ true → Safe (meaning_of p) set k) × ProvedAreSafe p set (suc k) os
+ProvedAreSafe p set k (js ∷ os) = (are_proved (filter (is_there set) js) ≡ true → Safe (meaning_of p) set k) × ProvedAreSafe p set (suc k) os
 
 -- the verdicts as lists
 abbrev pub judged : List (Vec Judged Global) → List (List Judged)

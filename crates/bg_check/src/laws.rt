@@ -38,8 +38,8 @@ pub fn proved_places_do_not_fail()
     accepted_where_used()
 }
 
-/// Each implementation of a typed program over truth values whose places are all proved under a set of candidates is safe under it:
-/// no execution of it fails, of any number of steps.
+/// An implementation of a typed program over truth values is safe under a set of candidates where each of its places is proved whose
+/// clause is there: no execution of it fails, of any number of steps.
 pub fn proved_under_a_set_is_safe()
     ensures { (p : Program) (set : ℕ → Bool) (budget : ℕ) (outcome : List (List Judged)) → IsTyped (meaning_of p) → is_over_truths (meaning_of p) ≡ true → AreRightUnder set budget p outcome → ProvedAreSafe p set 0 outcome }
 {
@@ -56,8 +56,8 @@ pub fn proved_under_a_set_is_safe()
     accepted_where_used()
 }
 
-/// Each implementation of a typed program over truth values whose places are all proved is safe: no execution of it fails, of any
-/// number of steps.
+/// An implementation of a typed program over truth values is safe where each of its places without a candidate is proved: no execution
+/// of it fails, of any number of steps.
 pub fn proved_is_safe()
     ensures { (p : Program) (budget : ℕ) (outcome : List (List Judged)) → IsTyped (meaning_of p) → is_over_truths (meaning_of p) ≡ true → AreRight budget p outcome → ProvedAreSafe p none 0 outcome }
 {

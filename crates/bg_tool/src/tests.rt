@@ -231,15 +231,20 @@ fn each_fault_has_its_status_and_leaves_a_front(rt: HostRuntime) -> Result<(), F
 // A text, the status that it has, and the lines of its report between the second and the summary.
 type Judged<'a> = (&'a str, Status, &'a str);
 
-const BUMP: &str = "var g: bool;\nprocedure Bump(); modifies g;\nprocedure P() modifies g; {\n  var k: bool;\n  k := false;\n  while (!k) { call Bump(); k := true; }\n  assert g == old(g);\n}";
+const BUMP: &str =
+    "var g: bool;\nprocedure Bump(); modifies g;\nprocedure P() modifies g; {\n  var k: bool;\n  k := false;\n  while (!k) { call Bump(); k := true; }\n  assert g == old(g);\n}";
 
-const TWO: &str = "procedure Q() returns (r: bool); ensures r;\nimplementation Q() returns (s: bool) { s := true; }\nimplementation Q() returns (r: bool) { r := false; }";
+const TWO: &str =
+    "procedure Q() returns (r: bool); ensures r;\nimplementation Q() returns (s: bool) { s := true; }\nimplementation Q() returns (r: bool) { r := false; }";
 
-const LOOP: &str = "procedure L(n: bool) {\n  var i: bool;\n  i := false;\n  while (i != n)\n    invariant i ==> n;\n  { i := true; }\n  assert i == n;\n}";
+const LOOP: &str =
+    "procedure L(n: bool) {\n  var i: bool;\n  i := false;\n  while (i != n)\n    invariant i ==> n;\n  { i := true; }\n  assert i == n;\n}";
 
-const TURN: &str = "procedure L() {\n  var i: bool;\n  i := true;\n  while (*)\n    invariant i;\n  { i := false; }\n}";
+const TURN: &str =
+    "procedure L() {\n  var i: bool;\n  i := true;\n  while (*)\n    invariant i;\n  { i := false; }\n}";
 
-const GLOBAL: &str = "var g: bool;\nprocedure Flip() returns (was: bool); modifies g; ensures g == !old(g) && was == old(g);\nprocedure P() modifies g; ensures g == old(g); { call g := Flip(); }";
+const GLOBAL: &str =
+    "var g: bool;\nprocedure Flip() returns (was: bool); modifies g; ensures g == !old(g) && was == old(g);\nprocedure P() modifies g; ensures g == old(g); { call g := Flip(); }";
 
 #[test]
 fn each_statement_is_judged(rt: HostRuntime) -> Result<(), Fail> {

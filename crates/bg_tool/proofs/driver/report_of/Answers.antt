@@ -1,4 +1,4 @@
-use Rattle.std.proofs.Common.{◌∙◌, ap}
+use Rattle.std.proofs.Common.{◌∙◌, ap, sym}
 use Rattle.bg_ast.specs.Views.{program_of}
 use Rattle.bg_check.specs.Verdicts.{judged}
 use Rattle.bg_told.specs.Report.{result_text}
@@ -10,7 +10,7 @@ use Rattle.bg_tool.proofs.driver.report_of.Goals as goal
 pub returns-clause-report : goal.returns-clause-report
 returns-clause-report c = λ bytes spelled.
     let p = program_of c.args.program.now in
-    let truths = c.is_over_truths.ensures ∙ c.if-not-is_over_truths.false in
+    let truths = sym c.is_over_truths.ensures ∙ c.if-not-is_over_truths.false in
     record {
       program = p;
       spelled = spelled;
