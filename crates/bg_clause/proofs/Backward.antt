@@ -15,7 +15,8 @@ use Rattle.bg_clause.specs.Whole.{truth_values}
 use Rattle.bg_clause.proofs.Meaning.{same_true, and_left, and_right}
 use Rattle.bg_clause.proofs.Failing.{wells, block_true}
 use Rattle.bg_clause.proofs.Clausal.{all_in}
-use Rattle.bg_clause.proofs.Emitting.{all_first, all_second, emitted_sound, implied}
+use Rattle.bg_clause.proofs.Defining.{all_first, all_second}
+use Rattle.bg_clause.proofs.Emitting.{emitted_sound, implied}
 
 -- what is true in the first list is true in the second
 abbrev pub Within : List Bool → List Bool → Type 0

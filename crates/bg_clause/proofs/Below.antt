@@ -1,11 +1,11 @@
 -- Forms of what fits name atoms that are there.
 use Rattle.std.proofs.Common.{◌≡◌, ℕ, zero, suc, ◌+◌, ◌≤◌, Bool, true, false, List, [], ◌∷◌, refl, arith}
-use Rattle.std.specs.Prelude.{◌&&◌, if◌then◌else◌, nat_lt, Option, Some, None}
+use Rattle.std.specs.Prelude.{not, ◌&&◌, if◌then◌else◌, nat_lt, Option, Some, None}
 use Rattle.std.proofs.lemmas.Bool.Decides.{nat_tests}
 use Rattle.bg_ast.specs.Syntax.{Ex, Number, Fact, Constant, Read, Global, Local, Not, Negative, Binary, Apply, Select, Update, Old, Op, And, Or, Implies, Iff, Equal, Unequal, Less, AtMost, Greater, AtLeast, Plus, Minus, Times}
 use Rattle.bg_ast.specs.Execution.{Spot}
 use Rattle.bg_passive.specs.Passive.{PassiveCmd, Claims, Supposes, Edge, PassiveBlock, spot_eq}
-use Rattle.bg_clause.specs.Forms.{Form, Plain, Is, Both, Either, Any, literal_of, either_by, both_behind, both_of, any_beside, any_behind, any_of, denied, equal_forms, joined_by, form_of}
+use Rattle.bg_clause.specs.Forms.{Form, Plain, Is, NotSo, Both, Same, is_literal, both_beside, both_behind, both_of, any_of, denied, same_behind, same_of, joined_by, form_of}
 use Rattle.bg_clause.specs.Fitting.{joins_truths, fits_ex, fits_candidate, fits_cmds, fit_edges}
 use Rattle.bg_clause.specs.Failing.{is_there, is_not_there, fail_cmds, fail_later, fail_edges, fail_block}
 use Rattle.bg_clause.proofs.Meaning.{and_left, and_right}
@@ -14,9 +14,9 @@ use Rattle.bg_clause.proofs.Meaning.{and_left, and_right}
 abbrev pub form_below : ℕ → Form → Bool
 form_below n (Plain b) = true
 form_below n (Is l) = nat_lt l.atom n
+form_below n (NotSo f) = form_below n f
 form_below n (Both f g) = form_below n f && form_below n g
-form_below n (Either l f) = nat_lt l.atom n && form_below n f
-form_below n (Any f g) = form_below n f && form_below n g
+form_below n (Same f g) = form_below n f && form_below n g
 
 abbrev pub forms_below : ℕ → List Form → Bool
 forms_below n [] = true
@@ -30,73 +30,63 @@ pub lower : (a n m : ℕ) → n ≤ m → nat_lt a n ≡ true → nat_lt a m ≡
 lower a n m le e = grind (arith, nat_tests)
 
 module _ (n : ℕ) where
-  both_behind_below : (f g : Form) → form_below n f ≡ true → form_below n g ≡ true → form_below n (both_behind f g) ≡ true
-  both_behind_below f (Plain true) p q = p
-  both_behind_below f (Plain false) p q = refl
-  both_behind_below f (Is l) p q = and_both (form_below n f) (nat_lt l.atom n) p q
-  both_behind_below f (Both a b) p q = and_both (form_below n f) (form_below n (Both a b)) p q
-  both_behind_below f (Either l a) p q = and_both (form_below n f) (form_below n (Either l a)) p q
-  both_behind_below f (Any a b) p q = and_both (form_below n f) (form_below n (Any a b)) p q
+  pub denied_below : (f : Form) → form_below n f ≡ true → form_below n (denied f) ≡ true
+  denied_below (Plain b) p = refl
+  denied_below (Is l) p = p
+  denied_below (NotSo f) p = p
+  denied_below (Both f g) p = p
+  denied_below (Same f g) p = p
+
+  beside_by : (x : Bool) (f g : Form) → form_below n f ≡ true → form_below n g ≡ true → form_below n (if x then Both g f else Both f g) ≡ true
+  beside_by true f g p q = and_both (form_below n g) (form_below n f) q p
+  beside_by false f g p q = and_both (form_below n f) (form_below n g) p q
+
+  beside_below : (f g : Form) → form_below n f ≡ true → form_below n g ≡ true → form_below n (both_beside f g) ≡ true
+  beside_below f g p q = beside_by (is_literal g && not (is_literal f)) f g p q
+
+  behind_below : (f g : Form) → form_below n f ≡ true → form_below n g ≡ true → form_below n (both_behind f g) ≡ true
+  behind_below f (Plain true) p q = p
+  behind_below f (Plain false) p q = refl
+  behind_below f (Is l) p q = beside_below f (Is l) p q
+  behind_below f (NotSo a) p q = beside_below f (NotSo a) p q
+  behind_below f (Both a b) p q = beside_below f (Both a b) p q
+  behind_below f (Same a b) p q = beside_below f (Same a b) p q
 
   both_below : (f g : Form) → form_below n f ≡ true → form_below n g ≡ true → form_below n (both_of f g) ≡ true
   both_below (Plain true) g p q = q
   both_below (Plain false) g p q = refl
-  both_below (Is l) g p q = both_behind_below (Is l) g p q
-  both_below (Both a b) g p q = both_behind_below (Both a b) g p q
-  both_below (Either l a) g p q = both_behind_below (Either l a) g p q
-  both_below (Any a b) g p q = both_behind_below (Any a b) g p q
-
-  beside_last : (f g : Form) → form_below n f ≡ true → form_below n g ≡ true → form_below n (either_by (literal_of g) f (Any f g)) ≡ true
-  beside_last f (Plain b) p q = and_both (form_below n f) true p q
-  beside_last f (Is l) p q = and_both (nat_lt l.atom n) (form_below n f) q p
-  beside_last f (Both a b) p q = and_both (form_below n f) (form_below n (Both a b)) p q
-  beside_last f (Either l a) p q = and_both (form_below n f) (form_below n (Either l a)) p q
-  beside_last f (Any a b) p q = and_both (form_below n f) (form_below n (Any a b)) p q
-
-  beside_below : (f g : Form) → form_below n f ≡ true → form_below n g ≡ true → form_below n (any_beside f g) ≡ true
-  beside_below (Plain b) g p q = beside_last (Plain b) g p q
-  beside_below (Is l) g p q = and_both (nat_lt l.atom n) (form_below n g) p q
-  beside_below (Both a b) g p q = beside_last (Both a b) g p q
-  beside_below (Either l a) g p q = beside_last (Either l a) g p q
-  beside_below (Any a b) g p q = beside_last (Any a b) g p q
-
-  behind_below : (f g : Form) → form_below n f ≡ true → form_below n g ≡ true → form_below n (any_behind f g) ≡ true
-  behind_below f (Plain true) p q = refl
-  behind_below f (Plain false) p q = p
-  behind_below f (Is l) p q = beside_below f (Is l) p q
-  behind_below f (Both a b) p q = beside_below f (Both a b) p q
-  behind_below f (Either l a) p q = beside_below f (Either l a) p q
-  behind_below f (Any a b) p q = beside_below f (Any a b) p q
+  both_below (Is l) g p q = behind_below (Is l) g p q
+  both_below (NotSo a) g p q = behind_below (NotSo a) g p q
+  both_below (Both a b) g p q = behind_below (Both a b) g p q
+  both_below (Same a b) g p q = behind_below (Same a b) g p q
 
   any_below : (f g : Form) → form_below n f ≡ true → form_below n g ≡ true → form_below n (any_of f g) ≡ true
-  any_below (Plain true) g p q = refl
-  any_below (Plain false) g p q = q
-  any_below (Is l) g p q = behind_below (Is l) g p q
-  any_below (Both a b) g p q = behind_below (Both a b) g p q
-  any_below (Either l a) g p q = behind_below (Either l a) g p q
-  any_below (Any a b) g p q = behind_below (Any a b) g p q
+  any_below f g p q =
+      denied_below (both_of (denied f) (denied g)) (both_below (denied f) (denied g) (denied_below f p) (denied_below g q))
 
-  denied_below : (f : Form) → form_below n f ≡ true → form_below n (denied f) ≡ true
-  denied_below (Plain b) p = refl
-  denied_below (Is l) p = p
-  denied_below (Both f g) p =
-      any_below (denied f) (denied g) (denied_below f (and_left (form_below n f) (form_below n g) p)) (denied_below g (and_right (form_below n f) (form_below n g) p))
-  denied_below (Either l f) p =
-      and_both (nat_lt l.atom n) (form_below n (denied f)) (and_left (nat_lt l.atom n) (form_below n f) p) (denied_below f (and_right (nat_lt l.atom n) (form_below n f) p))
-  denied_below (Any f g) p =
-      both_below (denied f) (denied g) (denied_below f (and_left (form_below n f) (form_below n g) p)) (denied_below g (and_right (form_below n f) (form_below n g) p))
+  same_behind_below : (f g : Form) → form_below n f ≡ true → form_below n g ≡ true → form_below n (same_behind f g) ≡ true
+  same_behind_below f (Plain true) p q = p
+  same_behind_below f (Plain false) p q = denied_below f p
+  same_behind_below f (Is l) p q = and_both (form_below n f) (form_below n (Is l)) p q
+  same_behind_below f (NotSo a) p q = and_both (form_below n f) (form_below n (NotSo a)) p q
+  same_behind_below f (Both a b) p q = and_both (form_below n f) (form_below n (Both a b)) p q
+  same_behind_below f (Same a b) p q = and_both (form_below n f) (form_below n (Same a b)) p q
 
-  equal_below : (f g : Form) → form_below n f ≡ true → form_below n g ≡ true → form_below n (equal_forms f g) ≡ true
-  equal_below f g p q =
-      both_below (any_of (denied f) g) (any_of f (denied g)) (any_below (denied f) g (denied_below f p) q) (any_below f (denied g) p (denied_below g q))
+  same_below : (f g : Form) → form_below n f ≡ true → form_below n g ≡ true → form_below n (same_of f g) ≡ true
+  same_below (Plain true) g p q = q
+  same_below (Plain false) g p q = denied_below g q
+  same_below (Is l) g p q = same_behind_below (Is l) g p q
+  same_below (NotSo a) g p q = same_behind_below (NotSo a) g p q
+  same_below (Both a b) g p q = same_behind_below (Both a b) g p q
+  same_below (Same a b) g p q = same_behind_below (Same a b) g p q
 
   joined_below : (op : Op) (f g : Form) → form_below n f ≡ true → form_below n g ≡ true → form_below n (joined_by op f g) ≡ true
-  joined_below And f g p q = both_below f g p q
-  joined_below Or f g p q = any_below f g p q
+  joined_below And f g p q = both_below g f q p
+  joined_below Or f g p q = any_below g f q p
   joined_below Implies f g p q = any_below (denied f) g (denied_below f p) q
-  joined_below Iff f g p q = equal_below f g p q
-  joined_below Equal f g p q = equal_below f g p q
-  joined_below Unequal f g p q = denied_below (equal_forms f g) (equal_below f g p q)
+  joined_below Iff f g p q = same_below g f q p
+  joined_below Equal f g p q = same_below g f q p
+  joined_below Unequal f g p q = denied_below (same_of g f) (same_below g f q p)
   joined_below Less f g p q = refl
   joined_below AtMost f g p q = refl
   joined_below Greater f g p q = refl

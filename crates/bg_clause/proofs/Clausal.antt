@@ -17,7 +17,7 @@ abbrev pub all_in : (ℕ → Bool) → List (List Literal) → Bool
 all_in t [] = true
 all_in t (c ∷ cs) = any_in t c && all_in t cs
 
-same_signs : (a b : Bool) → same a b ≡ true → a ≡ b
+pub same_signs : (a b : Bool) → same a b ≡ true → a ≡ b
 same_signs true true e = refl
 same_signs true false e = sym e
 same_signs false true e = e

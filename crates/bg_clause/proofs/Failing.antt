@@ -11,11 +11,7 @@ use Rattle.bg_clause.specs.Forms.{Form, form_true, both_of, any_of, denied, form
 use Rattle.bg_clause.specs.Fitting.{fits_ex, fits_candidate, fits_cmds, fit_edges}
 use Rattle.bg_clause.specs.Failing.{is_there, is_not_there, fail_cmds, fail_later, fail_edges, fail_block}
 use Rattle.bg_clause.specs.Whole.{truth_values}
-use Rattle.bg_clause.proofs.Meaning.{same_true, both_true, any_true, denied_true, form_means, and_left, and_right}
-
-pub not_not : (a : Bool) → not (not a) ≡ a
-not_not true = refl
-not_not false = refl
+use Rattle.bg_clause.proofs.Meaning.{not_not, same_true, both_true, any_true, denied_true, form_means, and_left, and_right}
 
 suppose_bools : (x w : Bool) → (x && not w) ≡ not (not x || w)
 suppose_bools true w = refl

@@ -13,10 +13,11 @@ use Rattle.bg_clause.specs.Failing.{fail_block}
 use Rattle.bg_clause.specs.Emitted.{denies, emitted}
 use Rattle.bg_clause.specs.Told.{Told, nothing, is_short, told_by, told, with_entry, entry_told}
 use Rattle.bg_clause.specs.Whole.{truth_values}
-use Rattle.bg_clause.proofs.Meaning.{same_true, and_left, and_right}
-use Rattle.bg_clause.proofs.Failing.{not_not, wells, block_true}
+use Rattle.bg_clause.proofs.Meaning.{not_not, same_true, and_left, and_right}
+use Rattle.bg_clause.proofs.Failing.{wells, block_true}
 use Rattle.bg_clause.proofs.Clausal.{all_in}
-use Rattle.bg_clause.proofs.Emitting.{parts, all_append, emitted_complete, named_implied}
+use Rattle.bg_clause.proofs.Defining.{all_append}
+use Rattle.bg_clause.proofs.Emitting.{parts, emitted_complete, named_implied}
 use Rattle.bg_clause.proofs.Below.{form_below, forms_below, and_both, lower}
 use Rattle.bg_clause.proofs.Locals.{Agree, parts_below, local, local_wells, local_clauses, extended, local_values}
 use Rattle.bg_clause.proofs.Wholes.{told_more, told_below, first_below}

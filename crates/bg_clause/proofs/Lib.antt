@@ -1,6 +1,7 @@
 pub mod Meaning
 pub mod Failing
 pub mod Clausal
+pub mod Defining
 pub mod Emitting
 pub mod Below
 pub mod Backward

@@ -1,14 +1,15 @@
 -- What forms and clauses are worth depends on their atoms alone.
 use Rattle.std.proofs.Common.{◌≡◌, ℕ, zero, suc, ◌+◌, Bool, true, false, List, [], ◌∷◌, ◌++◌, map, refl, sym, ap, ◌∙◌, arith}
-use Rattle.std.specs.Prelude.{nat_lt}
+use Rattle.std.specs.Prelude.{not, nat_lt}
 use Rattle.bg_formula.specs.declared.atom.Literal.{Literal}
 use Rattle.bg_formula.specs.Formulas.{literals_below, clauses_below}
 use Rattle.bg_formula.specs.Meaning.{same}
-use Rattle.bg_clause.specs.Forms.{Form, Plain, Is, Both, Either, Any, form_true}
+use Rattle.bg_clause.specs.Forms.{Form, Plain, Is, NotSo, Both, Same, form_true}
 use Rattle.bg_clause.specs.Whole.{truth_values}
 use Rattle.bg_clause.proofs.Meaning.{zero_below, below_suc, and_left, and_right}
 use Rattle.bg_clause.proofs.Clausal.{any_in, all_in}
-use Rattle.bg_clause.proofs.Emitting.{parts, Named}
+use Rattle.bg_clause.proofs.Defining.{Named, own, deep}
+use Rattle.bg_clause.proofs.Emitting.{parts, parts_as}
 use Rattle.bg_clause.proofs.Failing.{wells}
 use Rattle.bg_clause.proofs.Below.{form_below, forms_below, and_both}
 use Rattle.bg_clause.proofs.Valuing.{behind, front, behind_first, behind_past}
@@ -23,25 +24,52 @@ module _ (n : ℕ) where
   append_below (f ∷ fs) gs p q =
       and_both (form_below n f) (forms_below n (fs ++ gs)) (and_left (form_below n f) (forms_below n fs) p) (append_below fs gs (and_right (form_below n f) (forms_below n fs) p) q)
 
-  pub parts_below : (f : Form) → form_below n f ≡ true → forms_below n (parts f) ≡ true
-  parts_below (Plain b) p = refl
-  parts_below (Is l) p = refl
-  parts_below (Both f g) p =
-      append_below (parts f) (parts g) (parts_below f (and_left (form_below n f) (form_below n g) p)) (parts_below g (and_right (form_below n f) (form_below n g) p))
-  parts_below (Either l f) p = parts_below f (and_right (nat_lt l.atom n) (form_below n f) p)
-  parts_below (Any f g) p =
+  own_below : (f : Form) → form_below n f ≡ true → forms_below n (own f) ≡ true
+  own_below (Plain b) p = refl
+  own_below (Is l) p = refl
+  own_below (NotSo f) p = and_both (form_below n f) true p refl
+  own_below (Both f g) p = and_both (form_below n (Both f g)) true p refl
+  own_below (Same f g) p = and_both (form_below n (Same f g)) true p refl
+
+  two_below : (f g : Form) → form_below n f ≡ true → form_below n g ≡ true → forms_below n (deep f) ≡ true → forms_below n (deep g) ≡ true → forms_below n (own f ++ (own g ++ (deep f ++ deep g))) ≡ true
+  two_below f g p q r s =
+      append_below (own f) (own g ++ (deep f ++ deep g)) (own_below f p) (append_below (own g) (deep f ++ deep g) (own_below g q) (append_below (deep f) (deep g) r s))
+
+  deep_below : (f : Form) → form_below n f ≡ true → forms_below n (deep f) ≡ true
+  deep_below (Plain b) p = refl
+  deep_below (Is l) p = refl
+  deep_below (NotSo f) p = deep_below f p
+  deep_below (Both f g) p =
       let first = and_left (form_below n f) (form_below n g) p in
-      and_both (form_below n f) (forms_below n (parts f ++ parts g)) first (append_below (parts f) (parts g) (parts_below f first) (parts_below g (and_right (form_below n f) (form_below n g) p)))
+      let second = and_right (form_below n f) (form_below n g) p in
+      two_below f g first second (deep_below f first) (deep_below g second)
+  deep_below (Same f g) p =
+      let first = and_left (form_below n f) (form_below n g) p in
+      let second = and_right (form_below n f) (form_below n g) p in
+      two_below f g first second (deep_below f first) (deep_below g second)
+
+  as_below : (f : Form) (s : Bool) → form_below n f ≡ true → forms_below n (parts_as s f) ≡ true
+  as_below (Plain b) s p = refl
+  as_below (Is l) s p = refl
+  as_below (NotSo f) s p = as_below f (not s) p
+  as_below (Both f g) true p =
+      append_below (parts_as true f) (parts_as true g) (as_below f true (and_left (form_below n f) (form_below n g) p)) (as_below g true (and_right (form_below n f) (form_below n g) p))
+  as_below (Both f g) false p =
+      let first = and_left (form_below n f) (form_below n g) p in
+      append_below (own f) (parts_as false f ++ parts_as false g) (own_below f first) (append_below (parts_as false f) (parts_as false g) (as_below f false first) (as_below g false (and_right (form_below n f) (form_below n g) p)))
+  as_below (Same f g) s p = deep_below (Same f g) p
+
+  pub parts_below : (f : Form) → form_below n f ≡ true → forms_below n (parts f) ≡ true
+  parts_below f p = as_below f true p
 
   module _ (t u : ℕ → Bool) (agree : Agree n t u) where
     pub local : (f : Form) → form_below n f ≡ true → form_true t f ≡ form_true u f
     local (Plain b) p = refl
     local (Is l) p = ap (λ x. same x l.sign) (agree l.atom p)
+    local (NotSo f) p = ap not (local f p)
     local (Both f g) p =
         rw (local f (and_left (form_below n f) (form_below n g) p), local g (and_right (form_below n f) (form_below n g) p)) refl
-    local (Either l f) p =
-        rw (agree l.atom (and_left (nat_lt l.atom n) (form_below n f) p), local f (and_right (nat_lt l.atom n) (form_below n f) p)) refl
-    local (Any f g) p =
+    local (Same f g) p =
         rw (local f (and_left (form_below n f) (form_below n g) p), local g (and_right (form_below n f) (form_below n g) p)) refl
 
     pub local_wells : (fs : List Form) → forms_below n fs ≡ true → wells t fs ≡ wells u fs

@@ -1,6 +1,6 @@
 -- The clauses name atoms that are there.
 use Rattle.std.proofs.Common.{◌≡◌, ℕ, zero, suc, ◌+◌, ◌≤◌, Bool, true, false, List, [], ◌∷◌, ◌++◌, length, map, refl, sym, ap, subst, ◌∙◌, arith}
-use Rattle.std.specs.Prelude.{◌&&◌, nat_lt, Some}
+use Rattle.std.specs.Prelude.{not, ◌&&◌, if◌then◌else◌, nat_lt, Some}
 use Rattle.std.proofs.lemmas.Bool.Decides.{nat_tests}
 use Rattle.bg_ast.specs.Execution.{Spot}
 use Rattle.bg_sense.specs.Variables.{count_from}
@@ -8,23 +8,46 @@ use Rattle.bg_passive.specs.Passive.{PassiveBlock}
 use Rattle.bg_formula.specs.declared.atom.Literal.{Literal}
 use Rattle.bg_formula.specs.Atoms.{IsTruth, at}
 use Rattle.bg_formula.specs.Formulas.{literals_below, clauses_below, units_below, is_whole}
-use Rattle.bg_formula.specs.Meaning.{Valuation, signed, literal_true, clause_true, clauses_true}
-use Rattle.bg_clause.specs.Forms.{Form, Plain, Is, Both, Either, Any, literal_in}
+use Rattle.bg_formula.specs.Meaning.{Valuation, same, signed, literal_true, clause_true, clauses_true}
+use Rattle.bg_clause.specs.Forms.{Form, Plain, Is, NotSo, Both, Same, literal_in, opposite}
 use Rattle.bg_clause.specs.Fitting.{fits_cmds, fit_edges, fit_blocks}
 use Rattle.bg_clause.specs.Failing.{fail_block}
-use Rattle.bg_clause.specs.Emitted.{names, denies, after, emitted}
+use Rattle.bg_clause.specs.Emitted.{denies, name_of, next_of, after_defined, after_as, after, clause_of, signed_as, equal_clauses, both_clauses, same_clauses, defined, emitted_as, emitted}
 use Rattle.bg_clause.specs.Told.{Told, nothing, is_short, told_by, told, with_entry, entry_told}
 use Rattle.bg_clause.specs.Whole.{formula}
 use Rattle.bg_clause.proofs.Meaning.{none_below, below_suc, and_left, and_right}
 use Rattle.bg_clause.proofs.Clausal.{any_in, all_in, clause_below}
 use Rattle.bg_clause.proofs.Below.{form_below, forms_below, and_both, block_below}
 
+next_more : (f : Form) (n : ℕ) → n ≤ next_of f n
+next_more (Plain b) n = omega arith
+next_more (Is l) n = omega arith
+next_more (NotSo f) n = omega arith
+next_more (Both f g) n = omega arith
+next_more (Same f g) n = omega arith
+
+defined_more : (f : Form) (n : ℕ) → n ≤ after_defined f n
+defined_more (Plain b) n = omega arith
+defined_more (Is l) n = omega arith
+defined_more (NotSo f) n = defined_more f n
+defined_more (Both f g) n =
+    let a = next_of g (next_of f n) in
+    omega (arith, next_more f n, next_more g (next_of f n), defined_more f a, defined_more g (after_defined f a))
+defined_more (Same f g) n =
+    let a = next_of g (next_of f n) in
+    omega (arith, next_more f n, next_more g (next_of f n), defined_more f a, defined_more g (after_defined f a))
+
+as_more : (f : Form) (s : Bool) (n : ℕ) → n ≤ after_as s f n
+as_more (Plain b) s n = omega arith
+as_more (Is l) s n = omega arith
+as_more (NotSo f) s n = as_more f (not s) n
+as_more (Both f g) true n = omega (arith, as_more f true n, as_more g true (after_as true f n))
+as_more (Both f g) false n =
+    omega (arith, next_more f n, as_more f false (next_of f n), as_more g false (after_as false f (next_of f n)))
+as_more (Same f g) s n = defined_more (Same f g) n
+
 pub after_more : (f : Form) (n : ℕ) → n ≤ after f n
-after_more (Plain b) n = omega arith
-after_more (Is l) n = omega arith
-after_more (Both f g) n = omega (arith, after_more f n, after_more g (after f n))
-after_more (Either l f) n = after_more f n
-after_more (Any f g) n = omega (arith, after_more f (suc n), after_more g (after f (suc n)))
+after_more f n = as_more f true n
 
 append_below : (n : ℕ) (xs ys : List (List Literal)) → clauses_below n xs ≡ true → clauses_below n ys ≡ true → clauses_below n (xs ++ ys) ≡ true
 append_below n [] ys p q = q
@@ -40,19 +63,103 @@ last_below n (k ∷ ls) l p q =
     and_both (nat_lt k.atom n) (literals_below n (ls ++ l ∷ [])) (and_left (nat_lt k.atom n) (literals_below n ls) p) (last_below n ls l (and_right (nat_lt k.atom n) (literals_below n ls) p) q)
 
 module _ (n : ℕ) where
+  signed_below : (s : Bool) (l : Literal) → nat_lt l.atom n ≡ true → nat_lt (signed_as s l).atom n ≡ true
+  signed_below true l p = p
+  signed_below false l p = p
+
+  two_below : (ls : List Literal) (k l : Literal) → literals_below n ls ≡ true → nat_lt k.atom n ≡ true → nat_lt l.atom n ≡ true → literals_below n (ls ++ k ∷ l ∷ []) ≡ true
+  two_below [] k l p q r =
+      and_both (nat_lt k.atom n) (nat_lt l.atom n && true) q (and_both (nat_lt l.atom n) true r refl)
+  two_below (j ∷ ls) k l p q r =
+      and_both (nat_lt j.atom n) (literals_below n (ls ++ k ∷ l ∷ [])) (and_left (nat_lt j.atom n) (literals_below n ls) p) (two_below ls k l (and_right (nat_lt j.atom n) (literals_below n ls) p) q r)
+
+  equal_below : (ls : List Literal) (k l : Literal) → literals_below n ls ≡ true → nat_lt k.atom n ≡ true → nat_lt l.atom n ≡ true → clauses_below n (equal_clauses ls k l) ≡ true
+  equal_below ls k l p q r =
+      append_below n (clause_of (ls ++ opposite k ∷ l ∷ [])) (clause_of (ls ++ k ∷ opposite l ∷ [])) (clause_below n (ls ++ opposite k ∷ l ∷ []) (two_below ls (opposite k) l p q r)) (clause_below n (ls ++ k ∷ opposite l ∷ []) (two_below ls k (opposite l) p q r))
+
+  one_literal : (k : Literal) → nat_lt k.atom n ≡ true → literals_below n (k ∷ []) ≡ true
+  one_literal k p = and_both (nat_lt k.atom n) true p refl
+
+  both_below : (k l m : Literal) → nat_lt k.atom n ≡ true → nat_lt l.atom n ≡ true → nat_lt m.atom n ≡ true → clauses_below n (both_clauses k l m) ≡ true
+  both_below k l m p q r =
+      let xs = clause_of (opposite k ∷ l ∷ []) in
+      let ys = clause_of (opposite k ∷ m ∷ []) in
+      let zs = clause_of (k ∷ opposite l ∷ opposite m ∷ []) in
+      append_below n xs (ys ++ zs) (clause_below n (opposite k ∷ l ∷ []) (two_below [] (opposite k) l refl p q)) (append_below n ys zs (clause_below n (opposite k ∷ m ∷ []) (two_below [] (opposite k) m refl p r)) (clause_below n (k ∷ opposite l ∷ opposite m ∷ []) (two_below (k ∷ []) (opposite l) (opposite m) (one_literal k p) q r)))
+
+  same_below : (k l m : Literal) → nat_lt k.atom n ≡ true → nat_lt l.atom n ≡ true → nat_lt m.atom n ≡ true → clauses_below n (same_clauses k l m) ≡ true
+  same_below k l m p q r =
+      append_below n (equal_clauses (opposite k ∷ []) l m) (equal_clauses (k ∷ []) l (opposite m)) (equal_below (opposite k ∷ []) l m (one_literal (opposite k) p) q r) (equal_below (k ∷ []) l (opposite m) (one_literal k p) q r)
+
+  name_below : (f : Form) (k : ℕ) → form_below n f ≡ true → next_of f k ≤ n → nat_lt (name_of f k).atom n ≡ true
+  name_below (Plain b) k p le = one_below k n le
+  name_below (Is l) k p le = p
+  name_below (NotSo f) k p le = one_below k n le
+  name_below (Both f g) k p le = one_below k n le
+  name_below (Same f g) k p le = one_below k n le
+
+  defined_below : (f : Form) (x : Literal) (k : ℕ) → nat_lt x.atom n ≡ true → form_below n f ≡ true → after_defined f k ≤ n → clauses_below n (defined x f k) ≡ true
+  defined_below (Plain b) x k p q le =
+      clause_below n (signed_as b x ∷ []) (one_literal (signed_as b x) (signed_below b x p))
+  defined_below (Is l) x k p q le = equal_below [] x l refl p q
+  defined_below (NotSo f) x k p q le = defined_below f (opposite x) k p q le
+  defined_below (Both f g) x k p q le =
+      let a = next_of g (next_of f k) in
+      let first = and_left (form_below n f) (form_below n g) q in
+      let second = and_right (form_below n f) (form_below n g) q in
+      let fore : after_defined f a ≤ n = omega (arith, le, defined_more g (after_defined f a)) in
+      let near : a ≤ n = omega (arith, fore, defined_more f a) in
+      let l = name_below f k first (omega (arith, near, next_more g (next_of f k))) in
+      let m = name_below g (next_of f k) second near in
+      let xs = defined (name_of f k) f a in
+      let ys = defined (name_of g (next_of f k)) g (after_defined f a) in
+      append_below n (both_clauses x (name_of f k) (name_of g (next_of f k))) (xs ++ ys) (both_below x (name_of f k) (name_of g (next_of f k)) p l m) (append_below n xs ys (defined_below f (name_of f k) a l first fore) (defined_below g (name_of g (next_of f k)) (after_defined f a) m second le))
+  defined_below (Same f g) x k p q le =
+      let a = next_of g (next_of f k) in
+      let first = and_left (form_below n f) (form_below n g) q in
+      let second = and_right (form_below n f) (form_below n g) q in
+      let fore : after_defined f a ≤ n = omega (arith, le, defined_more g (after_defined f a)) in
+      let near : a ≤ n = omega (arith, fore, defined_more f a) in
+      let l = name_below f k first (omega (arith, near, next_more g (next_of f k))) in
+      let m = name_below g (next_of f k) second near in
+      let xs = defined (name_of f k) f a in
+      let ys = defined (name_of g (next_of f k)) g (after_defined f a) in
+      append_below n (same_clauses x (name_of f k) (name_of g (next_of f k))) (xs ++ ys) (same_below x (name_of f k) (name_of g (next_of f k)) p l m) (append_below n xs ys (defined_below f (name_of f k) a l first fore) (defined_below g (name_of g (next_of f k)) (after_defined f a) m second le))
+
+  plain_below : (x : Bool) (ls : List Literal) → literals_below n ls ≡ true → clauses_below n (if x then [] else clause_of ls) ≡ true
+  plain_below true ls p = refl
+  plain_below false ls p = clause_below n ls p
+
+  as_below : (f : Form) (s : Bool) (ls : List Literal) (k : ℕ) → literals_below n ls ≡ true → form_below n f ≡ true → after_as s f k ≤ n → clauses_below n (emitted_as s ls f k) ≡ true
+  as_below (Plain b) s ls k p q le = plain_below (same b s) ls p
+  as_below (Is l) s ls k p q le =
+      clause_below n (ls ++ signed_as s l ∷ []) (last_below n ls (signed_as s l) p (signed_below s l q))
+  as_below (NotSo f) s ls k p q le = as_below f (not s) ls k p q le
+  as_below (Both f g) true ls k p q le =
+      let m = after_as true f k in
+      append_below n (emitted_as true ls f k) (emitted_as true ls g m) (as_below f true ls k p (and_left (form_below n f) (form_below n g) q) (omega (arith, le, as_more g true m))) (as_below g true ls m p (and_right (form_below n f) (form_below n g) q) le)
+  as_below (Both f g) false ls k p q le =
+      let m = after_as false f (next_of f k) in
+      let x = name_of f k in
+      let first = and_left (form_below n f) (form_below n g) q in
+      let fore : m ≤ n = omega (arith, le, as_more g false m) in
+      let name = name_below f k first (omega (arith, fore, as_more f false (next_of f k))) in
+      append_below n (emitted_as false (x ∷ []) f (next_of f k)) (emitted_as false (ls ++ opposite x ∷ []) g m) (as_below f false (x ∷ []) (next_of f k) (one_literal x name) first fore) (as_below g false (ls ++ opposite x ∷ []) m (last_below n ls (opposite x) p name) (and_right (form_below n f) (form_below n g) q) le)
+  as_below (Same f g) s ls k p q le =
+      let a = next_of g (next_of f k) in
+      let first = and_left (form_below n f) (form_below n g) q in
+      let second = and_right (form_below n f) (form_below n g) q in
+      let fore : after_defined f a ≤ n = omega (arith, le, defined_more g (after_defined f a)) in
+      let near : a ≤ n = omega (arith, fore, defined_more f a) in
+      let l = name_below f k first (omega (arith, near, next_more g (next_of f k))) in
+      let m = name_below g (next_of f k) second near in
+      let y = name_of g (next_of f k) in
+      let xs = defined (name_of f k) f a in
+      let ys = defined y g (after_defined f a) in
+      append_below n (equal_clauses ls (name_of f k) (signed_as s y)) (xs ++ ys) (equal_below ls (name_of f k) (signed_as s y) p l (signed_below s y m)) (append_below n xs ys (defined_below f (name_of f k) a l first fore) (defined_below g y (after_defined f a) m second le))
+
   emitted_below : (f : Form) (ls : List Literal) (k : ℕ) → literals_below n ls ≡ true → form_below n f ≡ true → after f k ≤ n → clauses_below n (emitted ls f k) ≡ true
-  emitted_below (Plain true) ls k p q le = refl
-  emitted_below (Plain false) ls k p q le = clause_below n ls p
-  emitted_below (Is l) ls k p q le =
-      clause_below n (ls ++ l ∷ []) (last_below n ls l p q)
-  emitted_below (Both f g) ls k p q le =
-      append_below n (emitted ls f k) (emitted ls g (after f k)) (emitted_below f ls k p (and_left (form_below n f) (form_below n g) q) (omega (arith, le, after_more g (after f k)))) (emitted_below g ls (after f k) p (and_right (form_below n f) (form_below n g) q) le)
-  emitted_below (Either l f) ls k p q le =
-      emitted_below f (ls ++ l ∷ []) k (last_below n ls l p (and_left (nat_lt l.atom n) (form_below n f) q)) (and_right (nat_lt l.atom n) (form_below n f) q) le
-  emitted_below (Any f g) ls k p q le =
-      let first : after f (suc k) ≤ n = omega (arith, le, after_more g (after f (suc k))) in
-      let name : nat_lt k n ≡ true = one_below k n (omega (arith, first, after_more f (suc k))) in
-      append_below n (emitted (denies k ∷ []) f (suc k)) (emitted (ls ++ names k ∷ []) g (after f (suc k))) (emitted_below f (denies k ∷ []) (suc k) (and_both (nat_lt k n) true name refl) (and_left (form_below n f) (form_below n g) q) first) (emitted_below g (ls ++ names k ∷ []) (after f (suc k)) (last_below n ls (names k) p name) (and_right (form_below n f) (form_below n g) q) le)
+  emitted_below f ls k p q le = as_below f true ls k p q le
 
   told_by_below : (x : Bool) (f : Form) (s : Told) → form_below n f ≡ true → forms_below n s.fails ≡ true → clauses_below n s.clauses ≡ true → (told_by x f s).next ≤ n → (forms_below n (told_by x f s).fails ≡ true) × (clauses_below n (told_by x f s).clauses ≡ true)
   told_by_below true f s p q r le = (and_both (form_below n f) (forms_below n s.fails) p q, r)

@@ -7,17 +7,17 @@ use Rattle.bg_text.specs.declared.expr.PrefixSign.TheVariants as prefix
 use Rattle.bg_text.specs.declared.expr.TreePrefix.{TreePrefix}
 use Rattle.bg_ast.specs.Resolved as r
 use Rattle.bg_ast.specs.Meaning as m
-use Rattle.bg_clause.specs.Forms.{Form, Plain, both_of, any_of, denied, equal_forms, form_of}
+use Rattle.bg_clause.specs.Forms.{Form, Plain, both_of, any_of, denied, same_of, form_of}
 
 -- two forms with a sign between them
 abbrev pub sign_form : InfixSign → Form → Form → Form
-sign_form op.Iff f g = equal_forms f g
+sign_form op.Iff f g = same_of g f
 sign_form op.Implies f g = any_of (denied f) g
 sign_form op.Explies f g = any_of (denied g) f
-sign_form op.And f g = both_of f g
-sign_form op.Or f g = any_of f g
-sign_form op.Equal f g = equal_forms f g
-sign_form op.Unequal f g = denied (equal_forms f g)
+sign_form op.And f g = both_of g f
+sign_form op.Or f g = any_of g f
+sign_form op.Equal f g = same_of g f
+sign_form op.Unequal f g = denied (same_of g f)
 sign_form _ f g = Plain false
 
 abbrev pub is_implies : InfixSign → Bool

@@ -1,16 +1,16 @@
--- Formulas over truth values as forms in which each denial is one of an atom.
-use Rattle.std.specs.Prelude.{ℕ, Bool, true, false, not, ◌&&◌, ◌||◌, Option, Some, None}
+-- Formulas over truth values as forms: conjunctions, denials, and pairs that are worth the same.
+use Rattle.std.specs.Prelude.{ℕ, Bool, true, false, not, ◌&&◌, if◌then◌else◌, Option, Some, None}
 use Rattle.bg_ast.specs.Syntax.{Ex, Fact, Read, Local, Not, Binary, Op, And, Or, Implies, Iff, Equal, Unequal}
 use Rattle.bg_formula.specs.declared.atom.Literal.{Literal}
 use Rattle.bg_formula.specs.Meaning.{same}
 
--- `Either l f` is a disjunction with one literal, for which clauses need no name
+-- `NotSo f` denies f; `Same f g` says that both are worth the same
 pub data Form : Type 0 where
   Plain : Bool → Form
   Is : Literal → Form
+  NotSo : Form → Form
   Both : Form → Form → Form
-  Either : Literal → Form → Form
-  Any : Form → Form → Form
+  Same : Form → Form → Form
 
 abbrev pub literal_in : (ℕ → Bool) → Literal → Bool
 literal_in t l = same (t l.atom) l.sign
@@ -19,9 +19,9 @@ literal_in t l = same (t l.atom) l.sign
 abbrev pub form_true : (ℕ → Bool) → Form → Bool
 form_true t (Plain b) = b
 form_true t (Is l) = literal_in t l
+form_true t (NotSo f) = not (form_true t f)
 form_true t (Both f g) = form_true t f && form_true t g
-form_true t (Either l f) = literal_in t l || form_true t f
-form_true t (Any f g) = form_true t f || form_true t g
+form_true t (Same f g) = same (form_true t f) (form_true t g)
 
 -- the atom is true
 abbrev pub is_true : ℕ → Form
@@ -34,60 +34,59 @@ abbrev pub plain_of : Form → Option Bool
 plain_of (Plain b) = Some b
 plain_of f = None
 
-abbrev pub literal_of : Form → Option Literal
-literal_of (Is l) = Some l
-literal_of f = None
+abbrev pub is_literal : Form → Bool
+is_literal (Is l) = true
+is_literal f = false
+
+-- the denial: it is marked, and what is marked loses its mark
+abbrev pub denied : Form → Form
+denied (Plain b) = Plain (not b)
+denied (Is l) = Is (opposite l)
+denied (NotSo f) = f
+denied (Both f g) = NotSo (Both f g)
+denied (Same f g) = NotSo (Same f g)
 
 abbrev pub both_by : Option Bool → Form → Form → Form
 both_by (Some true) g rest = g
 both_by (Some false) g rest = Plain false
 both_by None g rest = rest
 
-abbrev pub any_by : Option Bool → Form → Form → Form
-any_by (Some true) g rest = Plain true
-any_by (Some false) g rest = g
-any_by None g rest = rest
-
-abbrev pub either_by : Option Literal → Form → Form → Form
-either_by (Some l) g rest = Either l g
-either_by None g rest = rest
+-- a literal stands in front of another form
+abbrev pub both_beside : Form → Form → Form
+both_beside f g = if is_literal g && not (is_literal f) then Both g f else Both f g
 
 abbrev pub both_behind : Form → Form → Form
-both_behind f g = both_by (plain_of g) f (Both f g)
+both_behind f g = both_by (plain_of g) f (both_beside f g)
 
 -- the conjunction: none of its parts is plain
 abbrev pub both_of : Form → Form → Form
 both_of f g = both_by (plain_of f) g (both_behind f g)
 
-abbrev pub any_beside : Form → Form → Form
-any_beside f g = either_by (literal_of f) g (either_by (literal_of g) f (Any f g))
-
-abbrev pub any_behind : Form → Form → Form
-any_behind f g = any_by (plain_of g) f (any_beside f g)
-
--- the disjunction: none of its parts is plain
+-- the disjunction
 abbrev pub any_of : Form → Form → Form
-any_of f g = any_by (plain_of f) g (any_behind f g)
+any_of f g = denied (both_of (denied f) (denied g))
 
--- the denial
-abbrev pub denied : Form → Form
-denied (Plain b) = Plain (not b)
-denied (Is l) = Is (opposite l)
-denied (Both f g) = any_of (denied f) (denied g)
-denied (Either l f) = Both (Is (opposite l)) (denied f)
-denied (Any f g) = both_of (denied f) (denied g)
+abbrev pub same_by : Option Bool → Form → Form → Form
+same_by (Some true) g rest = g
+same_by (Some false) g rest = denied g
+same_by None g rest = rest
 
-abbrev pub equal_forms : Form → Form → Form
-equal_forms f g = both_of (any_of (denied f) g) (any_of f (denied g))
+abbrev pub same_behind : Form → Form → Form
+same_behind f g = same_by (plain_of g) f (Same f g)
 
--- two forms under an operator; those of numbers have none
+-- both are worth the same: neither part is plain
+abbrev pub same_of : Form → Form → Form
+same_of f g = same_by (plain_of f) g (same_behind f g)
+
+-- two forms under an operator; those of numbers have none. What stands on the left in a chain comes last, so that the form of a
+-- chain is nested on one side alone
 abbrev pub joined_by : Op → Form → Form → Form
-joined_by And f g = both_of f g
-joined_by Or f g = any_of f g
+joined_by And f g = both_of g f
+joined_by Or f g = any_of g f
 joined_by Implies f g = any_of (denied f) g
-joined_by Iff f g = equal_forms f g
-joined_by Equal f g = equal_forms f g
-joined_by Unequal f g = denied (equal_forms f g)
+joined_by Iff f g = same_of g f
+joined_by Equal f g = same_of g f
+joined_by Unequal f g = denied (same_of g f)
 joined_by _ f g = Plain false
 
 -- the form of an expression: the truth of incarnation j is atom j

@@ -1,33 +1,49 @@
--- Forms that wait for their clauses, each with the literals that it stands with.
-use Rattle.std.specs.Prelude.{ℕ, zero, suc, ◌+◌, List, [], ◌∷◌, ◌++◌}
+-- Forms that wait for their clauses.
+use Rattle.std.specs.Prelude.{ℕ, zero, suc, ◌+◌, Bool, List, [], ◌∷◌, ◌++◌}
 use Rattle.bg_formula.specs.declared.atom.Literal.{Literal}
-use Rattle.bg_clause.specs.declared.emit.Waiting as code
-use Rattle.bg_clause.specs.Forms.{Form, Plain, Is, Both, Either, Any}
-use Rattle.bg_clause.specs.Emitted.{after, emitted}
+use Rattle.bg_clause.specs.declared.waiting.Waiting as code
+use Rattle.bg_clause.specs.declared.waiting.Waiting.TheVariants as waiting
+use Rattle.bg_clause.specs.Forms.{Form, Plain, Is, NotSo, Both, Same}
+use Rattle.bg_clause.specs.Emitted.{after_as, after_defined, emitted_as, defined}
 use Rattle.bg_clause.specs.Views.{form_in}
 
-abbrev pub Waits : Type 0
-Waits = List Literal × Form
+-- one of the literals is to be true or the form to be worth this; or the literal is to be worth what the form is
+pub data Waits : Type 0 where
+  Says : Bool → List Literal → Form → Waits
+  Defines : Literal → Form → Waits
 
 abbrev pub waits_of : code.Waiting → Waits
-waits_of w = (w.literals.items, form_in w.form)
+waits_of (waiting.Says s ls f) = Says s ls.items (form_in f)
+waits_of (waiting.Defines k f) = Defines k (form_in f)
+
+abbrev pub emitted_of : Waits → ℕ → List (List Literal)
+emitted_of (Says s ls f) n = emitted_as s ls f n
+emitted_of (Defines k f) n = defined k f n
+
+abbrev pub after_of : Waits → ℕ → ℕ
+after_of (Says s ls f) n = after_as s f n
+after_of (Defines k f) n = after_defined f n
 
 abbrev pub emitted_all : List Waits → ℕ → List (List Literal)
 emitted_all [] n = []
-emitted_all (w ∷ ws) n = emitted w.0 w.1 n ++ emitted_all ws (after w.1 n)
+emitted_all (w ∷ ws) n = emitted_of w n ++ emitted_all ws (after_of w n)
 
 abbrev pub after_all : List Waits → ℕ → ℕ
 after_all [] n = n
-after_all (w ∷ ws) n = after_all ws (after w.1 n)
+after_all (w ∷ ws) n = after_all ws (after_of w n)
 
 -- how many parts a form has
 abbrev pub size : Form → ℕ
 size (Plain b) = 1
 size (Is l) = 1
+size (NotSo f) = suc (size f)
 size (Both f g) = suc (size f + size g)
-size (Either l f) = suc (size f)
-size (Any f g) = suc (size f + size g)
+size (Same f g) = suc (size f + size g)
+
+abbrev pub size_of : Waits → ℕ
+size_of (Says s ls f) = size f
+size_of (Defines k f) = size f
 
 abbrev pub size_all : List Waits → ℕ
 size_all [] = zero
-size_all (w ∷ ws) = size w.1 + size_all ws
+size_all (w ∷ ws) = size_of w + size_all ws

@@ -1,107 +1,98 @@
 //! Clauses of forms.
-ghost use Rattle.std.specs.Prelude.{◌≡◌, suc, ◌<◌, [], ◌∷◌, ◌++◌, map, IfOk, OnOk};
-ghost use Rattle.bg_clause.specs.Emitted.{names, denies, after, emitted};
+ghost use Rattle.std.specs.Prelude.{◌≡◌, ◌<◌, ◌∷◌, ◌++◌, map, IfOk, OnOk};
+ghost use Rattle.bg_clause.specs.Emitted.{after, emitted};
 ghost use Rattle.bg_clause.specs.Views.{form_in, clauses_in};
-ghost use Rattle.bg_clause.specs.Waiting.{waits_of, emitted_all, after_all, size_all};
+ghost use Rattle.bg_clause.specs.Waiting.{Says, Defines, waits_of, emitted_all, after_all, size_of, size_all};
 
 use crate::clause::add;
-use crate::form::{Form, Parts};
+use crate::form::{Form, Parts, opposite};
+use crate::naming::{name_for, signed_as};
+use crate::pairs::{add_both, add_equal, add_same};
+use crate::waiting::{Waiting, define, define_both, say, say_both, say_not_both};
 use bg_formula::Literal;
 use std::alloc::{AllocError, Global};
 use std::collections::VecDeque;
 
-/// The next name. 2^32 of them count as want of memory.
-pub fn take_next(next: &mut u32) -> Result<u32, AllocError>
-    ensures ok { IfOk result (λ j. j ≡ next.old) }
-    ensures more { OnOk result (next.new ≡ suc next.old) }
+/// One of the literals is true or the form is worth this: it has its clauses, or parts of it wait.
+#[tactic(auto, using(crate::proofs::Emits::emit_forms))]
+fn emit_says(
+    alloc: Global,
+    out: &mut Vec<Vec<Literal>>,
+    waiting: &mut VecDeque<Waiting>,
+    sign: bool,
+    literals: Vec<Literal>,
+    form: Form,
+    next: &mut u32,
+) -> Result<(), AllocError>
+    ensures clauses { OnOk result (clauses_in out.new.items ++ emitted_all (map waits_of waiting.new.items) next.new ≡ clauses_in out.old.items ++ emitted_all (Says sign literals.items (form_in form) ∷ map waits_of waiting.old.items) next.old) }
+    ensures more { OnOk result (after_all (map waits_of waiting.new.items) next.new ≡ after_all (Says sign literals.items (form_in form) ∷ map waits_of waiting.old.items) next.old) }
+    ensures smaller { OnOk result (size_all (map waits_of waiting.new.items) < size_all (Says sign literals.items (form_in form) ∷ map waits_of waiting.old.items)) }
 {
-    let j = *next;
-    match j.checked_add(1) {
-        Some(n) => {
-            *next = n;
-            Ok(j)
+    match form.parts() {
+        Parts::Plain(b) => {
+            if b == sign {
+                Ok(())
+            } else {
+                add(alloc, out, literals.as_slice())
+            }
         }
-        None => Err(AllocError),
+        Parts::Is(l) => {
+            let mut more = literals;
+            more.push(signed_as(sign, l))?;
+            add(alloc, out, more.as_slice())
+        }
+        Parts::NotSo(f) => say(waiting, !sign, literals, f),
+        Parts::Both(f, g) => {
+            if sign {
+                say_both(alloc, waiting, literals, f, g)
+            } else {
+                let k = name_for(&f, next)?;
+                say_not_both(alloc, waiting, literals, k, f, g)
+            }
+        }
+        Parts::Same(f, g) => {
+            let k = name_for(&f, next)?;
+            let l = name_for(&g, next)?;
+            add_equal(alloc, out, literals.as_slice(), k, signed_as(sign, l))?;
+            define_both(waiting, k, f, l, g)
+        }
     }
 }
 
-/// The literal that an atom is true.
-pub fn names(atom: u32) -> Literal
-    ensures { result ≡ names atom }
-{
-    Literal { atom, sign: true }
-}
-
-/// The literal that an atom is false.
-pub fn denies(atom: u32) -> Literal
-    ensures { result ≡ denies atom }
-{
-    Literal { atom, sign: false }
-}
-
-/// A form that waits for its clauses, with the literals that it stands with.
-#[derive(Drop)]
-pub struct Waiting {
-    pub literals: Vec<Literal>,
-    pub form: Form,
-}
-
-/// A literal alone.
-pub fn alone(alloc: Global, l: Literal) -> Result<Vec<Literal>, AllocError>
-    ensures { IfOk result (λ made. made.items ≡ l ∷ []) }
-{
-    let mut made = Vec::new(alloc);
-    made.push(l)?;
-    Ok(made)
-}
-
-/// A form waits in front of others.
-fn wait(
+/// The literal is worth what the form is: it has its clauses, or parts of it wait.
+#[tactic(auto, using(crate::proofs::Emits::emit_forms))]
+fn emit_defines(
+    alloc: Global,
+    out: &mut Vec<Vec<Literal>>,
     waiting: &mut VecDeque<Waiting>,
-    literals: Vec<Literal>,
+    k: Literal,
     form: Form,
+    next: &mut u32,
 ) -> Result<(), AllocError>
-    ensures { OnOk result (map waits_of waiting.new.items ≡ (literals.items, form_in form) ∷ map waits_of waiting.old.items) }
+    ensures clauses { OnOk result (clauses_in out.new.items ++ emitted_all (map waits_of waiting.new.items) next.new ≡ clauses_in out.old.items ++ emitted_all (Defines k (form_in form) ∷ map waits_of waiting.old.items) next.old) }
+    ensures more { OnOk result (after_all (map waits_of waiting.new.items) next.new ≡ after_all (Defines k (form_in form) ∷ map waits_of waiting.old.items) next.old) }
+    ensures smaller { OnOk result (size_all (map waits_of waiting.new.items) < size_all (Defines k (form_in form) ∷ map waits_of waiting.old.items)) }
 {
-    waiting.push_front(Waiting { literals, form })?;
-    Ok(())
-}
-
-/// Two forms wait, of which both are to be true beside the literals.
-fn wait_both(
-    alloc: Global,
-    waiting: &mut VecDeque<Waiting>,
-    literals: Vec<Literal>,
-    f: Form,
-    g: Form,
-) -> Result<(), AllocError>
-    ensures { OnOk result (map waits_of waiting.new.items ≡ (literals.items, form_in f) ∷ (literals.items, form_in g) ∷ map waits_of waiting.old.items) }
-{
-    let again = literals.as_slice().to_vec(alloc)?;
-    wait(waiting, again, g)?;
-    wait(waiting, literals, f)
-}
-
-/// Two forms wait, of which one is to be true beside the literals: a name stands for the first.
-fn wait_any(
-    alloc: Global,
-    waiting: &mut VecDeque<Waiting>,
-    literals: Vec<Literal>,
-    f: Form,
-    g: Form,
-    name: u32,
-) -> Result<(), AllocError>
-    ensures { OnOk result (map waits_of waiting.new.items ≡ (denies name ∷ [], form_in f) ∷ (literals.items ++ names name ∷ [], form_in g) ∷ map waits_of waiting.old.items) }
-{
-    let mut more = literals;
-    more.push(names(name))?;
-    wait(waiting, more, g)?;
-    let first = alone(alloc, denies(name))?;
-    wait(waiting, first, f)
+    match form.parts() {
+        Parts::Plain(b) => add(alloc, out, &[signed_as(b, k)]),
+        Parts::Is(l) => add_equal(alloc, out, &[], k, l),
+        Parts::NotSo(f) => define(waiting, opposite(k), f),
+        Parts::Both(f, g) => {
+            let l = name_for(&f, next)?;
+            let m = name_for(&g, next)?;
+            add_both(alloc, out, k, l, m)?;
+            define_both(waiting, l, f, m, g)
+        }
+        Parts::Same(f, g) => {
+            let l = name_for(&f, next)?;
+            let m = name_for(&g, next)?;
+            add_same(alloc, out, k, l, m)?;
+            define_both(waiting, l, f, m, g)
+        }
+    }
 }
 
 /// One form more has its clauses, or parts of it wait.
-#[tactic(auto, using(crate::proofs::Emits::emit_forms))]
 fn emit_one(
     alloc: Global,
     out: &mut Vec<Vec<Literal>>,
@@ -113,25 +104,9 @@ fn emit_one(
     ensures more { OnOk result (after_all (map waits_of waiting.new.items) next.new ≡ after_all (waits_of w ∷ map waits_of waiting.old.items) next.old) }
     ensures smaller { OnOk result (size_all (map waits_of waiting.new.items) < size_all (waits_of w ∷ map waits_of waiting.old.items)) }
 {
-    let Waiting { literals, form } = w;
-    match form.parts() {
-        Parts::Plain(true) => Ok(()),
-        Parts::Plain(false) => add(alloc, out, literals.as_slice()),
-        Parts::Is(l) => {
-            let mut more = literals;
-            more.push(l)?;
-            add(alloc, out, more.as_slice())
-        }
-        Parts::Both(f, g) => wait_both(alloc, waiting, literals, f, g),
-        Parts::Either(l, f) => {
-            let mut more = literals;
-            more.push(l)?;
-            wait(waiting, more, f)
-        }
-        Parts::Any(f, g) => {
-            let name = take_next(next)?;
-            wait_any(alloc, waiting, literals, f, g, name)
-        }
+    match w {
+        Waiting::Says(sign, literals, f) => emit_says(alloc, out, waiting, sign, literals, f, next),
+        Waiting::Defines(k, f) => emit_defines(alloc, out, waiting, k, f, next),
     }
 }
 
@@ -148,7 +123,7 @@ pub fn emit(
     ensures more { OnOk result (next.new ≡ after (form_in f) next.old) }
 {
     let mut waiting = VecDeque::new(alloc);
-    wait(&mut waiting, literals, f)?;
+    say(&mut waiting, true, literals, f)?;
     while let Some(w) = waiting.pop_front() {
         emit_one(alloc, out, &mut waiting, w, next)?;
     }

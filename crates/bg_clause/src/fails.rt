@@ -55,7 +55,7 @@ fn supposed(
     ensures { IfOk result (λ x. form_in x ≡ both_of (any_of (is_not_there count (option_of candidate_of b)) (form_of (m.ex_of (ex_of e.now)))) (form_in rest)) }
 {
     let there = is_there(count, b)?;
-    let absent = denied(alloc, &there)?;
+    let absent = denied(alloc, there)?;
     let says = form_ex(alloc, e)?;
     let here = any_of(alloc, absent, says)?;
     both_of(alloc, here, rest)
@@ -73,7 +73,7 @@ fn claimed(
 {
     let there = is_there(count, b)?;
     let says = form_ex(alloc, e)?;
-    let not_so = denied(alloc, &says)?;
+    let not_so = denied(alloc, says)?;
     let here = both_of(alloc, there, not_so)?;
     any_of(alloc, here, rest)
 }

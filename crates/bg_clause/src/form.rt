@@ -1,18 +1,18 @@
-//! Formulas over truth values in which each denial is one of an atom.
+//! Formulas over truth values: conjunctions, denials, and pairs that are worth the same.
 ghost use Rattle.std.specs.Prelude.{◌≡◌, IfOk};
-ghost use Rattle.bg_clause.specs.Forms.{plain_of, literal_of, is_true, opposite, both_behind, both_of, any_beside, any_behind, any_of, denied, equal_forms};
+ghost use Rattle.bg_clause.specs.Forms.{plain_of, is_literal, is_true, opposite, denied, both_beside, both_behind, both_of, any_of, same_behind, same_of};
 ghost use Rattle.bg_clause.specs.Views.{form_in, parts_in};
 
 use bg_formula::Literal;
 use std::alloc::{AllocError, Global};
 
-/// A form. `Either` is a disjunction with one literal, for which clauses need no name.
+/// A form. `NotSo` denies one; `Same` says that two are worth the same.
 pub enum Form {
     Plain(bool),
     Is(Literal),
+    NotSo(Box<Form>),
     Both(Box<Form>, Box<Form>),
-    Either(Literal, Box<Form>),
-    Any(Box<Form>, Box<Form>),
+    Same(Box<Form>, Box<Form>),
 }
 
 /// A form taken apart.
@@ -20,9 +20,9 @@ pub enum Form {
 pub enum Parts {
     Plain(bool),
     Is(Literal),
+    NotSo(Form),
     Both(Form, Form),
-    Either(Literal, Form),
-    Any(Form, Form),
+    Same(Form, Form),
 }
 
 impl Form {
@@ -33,23 +33,23 @@ impl Form {
         match self {
             Form::Plain(b) => Parts::Plain(b),
             Form::Is(l) => Parts::Is(l),
+            Form::NotSo(f) => Parts::NotSo(Box::into_inner(f)),
             Form::Both(f, g) => Parts::Both(Box::into_inner(f), Box::into_inner(g)),
-            Form::Either(l, f) => Parts::Either(l, Box::into_inner(f)),
-            Form::Any(f, g) => Parts::Any(Box::into_inner(f), Box::into_inner(g)),
+            Form::Same(f, g) => Parts::Same(Box::into_inner(f), Box::into_inner(g)),
         }
     }
 }
 
-/// What stands behind others is let go in a loop, since commands make long rows of it.
+/// What stands behind others is let go in a loop, since chains and commands make long rows of it.
 impl Drop for Form {
     fn drop(mut self) {
         loop {
             match self {
                 Form::Plain(_) => return,
                 Form::Is(_) => return,
+                Form::NotSo(f) => self = Box::into_inner(f),
                 Form::Both(_f, g) => self = Box::into_inner(g),
-                Form::Either(_, f) => self = Box::into_inner(f),
-                Form::Any(_f, g) => self = Box::into_inner(g),
+                Form::Same(_f, g) => self = Box::into_inner(g),
             }
         }
     }
@@ -61,21 +61,21 @@ fn plain(f: &Form) -> Option<bool>
     match f {
         Form::Plain(b) => Some(*b),
         Form::Is(_) => None,
+        Form::NotSo(_) => None,
         Form::Both(_, _) => None,
-        Form::Either(_, _) => None,
-        Form::Any(_, _) => None,
+        Form::Same(_, _) => None,
     }
 }
 
-fn literal(f: &Form) -> Option<Literal>
-    ensures { result ≡ literal_of (form_in f.now) }
+fn is_literal(f: &Form) -> bool
+    ensures { result ≡ is_literal (form_in f.now) }
 {
     match f {
-        Form::Plain(_) => None,
-        Form::Is(l) => Some(*l),
-        Form::Both(_, _) => None,
-        Form::Either(_, _) => None,
-        Form::Any(_, _) => None,
+        Form::Plain(_) => false,
+        Form::Is(_) => true,
+        Form::NotSo(_) => false,
+        Form::Both(_, _) => false,
+        Form::Same(_, _) => false,
     }
 }
 
@@ -96,13 +96,42 @@ pub fn opposite(l: Literal) -> Literal
     }
 }
 
+/// The denial: it is marked, and what is marked loses its mark.
+pub fn denied(alloc: Global, f: Form) -> Result<Form, AllocError>
+    ensures { IfOk result (λ x. form_in x ≡ denied (form_in f)) }
+{
+    match f.parts() {
+        Parts::Plain(b) => Ok(Form::Plain(!b)),
+        Parts::Is(l) => Ok(Form::Is(opposite(l))),
+        Parts::NotSo(f) => Ok(f),
+        Parts::Both(f, g) => {
+            let whole = Form::Both(Box::new(alloc, f)?, Box::new(alloc, g)?);
+            Ok(Form::NotSo(Box::new(alloc, whole)?))
+        }
+        Parts::Same(f, g) => {
+            let whole = Form::Same(Box::new(alloc, f)?, Box::new(alloc, g)?);
+            Ok(Form::NotSo(Box::new(alloc, whole)?))
+        }
+    }
+}
+
+fn both_beside(alloc: Global, f: Form, g: Form) -> Result<Form, AllocError>
+    ensures { IfOk result (λ x. form_in x ≡ both_beside (form_in f) (form_in g)) }
+{
+    if is_literal(&g) && !is_literal(&f) {
+        Ok(Form::Both(Box::new(alloc, g)?, Box::new(alloc, f)?))
+    } else {
+        Ok(Form::Both(Box::new(alloc, f)?, Box::new(alloc, g)?))
+    }
+}
+
 fn both_behind(alloc: Global, f: Form, g: Form) -> Result<Form, AllocError>
     ensures { IfOk result (λ x. form_in x ≡ both_behind (form_in f) (form_in g)) }
 {
     match plain(&g) {
         Some(true) => Ok(f),
         Some(false) => Ok(Form::Plain(false)),
-        None => Ok(Form::Both(Box::new(alloc, f)?, Box::new(alloc, g)?)),
+        None => both_beside(alloc, f, g),
     }
 }
 
@@ -117,71 +146,33 @@ pub fn both_of(alloc: Global, f: Form, g: Form) -> Result<Form, AllocError>
     }
 }
 
-fn any_beside(alloc: Global, f: Form, g: Form) -> Result<Form, AllocError>
-    ensures { IfOk result (λ x. form_in x ≡ any_beside (form_in f) (form_in g)) }
-{
-    match literal(&f) {
-        Some(l) => Ok(Form::Either(l, Box::new(alloc, g)?)),
-        None => match literal(&g) {
-            Some(l) => Ok(Form::Either(l, Box::new(alloc, f)?)),
-            None => Ok(Form::Any(Box::new(alloc, f)?, Box::new(alloc, g)?)),
-        },
-    }
-}
-
-fn any_behind(alloc: Global, f: Form, g: Form) -> Result<Form, AllocError>
-    ensures { IfOk result (λ x. form_in x ≡ any_behind (form_in f) (form_in g)) }
-{
-    match plain(&g) {
-        Some(true) => Ok(Form::Plain(true)),
-        Some(false) => Ok(f),
-        None => any_beside(alloc, f, g),
-    }
-}
-
 /// The disjunction.
 pub fn any_of(alloc: Global, f: Form, g: Form) -> Result<Form, AllocError>
     ensures { IfOk result (λ x. form_in x ≡ any_of (form_in f) (form_in g)) }
 {
-    match plain(&f) {
-        Some(true) => Ok(Form::Plain(true)),
-        Some(false) => Ok(g),
-        None => any_behind(alloc, f, g),
-    }
+    let not_f = denied(alloc, f)?;
+    let not_g = denied(alloc, g)?;
+    let neither = both_of(alloc, not_f, not_g)?;
+    denied(alloc, neither)
 }
 
-/// The denial.
-pub fn denied(alloc: Global, f: &Form) -> Result<Form, AllocError>
-    ensures { IfOk result (λ x. form_in x ≡ denied (form_in f.now)) }
+fn same_behind(alloc: Global, f: Form, g: Form) -> Result<Form, AllocError>
+    ensures { IfOk result (λ x. form_in x ≡ same_behind (form_in f) (form_in g)) }
 {
-    match f {
-        Form::Plain(b) => Ok(Form::Plain(!*b)),
-        Form::Is(l) => Ok(Form::Is(opposite(*l))),
-        Form::Both(f, g) => {
-            let f = denied(alloc, f)?;
-            let g = denied(alloc, g)?;
-            any_of(alloc, f, g)
-        }
-        Form::Either(l, f) => {
-            let f = denied(alloc, f)?;
-            let first = Form::Is(opposite(*l));
-            Ok(Form::Both(Box::new(alloc, first)?, Box::new(alloc, f)?))
-        }
-        Form::Any(f, g) => {
-            let f = denied(alloc, f)?;
-            let g = denied(alloc, g)?;
-            both_of(alloc, f, g)
-        }
+    match plain(&g) {
+        Some(true) => Ok(f),
+        Some(false) => denied(alloc, f),
+        None => Ok(Form::Same(Box::new(alloc, f)?, Box::new(alloc, g)?)),
     }
 }
 
 /// Two forms that are worth the same.
-pub fn equal_forms(alloc: Global, f: Form, g: Form) -> Result<Form, AllocError>
-    ensures { IfOk result (λ x. form_in x ≡ equal_forms (form_in f) (form_in g)) }
+pub fn same_of(alloc: Global, f: Form, g: Form) -> Result<Form, AllocError>
+    ensures { IfOk result (λ x. form_in x ≡ same_of (form_in f) (form_in g)) }
 {
-    let not_f = denied(alloc, &f)?;
-    let not_g = denied(alloc, &g)?;
-    let first = any_of(alloc, not_f, g)?;
-    let second = any_of(alloc, f, not_g)?;
-    both_of(alloc, first, second)
+    match plain(&f) {
+        Some(true) => Ok(g),
+        Some(false) => denied(alloc, g),
+        None => same_behind(alloc, f, g),
+    }
 }

@@ -7,7 +7,7 @@ ghost use Rattle.bg_clause.specs.Forms.{form_of};
 ghost use Rattle.bg_clause.specs.Views.{form_in};
 ghost use Rattle.bg_clause.specs.ChainForms.{sign_form, is_implies, chain_forms, chain_one, folded, prefix_form, signed_form};
 
-use crate::form::{Form, any_of, both_of, denied, equal_forms, is_true};
+use crate::form::{Form, any_of, both_of, denied, is_true, same_of};
 use bg_ast::resolved::{Expr, Link, Variable};
 use bg_text::{InfixSign, PrefixSign, TreePrefix};
 use std::alloc::{AllocError, Global};
@@ -17,21 +17,21 @@ fn joined(alloc: Global, sign: InfixSign, f: Form, g: Form) -> Result<Form, Allo
     ensures { IfOk result (λ x. form_in x ≡ sign_form sign (form_in f) (form_in g)) }
 {
     match sign {
-        InfixSign::Iff => equal_forms(alloc, f, g),
+        InfixSign::Iff => same_of(alloc, g, f),
         InfixSign::Implies => {
-            let f = denied(alloc, &f)?;
+            let f = denied(alloc, f)?;
             any_of(alloc, f, g)
         }
         InfixSign::Explies => {
-            let g = denied(alloc, &g)?;
+            let g = denied(alloc, g)?;
             any_of(alloc, g, f)
         }
-        InfixSign::And => both_of(alloc, f, g),
-        InfixSign::Or => any_of(alloc, f, g),
-        InfixSign::Equal => equal_forms(alloc, f, g),
+        InfixSign::And => both_of(alloc, g, f),
+        InfixSign::Or => any_of(alloc, g, f),
+        InfixSign::Equal => same_of(alloc, g, f),
         InfixSign::Unequal => {
-            let same = equal_forms(alloc, f, g)?;
-            denied(alloc, &same)
+            let same = same_of(alloc, g, f)?;
+            denied(alloc, same)
         }
         InfixSign::Less => Ok(Form::Plain(false)),
         InfixSign::AtMost => Ok(Form::Plain(false)),
@@ -65,7 +65,7 @@ fn prefixed(alloc: Global, sign: PrefixSign, f: Form) -> Result<Form, AllocError
     ensures { IfOk result (λ x. form_in x ≡ prefix_form sign (form_in f)) }
 {
     match sign {
-        PrefixSign::Not => denied(alloc, &f),
+        PrefixSign::Not => denied(alloc, f),
         PrefixSign::Minus => Ok(Form::Plain(false)),
     }
 }
@@ -95,7 +95,7 @@ fn one_more(
     ensures { IfOk result (λ x. (ls : Links) → folded (map form_in waiting.new.items) (chain_forms (form_in x) ls) ≡ folded (map form_in waiting.old.items) (chain_one sign (form_in f) (form_in g) ls)) }
 {
     if is_implies(sign) {
-        let not_f = denied(alloc, &f)?;
+        let not_f = denied(alloc, f)?;
         waiting.push(not_f)?;
         return Ok(g);
     }

@@ -9,10 +9,13 @@ mod fitting;
 mod form;
 mod formed;
 pub mod laws;
+mod naming;
+mod pairs;
 mod short;
 mod tell;
 #[cfg(test)]
 mod tests;
+mod waiting;
 mod ways;
 mod whole;
 mod worth;

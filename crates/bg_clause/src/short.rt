@@ -30,8 +30,8 @@ pub fn short_of(f: &Form) -> Option<Short>
     match f {
         Form::Plain(b) => Some(Short::Plain(*b)),
         Form::Is(l) => Some(Short::Is(*l)),
+        Form::NotSo(_) => None,
         Form::Both(_, _) => None,
-        Form::Either(_, _) => None,
-        Form::Any(_, _) => None,
+        Form::Same(_, _) => None,
     }
 }

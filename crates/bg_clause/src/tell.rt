@@ -6,8 +6,9 @@ ghost use Rattle.bg_clause.specs.Told.{nothing, is_short, told_by, told, with_en
 ghost use Rattle.bg_clause.specs.Views.{form_in, short_in};
 ghost use Rattle.bg_clause.specs.Telling.{telling_of};
 
-use crate::emit::{alone, denies, emit, names, take_next};
+use crate::emit::emit;
 use crate::form::Form;
+use crate::naming::{alone, denies, names, take_next};
 use crate::short::{Short, short_of};
 use crate::ways::fail_block;
 use bg_formula::Literal;

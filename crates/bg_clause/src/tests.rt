@@ -1,10 +1,11 @@
 //! Clauses of a few blocks, by hand.
-use crate::clauses;
-use bg_ast::resolved::{Expr, Variable};
+use crate::{clauses, form_ex, is_worth};
+use bg_ast::resolved::{Expr, Link, Variable};
 use bg_base::{CandId, Pos};
 use bg_formula::Literal;
 use bg_incarnate::{Edge, PassiveBlock, PassiveCmd};
 use bg_places::Spot;
+use bg_text::InfixSign;
 use std::alloc::{AllocError, Global};
 use std::test::Fail;
 
@@ -76,5 +77,54 @@ fn an_incarnation_that_is_not_there(rt: HostRuntime) -> Result<(), Fail> {
     let alloc = rt.alloc();
     let made = blocks(alloc)?;
     assert!(rt; clauses(alloc, 1, 1, Spot::Assert(7), &made)?.is_none());
+    Ok(())
+}
+
+/// A chain of so many incarnations, with one sign between them.
+fn chain(alloc: Global, sign: InfixSign, many: u32) -> Result<Expr, AllocError> {
+    let mut links = Vec::new(alloc);
+    for j in 1..many {
+        links.push(Link {
+            pos: Pos { line: 1, column: 1 },
+            sign,
+            operand: read(j),
+        })?;
+    }
+    Ok(Expr::Chain(Box::new(alloc, read(0))?, links))
+}
+
+#[test]
+fn clauses_of_long_chains(rt: HostRuntime) -> Result<(), Fail> {
+    let alloc = rt.alloc();
+    // Two clauses for a chain of pairs, and four for the name of each pair behind them.
+    let table = [
+        (InfixSign::And, 50000, 50000, 50000),
+        (InfixSign::Iff, 2000, 2 + 4 * 1998, 2000 + 1998),
+        (InfixSign::Unequal, 2000, 2 + 4 * 1998, 2000 + 1998),
+    ];
+    for (sign, many, clauses_wanted, atoms_wanted) in table {
+        let supposes = PassiveCmd::Supposes(None, chain(alloc, sign, many)?);
+        let falsehood = Expr::Truth(Pos { line: 1, column: 1 }, false);
+        let mut made = block(alloc, Some(supposes), &[])?;
+        made.cmds
+            .push(PassiveCmd::Claims(Spot::Assert(7), None, falsehood))?;
+        let mut all = Vec::new(alloc);
+        all.push(made)?;
+        let found = clauses(alloc, many, 0, Spot::Assert(7), &all)?.ok_or("none")?;
+        assert_eq!(rt; found.clauses.len(), clauses_wanted);
+        assert_eq!(rt; found.atoms.len(), atoms_wanted);
+    }
+    Ok(())
+}
+
+#[test]
+fn the_worth_of_long_chains(rt: HostRuntime) -> Result<(), Fail> {
+    let alloc = rt.alloc();
+    let and = form_ex(alloc, &chain(alloc, InfixSign::And, 50000)?)?;
+    let iff = form_ex(alloc, &chain(alloc, InfixSign::Iff, 50001)?)?;
+    assert!(rt; !is_worth(&[true, true], &and));
+    // An even number of false operands.
+    assert!(rt; is_worth(&[true], &iff));
+    assert!(rt; !is_worth(&[true, true], &iff));
     Ok(())
 }

@@ -16,15 +16,31 @@ fn is_met(truths: &[bool], l: Literal) -> bool
     }
 }
 
-/// What a form is worth where the atoms have these truth values, and false past the end of the list.
+/// What a form is worth where the atoms have these truth values, and false past the end of the list. What stands behind others is
+/// walked in a loop.
 pub fn is_worth(truths: &[bool], f: &Form) -> bool
     ensures { result ≡ form_true (bools_at truths.now) (form_in f.now) }
 {
-    match f {
-        Form::Plain(b) => *b,
-        Form::Is(l) => is_met(truths, *l),
-        Form::Both(f, g) => is_worth(truths, f) && is_worth(truths, g),
-        Form::Either(l, f) => is_met(truths, *l) || is_worth(truths, f),
-        Form::Any(f, g) => is_worth(truths, f) || is_worth(truths, g),
+    let mut left: &Form = f;
+    let mut sign = true;
+    loop {
+        match left {
+            Form::Plain(b) => return *b == sign,
+            Form::Is(l) => return is_met(truths, *l) == sign,
+            Form::NotSo(f) => {
+                sign = !sign;
+                left = &**f;
+            }
+            Form::Both(f, g) => {
+                if !is_worth(truths, f) {
+                    return !sign;
+                }
+                left = &**g;
+            }
+            Form::Same(f, g) => {
+                sign = is_worth(truths, f) == sign;
+                left = &**g;
+            }
+        }
     }
 }
