@@ -100,7 +100,7 @@ fn each_text_gets_its_report_or_its_line(rt: HostRuntime) -> Result<(), Fail> {
             verify_a,
             "procedure P() returns (r: bool) { havoc r; assert r; }",
             Status::Refuted,
-            "axioms: consistent\nretained set: greatest\nimplementation P 1:1 refuted\n  refuted assert 1:44\n    var r = false\n    choice false\nsummary: 0 retained, 0 dropped; 0 verified, 1 refuted, 0 unknown\n",
+            "axioms: consistent\nretained set: greatest\nimplementation P 1:1 refuted\n  refuted assert 1:44\n    var r = true\n    choice false\nsummary: 0 retained, 0 dropped; 0 verified, 1 refuted, 0 unknown\n",
             "",
         ),
         (verify_a, FOUR_CLAUSES, Status::Verified, COPY_REPORT, ""),
@@ -296,7 +296,7 @@ fn each_statement_is_judged(rt: HostRuntime) -> Result<(), Fail> {
             "implementation P 1:1 refuted\n  refuted assert 1:80\n",
         ),
         (
-            "procedure P(a: bool) returns (b: bool) ensures b == a; { b := a; while (false) { b := !b; } }",
+            "procedure P(a: bool) returns (b: bool) ensures b == a; { b := a; while (false) invariant b == a; { b := !b; } }",
             Status::Verified,
             "implementation P 1:1 verified\n",
         ),
