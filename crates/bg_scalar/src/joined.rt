@@ -1,0 +1,152 @@
+//! Signs between scalars, and before them.
+ghost use Rattle.std.specs.Prelude.{◌≡◌};
+ghost use Rattle.bg_scalar.specs.Worths as spec;
+ghost use Rattle.bg_scalar.specs.Worths.{exact, on_truths, on_numbers, operate, takes, joined, prefix_on, prefixed};
+
+use crate::scalar::{Scalar, Worth};
+use bg_base::{OutOfRange, add, mul, neg, sub};
+use bg_text::{InfixSign, PrefixSign};
+
+fn truth(b: bool) -> Worth
+    ensures { result ≡ spec.truth b }
+{
+    Worth::Is(Scalar::Truth(b))
+}
+
+/// The result of an operation, or that it leaves the range.
+fn exact(made: Result<i128, OutOfRange>) -> Worth
+    ensures { result ≡ exact made }
+{
+    match made {
+        Ok(z) => Worth::Is(Scalar::Number(z)),
+        Err(o) => Worth::Leaves(o),
+    }
+}
+
+/// A sign between truth values.
+fn on_truths(sign: InfixSign, a: bool, b: bool) -> Worth
+    ensures { result ≡ on_truths sign a b }
+{
+    match sign {
+        InfixSign::Iff => truth(a == b),
+        InfixSign::Implies => truth(!a || b),
+        InfixSign::Explies => truth(!b || a),
+        InfixSign::And => truth(a && b),
+        InfixSign::Or => truth(a || b),
+        InfixSign::Equal => truth(a == b),
+        InfixSign::Unequal => truth(a != b),
+        InfixSign::Less => Worth::NoScalar,
+        InfixSign::AtMost => Worth::NoScalar,
+        InfixSign::Greater => Worth::NoScalar,
+        InfixSign::AtLeast => Worth::NoScalar,
+        InfixSign::Plus => Worth::NoScalar,
+        InfixSign::Minus => Worth::NoScalar,
+        InfixSign::Times => Worth::NoScalar,
+    }
+}
+
+/// A sign between whole numbers.
+fn on_numbers(sign: InfixSign, x: i128, y: i128) -> Worth
+    ensures { result ≡ on_numbers sign x y }
+{
+    match sign {
+        InfixSign::Iff => Worth::NoScalar,
+        InfixSign::Implies => Worth::NoScalar,
+        InfixSign::Explies => Worth::NoScalar,
+        InfixSign::And => Worth::NoScalar,
+        InfixSign::Or => Worth::NoScalar,
+        InfixSign::Equal => truth(x == y),
+        InfixSign::Unequal => truth(x != y),
+        InfixSign::Less => truth(x < y),
+        InfixSign::AtMost => truth(x <= y),
+        InfixSign::Greater => truth(y < x),
+        InfixSign::AtLeast => truth(y <= x),
+        InfixSign::Plus => exact(add(x, y)),
+        InfixSign::Minus => exact(sub(x, y)),
+        InfixSign::Times => exact(mul(x, y)),
+    }
+}
+
+fn operate(sign: InfixSign, a: Scalar, b: Scalar) -> Worth
+    ensures { result ≡ operate sign a b }
+{
+    match a {
+        Scalar::Truth(a) => match b {
+            Scalar::Truth(b) => on_truths(sign, a, b),
+            Scalar::Number(_) => Worth::NoScalar,
+        },
+        Scalar::Number(x) => match b {
+            Scalar::Truth(_) => Worth::NoScalar,
+            Scalar::Number(y) => on_numbers(sign, x, y),
+        },
+    }
+}
+
+/// Whether a sign may stand behind this operand.
+fn takes(sign: InfixSign, a: Scalar) -> bool
+    ensures { result ≡ takes sign a }
+{
+    let is_truth = matches!(a, Scalar::Truth(_));
+    match sign {
+        InfixSign::Iff => is_truth,
+        InfixSign::Implies => is_truth,
+        InfixSign::Explies => is_truth,
+        InfixSign::And => is_truth,
+        InfixSign::Or => is_truth,
+        InfixSign::Equal => true,
+        InfixSign::Unequal => true,
+        InfixSign::Less => !is_truth,
+        InfixSign::AtMost => !is_truth,
+        InfixSign::Greater => !is_truth,
+        InfixSign::AtLeast => !is_truth,
+        InfixSign::Plus => !is_truth,
+        InfixSign::Minus => !is_truth,
+        InfixSign::Times => !is_truth,
+    }
+}
+
+/// The value of a sign between two operands; what is wrong with the left one comes first.
+pub fn joined(sign: InfixSign, a: Worth, b: Worth) -> Worth
+    ensures { result ≡ joined sign a b }
+{
+    match a {
+        Worth::Leaves(o) => Worth::Leaves(o),
+        Worth::NoScalar => Worth::NoScalar,
+        Worth::Is(x) => {
+            if !takes(sign, x) {
+                return Worth::NoScalar;
+            }
+            match b {
+                Worth::Leaves(o) => Worth::Leaves(o),
+                Worth::NoScalar => Worth::NoScalar,
+                Worth::Is(y) => operate(sign, x, y),
+            }
+        }
+    }
+}
+
+fn prefix_on(sign: PrefixSign, a: Scalar) -> Worth
+    ensures { result ≡ prefix_on sign a }
+{
+    match a {
+        Scalar::Truth(b) => match sign {
+            PrefixSign::Not => truth(!b),
+            PrefixSign::Minus => Worth::NoScalar,
+        },
+        Scalar::Number(z) => match sign {
+            PrefixSign::Not => Worth::NoScalar,
+            PrefixSign::Minus => exact(neg(z)),
+        },
+    }
+}
+
+/// The value of a prefix sign before an operand.
+pub fn prefixed(sign: PrefixSign, a: Worth) -> Worth
+    ensures { result ≡ prefixed sign a }
+{
+    match a {
+        Worth::Leaves(o) => Worth::Leaves(o),
+        Worth::NoScalar => Worth::NoScalar,
+        Worth::Is(x) => prefix_on(sign, x),
+    }
+}

@@ -1,0 +1,24 @@
+//! Laws of evaluation, which are proved of the definitions alone.
+ghost use Rattle.std.specs.Prelude.{◌≡◌, ℕ, true, List};
+ghost use Rattle.bg_ast.specs.Values.{Val, Ty};
+ghost use Rattle.bg_ast.specs.Resolved.{Ex};
+ghost use Rattle.bg_ast.specs.Meaning.{ex_of};
+ghost use Rattle.bg_sense.specs.Eval.{ev};
+ghost use Rattle.bg_sense.specs.Typing.{Sig, HasType};
+ghost use Rattle.bg_scalar.specs.Worths.{Seen, worth};
+ghost use Rattle.bg_scalar.specs.Values.{val_of, scope_in};
+ghost use Rattle.bg_scalar.specs.Typed.{is_scalar, Sees, HasWorth};
+ghost use Rattle.bg_scalar.specs.declared.scalar.Scalar.{Scalar};
+ghost use Rattle.bg_scalar.specs.declared.scalar.Worth.TheVariants.{Is};
+
+/// Where no operation leaves the range, an expression is worth its value over whole numbers without bound.
+pub fn worths_are_values()
+    ensures { (functions : ℕ → List Val → Val) (constants : List Val) (e : Ex) (s : Seen) (x : Scalar) → worth e s ≡ Is x →
+        ev (ex_of e) (scope_in functions constants s) ≡ val_of x }
+{}
+
+/// A typed expression over scalars is worth a scalar of its type, where variables have values of their types, unless an operation
+/// leaves the range.
+pub fn typed_scalars_have_worths()
+    ensures { (e : Ex) (s : Seen) (g : Sig) (t : Ty) → is_scalar (ex_of e) ≡ true → HasType (ex_of e) g t → Sees g s → HasWorth t (worth e s) }
+{}

@@ -1,0 +1,12 @@
+//! What expressions over truth values and whole numbers are worth, exactly, or the first operation that leaves 128 bits.
+#![tactic(auto)]
+
+mod eval;
+mod joined;
+pub mod laws;
+mod scalar;
+#[cfg(test)]
+mod tests;
+
+pub use eval::{Sight, worth};
+pub use scalar::{Scalar, Worth};

@@ -1,0 +1,18 @@
+//! Scalars.
+use bg_base::OutOfRange;
+
+/// A truth value or a whole number.
+#[derive(Clone, Copy, PartialEq, Eq, Debug)]
+pub enum Scalar {
+    Truth(bool),
+    Number(i128),
+}
+
+/// What an expression is worth: a scalar; none, since this operation leaves 128 bits, the first in the order of the text that does; or
+/// none, since something in it is no scalar or has another type than it should.
+#[derive(Clone, Copy, PartialEq, Eq, Debug)]
+pub enum Worth {
+    Is(Scalar),
+    Leaves(OutOfRange),
+    NoScalar,
+}
