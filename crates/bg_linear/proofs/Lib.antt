@@ -1,0 +1,11 @@
+pub mod Mapped
+pub mod Inserting
+pub mod Steps
+pub mod Normal
+pub mod Products
+pub mod Chained
+pub mod Sides
+pub mod Worth
+pub mod Rising
+pub mod Exact
+pub mod Kinded

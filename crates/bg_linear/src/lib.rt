@@ -1,0 +1,25 @@
+//! Linear forms of expressions over incarnations, exact or refused at the first operation that leaves the range, the rows of
+//! relations, and the sorts of expressions.
+#![tactic(auto)]
+
+mod formed;
+mod growing;
+mod kinds;
+pub mod laws;
+mod leaf;
+mod lin;
+mod made;
+mod relate;
+mod scalar;
+mod scaled;
+mod sorted;
+mod sum;
+mod terms;
+#[cfg(test)]
+mod tests;
+
+pub use formed::linear;
+pub use lin::Lin;
+pub use relate::{related, relation};
+pub use scalar::{Kind, Sort};
+pub use sorted::{kind, sort};
