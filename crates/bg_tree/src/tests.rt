@@ -1,7 +1,8 @@
 //! The search on formulas made by hand, with ample memory, and its certificates checked again.
-use crate::{Hint, Outcome, index_of, search};
+use crate::{Beyond, Budget, Outcome, search};
 use bg_cert::{Node, accepts, used};
-use bg_formula::{Atom, Clauses, Literal, is_whole};
+use bg_formula::{Atom, Clauses, Literal, deny_row, is_whole};
+use bg_rows::{Entry, make};
 use std::alloc::Global;
 use std::test::Fail;
 
@@ -34,7 +35,17 @@ fn formula(
     Ok(made)
 }
 
-fn found(alloc: Global, f: &Clauses, set: &[bool], budget: u32) -> Result<Outcome, Fail> {
+fn found(alloc: Global, f: &Clauses, set: &[bool], nodes: u32) -> Result<Outcome, Fail> {
+    let budget = Budget { nodes, rows: 1000 };
+    found_within(alloc, f, set, budget)
+}
+
+fn found_within(
+    alloc: Global,
+    f: &Clauses,
+    set: &[bool],
+    budget: Budget,
+) -> Result<Outcome, Fail> {
     if is_whole(f) {
         Ok(search(alloc, f, set, budget)?)
     } else {
@@ -75,7 +86,7 @@ fn leaves_and_budgets(rt: HostRuntime) -> Result<(), Fail> {
     let alloc = rt.alloc();
     let f = formula(alloc, 2, &[&[(0, true), (1, true)]], &[])?;
     match found(alloc, &f, &[], 2)? {
-        Outcome::Leaf(trail) => assert!(rt; trail.len() == 2),
+        Outcome::Leaf(leaf) => assert!(rt; leaf.path.len() == 2),
         _ => return Err("no leaf".into()),
     }
     match found(alloc, &f, &[], 1)? {
@@ -152,28 +163,37 @@ fn push(alloc: Global, f: &mut Clauses, literals: &[(u32, bool)]) -> Result<(), 
     Ok(())
 }
 
-fn lengths(alloc: Global, lists: &[Vec<Hint>]) -> Result<Vec<usize>, Fail> {
-    let mut made = Vec::new(alloc);
-    for list in lists {
-        made.push(list.len())?;
-    }
-    Ok(made)
+/// A row with the sign that its unit clause asks for.
+struct Asked {
+    entries: &'static [(u32, i128)],
+    bound: i128,
+    sign: bool,
 }
 
-/// A literal's list names no other clauses than its own.
-#[test]
-fn lists_are_as_short_as_can_be(rt: HostRuntime) -> Result<(), Fail> {
-    let alloc = rt.alloc();
-    let clauses: [&[(u32, bool)]; 2] = [&[(0, true), (1, true)], &[(0, true), (1, false)]];
-    let f = formula(alloc, 2, &clauses, &[None, Some(1)])?;
-    if !is_whole(&f) {
-        return Err("an atom isn't there".into());
+/// Rows, each with a unit clause, and so many truth variables that stand in no clause.
+fn rows_formula(
+    alloc: Global,
+    terms: u32,
+    rows: &[Asked],
+    free: u32,
+) -> Result<Clauses, Fail> {
+    let mut f = formula(alloc, 0, &[], &[])?;
+    f.terms = terms;
+    for (a, asked) in rows.iter().enumerate() {
+        let mut entries = Vec::new(alloc);
+        for (variable, by) in asked.entries {
+            entries.push(Entry {
+                variable: *variable,
+                by: *by,
+            })?;
+        }
+        let row = make(entries, asked.bound).ok_or("no row")?;
+        let linear = deny_row(alloc, row).map_err(|_| "no denial")?;
+        f.atoms.push(Atom::Holds(linear))?;
+        push(alloc, &mut f, &[(a as u32, asked.sign)])?;
     }
-    let i = index_of(alloc, &f, &[true, true])?;
-    assert!(rt; i.start.len() == 3);
-    let yes = lengths(alloc, &i.yes)?;
-    let no = lengths(alloc, &i.no)?;
-    assert!(rt; yes.as_slice() == &[2, 2][..]);
-    assert!(rt; no.as_slice() == &[0, 1][..]);
-    Ok(())
+    for x in 0..free {
+        f.atoms.push(Atom::Truth(x))?;
+    }
+    Ok(f)
 }
