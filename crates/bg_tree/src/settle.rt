@@ -87,9 +87,9 @@ pub fn refuted(
     if !any_row_from(f, trail, from) {
         return Ok(None);
     }
-    let given = rows_on(alloc, &f.atoms, &trail.decisions)?;
-    let rows = given.len().min(1_000_000) as u32;
-    match refute_or_order(alloc, &given, rows + MORE_ROWS)? {
+    let path = rows_on(alloc, &f.atoms, &trail.decisions)?;
+    let rows = path.len().min(1_000_000) as u32;
+    match refute_or_order(alloc, &path, rows + MORE_ROWS)? {
         Found::Refuted(steps) => Ok(Some(steps)),
         _ => Ok(None),
     }

@@ -94,11 +94,12 @@ fn emit_bound(f: &Clauses, set: &[bool], s: &mut Search, kept: Kept) -> Result<(
     ensures moves { OnOk result (Moves (formula_of f.now) (has set.now) s.old s.new) }
     ensures stack { OnOk result (stack_of (formula_of f.now) s.new.walk ≡ path_of (formula_of f.now) (decided_on s.old.walk ++ (AtMost kept.gap.variable kept.gap.below true ∷ [])) ∷ path_of (formula_of f.now) (decided_on s.old.walk ++ (AtMost kept.gap.variable kept.gap.below false ∷ [])) ∷ others_of (formula_of f.now) s.old.walk) }
 {
+    let left = s.left - 1;
     let first = at_gap(&kept.gap, true);
     let second = at_gap(&kept.gap, false);
     s.parts.push(Part::Bound(kept))?;
     open_both(&mut s.walk, first, second)?;
-    s.left -= 1;
+    s.left = left;
     Ok(())
 }
 
@@ -170,13 +171,13 @@ fn halve(
     ensures moves { OnOk result (Moves (formula_of f.now) (has set.now) s.old s.new) }
     ensures ready { OnOk result (AllReady (formula_of f.now) (has set.now) i.now (stack_of (formula_of f.now) s.new.walk) (marks_of guide.new)) }
 {
-    if s.left == 0 {
-        emit_open(f, set, s)?;
-        go_on(guide);
-        Ok(())
-    } else {
+    if s.left > 0 {
         emit_bound(f, set, s, kept)?;
         split(guide)?;
+        Ok(())
+    } else {
+        emit_open(f, set, s)?;
+        go_on(guide);
         Ok(())
     }
 }

@@ -40,12 +40,7 @@ fn found(alloc: Global, f: &Clauses, set: &[bool], nodes: u32) -> Result<Outcome
     found_within(alloc, f, set, budget)
 }
 
-fn found_within(
-    alloc: Global,
-    f: &Clauses,
-    set: &[bool],
-    budget: Budget,
-) -> Result<Outcome, Fail> {
+fn found_within(alloc: Global, f: &Clauses, set: &[bool], budget: Budget) -> Result<Outcome, Fail> {
     if is_whole(f) {
         Ok(search(alloc, f, set, budget)?)
     } else {
@@ -164,6 +159,7 @@ fn push(alloc: Global, f: &mut Clauses, literals: &[(u32, bool)]) -> Result<(), 
 }
 
 /// A row with the sign that its unit clause asks for.
+#[derive(Clone, Copy)]
 struct Asked {
     entries: &'static [(u32, i128)],
     bound: i128,
@@ -171,12 +167,7 @@ struct Asked {
 }
 
 /// Rows, each with a unit clause, and so many truth variables that stand in no clause.
-fn rows_formula(
-    alloc: Global,
-    terms: u32,
-    rows: &[Asked],
-    free: u32,
-) -> Result<Clauses, Fail> {
+fn rows_formula(alloc: Global, terms: u32, rows: &[Asked], free: u32) -> Result<Clauses, Fail> {
     let mut f = formula(alloc, 0, &[], &[])?;
     f.terms = terms;
     for (a, asked) in rows.iter().enumerate() {
@@ -196,4 +187,95 @@ fn rows_formula(
         f.atoms.push(Atom::Truth(x))?;
     }
     Ok(f)
+}
+
+/// What is found: 'c' with the number of nodes, 'l' with the first value of the point, 'n' with the
+/// number of parts, 'r' with that of rows, 'e' and 'v' where an elimination or a value leaves 128 bits.
+fn told(alloc: Global, f: &Clauses, nodes: u32, rows: u32) -> Result<(char, i128), Fail> {
+    match found_within(alloc, f, &[], Budget { nodes, rows })? {
+        Outcome::Closed(nodes) => {
+            if accepts(alloc, f, &[], &nodes)? {
+                Ok(('c', nodes.len() as i128))
+            } else {
+                Err("not accepted".into())
+            }
+        }
+        Outcome::Leaf(leaf) => match leaf.spots.first() {
+            Some(spot) => Ok(('l', spot.value)),
+            None => Ok(('l', 0)),
+        },
+        Outcome::Nodes(parts) => Ok(('n', parts.len() as i128)),
+        Outcome::Rows(_, order) => Ok(('r', order.rows.len() as i128)),
+        Outcome::Range(_, Beyond::Elimination(_, _)) => Ok(('e', 0)),
+        Outcome::Range(_, Beyond::Value(_, _, _)) => Ok(('v', 0)),
+    }
+}
+
+fn ask(entries: &'static [(u32, i128)], bound: i128, sign: bool) -> Asked {
+    Asked {
+        entries,
+        bound,
+        sign,
+    }
+}
+
+/// Bounds that clash, with and without a truth variable beside them; 2x = 2y + 1; and 3y = x + 1
+/// where x is 3 or 4, which no bound but one of y closes.
+#[test]
+fn rows_close_paths(rt: HostRuntime) -> Result<(), Fail> {
+    let alloc = rt.alloc();
+    let clash = [ask(&[(0, 1)], 1, true), ask(&[(0, -1)], -2, true)];
+    let f = rows_formula(alloc, 1, &clash, 0)?;
+    assert_eq!(rt; told(alloc, &f, 9, 1000)?, ('c', 5));
+    let f = rows_formula(alloc, 1, &clash, 9)?;
+    assert_eq!(rt; told(alloc, &f, 2, 1000)?, ('c', 5));
+    let parity = [
+        ask(&[(0, 2), (1, -2)], 1, true),
+        ask(&[(0, 2), (1, -2)], 0, false),
+    ];
+    let f = rows_formula(alloc, 2, &parity, 0)?;
+    assert_eq!(rt; told(alloc, &f, 9, 1000)?, ('c', 5));
+    assert_eq!(rt; told(alloc, &f, 9, 1)?, ('r', 1));
+    assert_eq!(rt; told(alloc, &f, 9, 2)?, ('r', 2));
+    let gap = [
+        ask(&[(0, -1), (1, 3)], 1, true),
+        ask(&[(0, 1), (1, -3)], -1, true),
+        ask(&[(0, -1)], -3, true),
+        ask(&[(0, 1)], 4, true),
+    ];
+    let f = rows_formula(alloc, 2, &gap, 0)?;
+    assert_eq!(rt; told(alloc, &f, 5, 1000)?, ('c', 11));
+    assert_eq!(rt; told(alloc, &f, 4, 1000)?, ('n', 9));
+    Ok(())
+}
+
+/// A point nearest to 0 from below and from above; a row that is denied; and the ends of the range.
+#[test]
+fn rows_have_points_or_leave_the_range(rt: HostRuntime) -> Result<(), Fail> {
+    let alloc = rt.alloc();
+    let most = 170141183460469231731687303715884105727;
+    let above = [ask(&[(0, 1)], 5, true), ask(&[(0, -1)], -2, true)];
+    let f = rows_formula(alloc, 1, &above, 1)?;
+    assert_eq!(rt; told(alloc, &f, 9, 1000)?, ('l', 2));
+    let below = [ask(&[(0, 2)], -5, true), ask(&[(0, 1)], -9, false)];
+    let f = rows_formula(alloc, 1, &below, 0)?;
+    assert_eq!(rt; told(alloc, &f, 9, 1000)?, ('l', -3));
+    assert_eq!(rt; told(alloc, &f, 1, 1000)?, ('n', 3));
+    let f = rows_formula(alloc, 0, &[], 3)?;
+    assert_eq!(rt; told(alloc, &f, 9, 1)?, ('l', 0));
+    let sum = [
+        ask(&[(0, 1), (1, -1)], most, true),
+        ask(&[(1, 1), (2, -1)], 1, true),
+        ask(&[(0, -1)], 0, true),
+        ask(&[(2, 1)], 0, true),
+    ];
+    let f = rows_formula(alloc, 3, &sum, 0)?;
+    assert_eq!(rt; told(alloc, &f, 9, 1000)?, ('e', 0));
+    let value = [
+        ask(&[(0, -1)], -most, true),
+        ask(&[(0, 1), (1, -1)], -1, true),
+    ];
+    let f = rows_formula(alloc, 2, &value, 0)?;
+    assert_eq!(rt; told(alloc, &f, 9, 1000)?, ('v', 0));
+    Ok(())
 }
