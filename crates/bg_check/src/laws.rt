@@ -9,6 +9,7 @@ ghost use Rattle.bg_sense.specs.Claims.{Fails};
 ghost use Rattle.bg_cert.specs.declared.cert.Node.{Node};
 ghost use Rattle.bg_cert.specs.Certs.{node_of, uses};
 ghost use Rattle.bg_fits.specs.Truths.{is_over_truths};
+ghost use Rattle.bg_tree.specs.declared.outcome.Budget.{Budget};
 ghost use Rattle.bg_check.specs.declared.verdict.Judged.{Judged};
 ghost use Rattle.bg_check.specs.Verdicts.{HasCertificate, AreRightUnder, AreRight, ProvedAreSafe};
 ghost use Rattle.bg_check.specs.Clauses.{none};
@@ -41,7 +42,7 @@ pub fn proved_places_do_not_fail()
 /// An implementation of a typed program over truth values is safe under a set of candidates where each of its places is proved whose
 /// clause is there: no execution of it fails, of any number of steps.
 pub fn proved_under_a_set_is_safe()
-    ensures { (p : Program) (set : ℕ → Bool) (budget : ℕ) (outcome : List (List Judged)) → IsTyped (meaning_of p) → is_over_truths (meaning_of p) ≡ true → AreRightUnder set budget p outcome → ProvedAreSafe p set 0 outcome }
+    ensures { (p : Program) (set : ℕ → Bool) (budget : Budget) (outcome : List (List Judged)) → IsTyped (meaning_of p) → is_over_truths (meaning_of p) ≡ true → AreRightUnder set budget p outcome → ProvedAreSafe p set 0 outcome }
 {
     typed_programs_have_typed_bodies();
     what_fails_at_no_place_is_safe();
@@ -59,7 +60,7 @@ pub fn proved_under_a_set_is_safe()
 /// An implementation of a typed program over truth values is safe where each of its places without a candidate is proved: no execution
 /// of it fails, of any number of steps.
 pub fn proved_is_safe()
-    ensures { (p : Program) (budget : ℕ) (outcome : List (List Judged)) → IsTyped (meaning_of p) → is_over_truths (meaning_of p) ≡ true → AreRight budget p outcome → ProvedAreSafe p none 0 outcome }
+    ensures { (p : Program) (budget : Budget) (outcome : List (List Judged)) → IsTyped (meaning_of p) → is_over_truths (meaning_of p) ≡ true → AreRight budget p outcome → ProvedAreSafe p none 0 outcome }
 {
     proved_under_a_set_is_safe()
 }

@@ -24,7 +24,8 @@ use Rattle.bg_tree.specs.declared.outcome.Halt.TheVariants.{Point, Rows, Range}
 use Rattle.bg_tree.specs.declared.outcome.End.{End}
 use Rattle.bg_tree.specs.declared.outcome.End.TheVariants.{Refuted, Split, Halted}
 use Rattle.bg_tree.specs.declared.outcome.Outcome.{Outcome}
-use Rattle.bg_tree.specs.declared.outcome.Outcome.TheVariants.{Leaf as IsLeafOf, Rows as IsRows, Range as IsRange}
+use Rattle.bg_tree.specs.declared.outcome.Why.TheVariants.{Rows as ByRows, Range as ByRange}
+use Rattle.bg_tree.specs.declared.outcome.Outcome.TheVariants.{Leaf as Found, Unknown}
 use Rattle.bg_tree.specs.Once.{IsOnce}
 
 -- an order solves the rows, and under near values of its later variables no whole number fits at the gap's variable
@@ -62,9 +63,9 @@ IsPlacedEnd given (Halted (Range (Value o spots far))) = IsBeyond given (Value o
 
 -- where the search ends at a path
 abbrev pub outcome_of : Vec Decision Global → Halt → Outcome
-outcome_of path (Point order spots) = IsLeafOf (record { path = path; order = order; spots = spots })
-outcome_of path (Rows order) = IsRows path order
-outcome_of path (Range beyond) = IsRange path beyond
+outcome_of path (Point order spots) = Found (record { path = path; order = order; spots = spots })
+outcome_of path (Rows order) = Unknown (ByRows path order)
+outcome_of path (Range beyond) = Unknown (ByRange path beyond)
 
 -- a complete leaf: every atom is decided, none both ways, nothing is false, and a near point meets the path's rows
 pub record IsLeaf (f : Formula) (set : ℕ → Bool) (l : Leaf) : Type 0 where

@@ -21,7 +21,9 @@ use Rattle.bg_tree.specs.declared.step.Search.{Search}
 use Rattle.bg_tree.specs.declared.outcome.Budget.{Budget}
 use Rattle.bg_tree.specs.declared.outcome.Halt.{Halt}
 use Rattle.bg_tree.specs.declared.outcome.Outcome.{Outcome}
-use Rattle.bg_tree.specs.declared.outcome.Outcome.TheVariants.{Closed, Leaf, Nodes, Rows, Range}
+use Rattle.bg_tree.specs.declared.outcome.Why.{Why}
+use Rattle.bg_tree.specs.declared.outcome.Why.TheVariants.{Nodes, Rows, Range}
+use Rattle.bg_tree.specs.declared.outcome.Outcome.TheVariants.{Closed, Leaf, Unknown}
 use Rattle.bg_tree.specs.Once.{ArePaths}
 use Rattle.bg_tree.specs.Ends.{KeepsGap, IsBeyond, IsHalt, IsLeaf}
 
@@ -62,15 +64,20 @@ nodes_of (Open ∷ rest) = nodes_of rest
 nodes_of (Plain n ∷ rest) = node_of n ∷ nodes_of rest
 nodes_of (Bound k ∷ rest) = Bounds k.gap.variable k.gap.below ∷ nodes_of rest
 
+-- what is kept of a formula with the units of a set that is left unknown: a tree of the budget's inner nodes; or a path that
+-- decides every atom and makes nothing false, with the budget's number of rows, or an operation that leaves the range
+abbrev pub IsCause : Formula → (ℕ → Bool) → Budget → Why → Type 0
+IsCause f set budget (Nodes parts) = AreTrees f set budget.nodes false (root f ∷ []) parts.items
+IsCause f set budget (Rows path o) =
+    IsComplete f set path.items × FillBudget (rows_on f.atoms path.items) budget.rows o.variables.items o.reasons.items
+IsCause f set budget (Range path beyond) =
+    IsComplete f set path.items × IsBeyond (rows_on f.atoms path.items) beyond
+
 -- what each answer of the search claims
 abbrev pub IsOutcome : Formula → (ℕ → Bool) → Budget → Outcome → Type 0
 IsOutcome f set budget (Closed nodes) = Accepts f set no_instance (map node_of nodes.items)
 IsOutcome f set budget (Leaf leaf) = IsLeaf f set leaf
-IsOutcome f set budget (Nodes parts) = AreTrees f set budget.nodes false (root f ∷ []) parts.items
-IsOutcome f set budget (Rows path o) =
-    IsComplete f set path.items × FillBudget (rows_on f.atoms path.items) budget.rows o.variables.items o.reasons.items
-IsOutcome f set budget (Range path beyond) =
-    IsComplete f set path.items × IsBeyond (rows_on f.atoms path.items) beyond
+IsOutcome f set budget (Unknown why) = IsCause f set budget why
 
 -- ---- steps
 

@@ -5,7 +5,7 @@ ghost use Rattle.bg_cert.specs.Walks.{has};
 ghost use Rattle.bg_pick.specs.Index.{IsIndex};
 ghost use Rattle.bg_tree.specs.Trees.{IsOutcome};
 
-use crate::outcome::{Budget, Outcome, outcome_of};
+use crate::outcome::{Budget, Outcome, Why, outcome_of};
 use crate::step::{Search, step};
 use crate::whole::whole;
 use bg_cert::first_walk;
@@ -39,7 +39,7 @@ fn searched(
         }
     }
     if s.seen {
-        Ok(Outcome::Nodes(s.parts))
+        Ok(Outcome::Unknown(Why::Nodes(s.parts)))
     } else {
         Ok(Outcome::Closed(whole(alloc, s.parts)?))
     }

@@ -14,6 +14,6 @@ mod tests;
 mod whole;
 
 pub use find::search;
-pub use outcome::{Beyond, Budget, End, Halt, Leaf, Outcome};
+pub use outcome::{Beyond, Budget, End, Halt, Leaf, Outcome, Why};
 pub use part::{Kept, Part};
 pub use step::Search;

@@ -49,13 +49,9 @@ pub enum End {
     Halted(Halt),
 }
 
-/// What the search finds.
+/// Why the search finds neither a certificate nor a complete leaf.
 #[derive(Debug, Drop)]
-pub enum Outcome {
-    /// A certificate, which the checker accepts.
-    Closed(Vec<Node>),
-    /// A complete leaf, with a point that meets its rows.
-    Leaf(Leaf),
+pub enum Why {
     /// A tree with exactly the budget's inner nodes and an open leaf.
     Nodes(Vec<Part>),
     /// A path that decides every atom and makes nothing false, of whose rows as many different ones
@@ -65,13 +61,22 @@ pub enum Outcome {
     Range(Vec<Decision>, Beyond),
 }
 
+/// What the search finds: a certificate, which the checker accepts; a complete leaf; or why neither
+/// was found.
+#[derive(Debug, Drop)]
+pub enum Outcome {
+    Closed(Vec<Node>),
+    Leaf(Leaf),
+    Unknown(Why),
+}
+
 /// The end of the search at a path.
 pub fn outcome_of(path: Vec<Decision>, halt: Halt) -> Outcome
     ensures { result ≡ outcome_of path halt }
 {
     match halt {
         Halt::Point(order, spots) => Outcome::Leaf(Leaf { path, order, spots }),
-        Halt::Rows(order) => Outcome::Rows(path, order),
-        Halt::Range(beyond) => Outcome::Range(path, beyond),
+        Halt::Rows(order) => Outcome::Unknown(Why::Rows(path, order)),
+        Halt::Range(beyond) => Outcome::Unknown(Why::Range(path, beyond)),
     }
 }

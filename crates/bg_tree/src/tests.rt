@@ -1,5 +1,5 @@
 //! The search on formulas made by hand, with ample memory, and its certificates checked again.
-use crate::{Beyond, Budget, Outcome, search};
+use crate::{Beyond, Budget, Outcome, Why, search};
 use bg_cert::{Node, accepts, used};
 use bg_formula::{Atom, Clauses, Literal, deny_row, is_whole};
 use bg_rows::{Entry, make};
@@ -85,7 +85,7 @@ fn leaves_and_budgets(rt: HostRuntime) -> Result<(), Fail> {
         _ => return Err("no leaf".into()),
     }
     match found(alloc, &f, &[], 1)? {
-        Outcome::Nodes(parts) => assert!(rt; parts.len() == 3),
+        Outcome::Unknown(Why::Nodes(parts)) => assert!(rt; parts.len() == 3),
         _ => return Err("no budget".into()),
     }
     Ok(())
@@ -204,10 +204,10 @@ fn told(alloc: Global, f: &Clauses, nodes: u32, rows: u32) -> Result<(char, i128
             Some(spot) => Ok(('l', spot.value)),
             None => Ok(('l', 0)),
         },
-        Outcome::Nodes(parts) => Ok(('n', parts.len() as i128)),
-        Outcome::Rows(_, order) => Ok(('r', order.rows.len() as i128)),
-        Outcome::Range(_, Beyond::Elimination(_, _)) => Ok(('e', 0)),
-        Outcome::Range(_, Beyond::Value(_, _, _)) => Ok(('v', 0)),
+        Outcome::Unknown(Why::Nodes(parts)) => Ok(('n', parts.len() as i128)),
+        Outcome::Unknown(Why::Rows(_, order)) => Ok(('r', order.rows.len() as i128)),
+        Outcome::Unknown(Why::Range(_, Beyond::Elimination(_, _))) => Ok(('e', 0)),
+        Outcome::Unknown(Why::Range(_, Beyond::Value(_, _, _))) => Ok(('v', 0)),
     }
 }
 
