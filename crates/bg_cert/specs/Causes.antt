@@ -1,13 +1,11 @@
--- The cause Nodes: a tree that is not finished, with exactly the budget's inner nodes, and its splits by rule.
+-- What a path leaves undecided, and where a node may split an atom or a bound.
 use Rattle.std.specs.Prelude.{ℕ, zero, suc, ◌==◌, nat_lt, Bool, true, false, not, ◌&&◌, ◌||◌, List, [], ◌∷◌, ◌++◌, length, Option, Some, None, ℤ, if◌then◌else◌}
 use Rattle.std.specs.Ordering.{int_eq}
 use Rattle.bg_formula.specs.declared.atom.Literal.{Literal}
 use Rattle.bg_formula.specs.Formulas.{Formula, unit_atom}
-use Rattle.bg_formula.specs.Instances.{Instance, SignedAtom}
 use Rattle.bg_cert.specs.declared.cert.Decision.{Decision}
 use Rattle.bg_cert.specs.declared.cert.Decision.TheVariants.{Atom, AtMost}
-use Rattle.bg_cert.specs.Certs.{NodeOf, Splits, Bounds, Adds, closes}
-use Rattle.bg_cert.specs.Paths.{PathOf, decides, clause_false, with_decision, with_added}
+use Rattle.bg_cert.specs.Paths.{decides, clause_false}
 
 -- ---- what a path leaves undecided
 
@@ -107,38 +105,3 @@ has_bound x k (d ∷ ds) = is_bound x k d || has_bound x k ds
 -- the rule of bounds: each atom is decided, and the bound is a new one
 abbrev pub may_bound : ℕ → ℕ → ℤ → List Decision → Bool
 may_bound n x k ds = all_decided n ds && not (has_bound x k ds)
-
--- ---- a tree that is not finished
-
-pub data PartOf : Type 0 where
-  Closed : NodeOf → PartOf
-  Inner : NodeOf → PartOf
-  Open : PartOf
-
--- what is asked of a bound or an instance besides: the data that was kept for it, tested
-abbrev pub Kept : Type 0
-Kept = PathOf → NodeOf → Bool
-
--- no clause or unit is false on the path
-abbrev pub is_fine : Formula → (ℕ → Bool) → PathOf → Bool
-is_fine f set p = not (any_false p.decided (p.clauses ++ units_of f set))
-
--- the nodes are one unfinished tree for each path, with so many inner nodes, and open leaves where `seen` or one is among them
-abbrev pub partial : Formula → (ℕ → Bool) → (Instance → Option (List (List SignedAtom))) → Kept → ℕ → Bool → List PathOf → List PartOf → Bool
-partial f set adds kept zero seen [] [] = seen
-partial f set adds kept (suc n) seen [] [] = false
-partial f set adds kept n seen [] (q ∷ qs) = false
-partial f set adds kept n seen (p ∷ ps) [] = false
-partial f set adds kept n seen (p ∷ ps) (Open ∷ qs) = is_fine f set p && partial f set adds kept n true ps qs
-partial f set adds kept n seen (p ∷ ps) (Closed l ∷ qs) = closes f set p l && partial f set adds kept n seen ps qs
-partial f set adds kept zero seen (p ∷ ps) (Inner i ∷ qs) = false
-partial f set adds kept (suc n) seen (p ∷ ps) (Inner (Splits a) ∷ qs) =
-    is_fine f set p && (may_split (length p.atoms) a p.decided (p.clauses ++ units_of f set)
-    && partial f set adds kept n seen (with_decision p (Atom a true) ∷ with_decision p (Atom a false) ∷ ps) qs)
-partial f set adds kept (suc n) seen (p ∷ ps) (Inner (Bounds x k) ∷ qs) =
-    is_fine f set p && (nat_lt x f.terms && (may_bound (length p.atoms) x k p.decided && (kept p (Bounds x k)
-    && partial f set adds kept n seen (with_decision p (AtMost x k true) ∷ with_decision p (AtMost x k false) ∷ ps) qs)))
-partial f set adds kept (suc n) seen (p ∷ ps) (Inner (Adds i) ∷ qs) =
-    is_fine f set p && (all_decided (length p.atoms) p.decided && (kept p (Adds i)
-    && (elim (adds i) [ None ↦ false | Some cs ↦ partial f set adds kept n seen (with_added p cs ∷ ps) qs ])))
-partial f set adds kept (suc n) seen (p ∷ ps) (Inner l ∷ qs) = false

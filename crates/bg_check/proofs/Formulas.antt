@@ -90,7 +90,7 @@ meets_units n m f v set h w t c s =
   where
     below : c < m → n + c < length f.atoms
     below l =
-        unit_there (length f.atoms) n m c (ap (units_below (length f.atoms)) (sym h.candidates) ∙ and_right (clauses_below (length f.atoms) f.clauses) _ w) l
+        unit_there (length f.atoms) n m c (ap (units_below (length f.atoms)) (sym h.candidates) ∙ and_left (units_below (length f.atoms) f.candidates) _ (and_right (clauses_below (length f.atoms) f.clauses) _ w)) l
 
     zero_plus : (i : ℕ) → 0 + i ≡ i
     zero_plus i = omega arith

@@ -5,13 +5,14 @@ use Rattle.bg_ast.specs.Syntax.{Prog}
 use Rattle.bg_ast.specs.Resolved as r
 use Rattle.bg_places.specs.declared.place.Place.{Place}
 use Rattle.bg_places.specs.Views.{placed_of, placed_in}
+use Rattle.bg_tree.specs.declared.outcome.Budget.{Budget}
 use Rattle.bg_check.specs.declared.verdict.Judged.{Judged}
 use Rattle.bg_check.proofs.Prepares.{get_some}
 use Rattle.bg_check.specs.Numbered.{OfNumber}
 use Rattle.bg_check.specs.Verdicts.{IsRight, placed_at, AreRightAt, AreRightOf, AreRightFrom}
 
 -- one more verdict
-pub one_more : (budget : ℕ) (p : Prog) (set : ℕ → Bool) (js : List Judged) (j : Judged) → AreRightAt budget p set js → IsRight budget p set (placed_at j).place j.verdict → AreRightAt budget p set (js ++ (j ∷ []))
+pub one_more : (budget : Budget) (p : Prog) (set : ℕ → Bool) (js : List Judged) (j : Judged) → AreRightAt budget p set js → IsRight budget p set (placed_at j).place j.verdict → AreRightAt budget p set (js ++ (j ∷ []))
 one_more budget p set [] j h k = (k, tt)
 one_more budget p set (i ∷ js) j h k = (h.0, one_more budget p set js j h.1 k)
 
@@ -35,7 +36,7 @@ number_at k (q ∷ ps) zero x h l = h.0
 number_at k (q ∷ ps) (suc n) x h l = number_at k ps n x h.1 (omega arith)
 
 -- one more implementation
-pub from_more : (budget : ℕ) (p : r.Program) (set : ℕ → Bool) (k : ℕ) (ms : List r.Impl) (os : List (List Judged)) (m : r.Impl) (js : List Judged) → AreRightFrom budget p set k ms os → AreRightOf budget p set (k + length ms) m js → AreRightFrom budget p set k (ms ++ (m ∷ [])) (os ++ (js ∷ []))
+pub from_more : (budget : Budget) (p : r.Program) (set : ℕ → Bool) (k : ℕ) (ms : List r.Impl) (os : List (List Judged)) (m : r.Impl) (js : List Judged) → AreRightFrom budget p set k ms os → AreRightOf budget p set (k + length ms) m js → AreRightFrom budget p set k (ms ++ (m ∷ [])) (os ++ (js ∷ []))
 from_more budget p set k [] [] m js h g =
     let e : k + 0 ≡ k = omega arith in (subst (λ i. AreRightOf budget p set i m js) e g, tt)
 from_more budget p set k [] (o ∷ os) m js h g = absurd h
@@ -56,7 +57,7 @@ take_long [] n l = absurd (omega arith)
 take_long (y ∷ xs) zero l = refl
 take_long (y ∷ xs) (suc n) l = ap (λ i. suc i) (take_long xs n (omega arith))
 
-pub program_more : (budget : ℕ) (p : r.Program) (set : ℕ → Bool) (n : ℕ) (os : List (List Judged)) (js : List Judged) → n < length p.implementations → AreRightFrom budget p set 0 (take n p.implementations) os → ((m : r.Impl) → slice_get p.implementations n ≡ Some m → AreRightOf budget p set n m js) → AreRightFrom budget p set 0 (take (n + 1) p.implementations) (os ++ (js ∷ []))
+pub program_more : (budget : Budget) (p : r.Program) (set : ℕ → Bool) (n : ℕ) (os : List (List Judged)) (js : List Judged) → n < length p.implementations → AreRightFrom budget p set 0 (take n p.implementations) os → ((m : r.Impl) → slice_get p.implementations n ≡ Some m → AreRightOf budget p set n m js) → AreRightFrom budget p set 0 (take (n + 1) p.implementations) (os ++ (js ∷ []))
 program_more budget p set n os js l h g =
     let x = get_some p.implementations n l in
     let t = take_long p.implementations n l in

@@ -12,7 +12,7 @@ use Rattle.bg_cert.specs.declared.cert.Decision.{Decision}
 use Rattle.bg_cert.specs.declared.cert.Decision.TheVariants.{Atom, AtMost}
 use Rattle.bg_cert.specs.Paths.{decides, clause_false}
 use Rattle.bg_cert.specs.Causes.{is_decided, any_false, all_decided, units_of}
-use Rattle.bg_tree.specs.Trees.{IsLeaf}
+use Rattle.bg_pick.specs.Picks.{IsComplete}
 use Rattle.bg_forms.specs.Worth.{truth_values}
 use Rattle.bg_check.specs.Leaves.{marked}
 use Rattle.bg_check.proofs.Formulas.{IsPlainFormula, at_truth, less_true}
@@ -72,10 +72,10 @@ clauses_met n ds (c ∷ cs) us d b h =
     both _ _ (clause_met n ds c d (and_left (literals_below n c) _ b) (or_left (clause_false ds c) _ h))
     (clauses_met n ds cs us d (and_right (literals_below n c) _ b) (or_right (clause_false ds c) _ h))
 
-pub leaf_met : (n m : ℕ) (f : Formula) (set : ℕ → Bool) (ds : List Decision) → IsPlainFormula n m f → is_whole f ≡ true → IsLeaf f set ds → clauses_true (path_values ds) f.atoms f.clauses ≡ true
+pub leaf_met : (n m : ℕ) (f : Formula) (set : ℕ → Bool) (ds : List Decision) → IsPlainFormula n m f → is_whole f ≡ true → IsComplete f set ds → clauses_true (path_values ds) f.atoms f.clauses ≡ true
 leaf_met n m f set ds h w l =
     ap (λ xs. clauses_true (path_values ds) xs f.clauses) h.atoms
-    ∙ clauses_met (length f.atoms) ds f.clauses (units_of f set) l.1 (and_left (clauses_below (length f.atoms) f.clauses) _ w) l.0
+    ∙ clauses_met (length f.atoms) ds f.clauses (units_of f set) l.decided (and_left (clauses_below (length f.atoms) f.clauses) _ w) l.fine
 
 -- ---- truth values as a list
 

@@ -11,7 +11,7 @@ use Rattle.bg_calls.specs.Core.{Demand, Saying, Cmd, Check, Suppose, Forget, Put
 use Rattle.bg_flow.specs.Blocks.{Exit, Leap, Either, Block}
 use Rattle.bg_passive.specs.Incarnations.{ty_of}
 use Rattle.bg_incarnate.specs.Even.{how_many}
-use Rattle.bg_clause.specs.Fitting.{joins_truths}
+use Rattle.bg_forms.specs.Fitting.{joins_truths}
 use Rattle.bg_truths.proofs.Plain.{OverEx, OverExs}
 use Rattle.bg_truths.proofs.Cmds.{AreBools, OverDemands, OverSayings, OverCmd, OverCmds, OverExit, OverBlocks}
 use Rattle.bg_replay.specs.Bools.{are_bools}

@@ -22,7 +22,7 @@ use Rattle.bg_wp.specs.Equations.{equation_cmds, is_well, all_well, equations}
 use Rattle.bg_formula.specs.Formulas.{Formula, is_whole}
 use Rattle.bg_cert.specs.declared.cert.Decision.{Decision}
 use Rattle.bg_cert.specs.Walks.{has}
-use Rattle.bg_tree.specs.Trees.{IsLeaf}
+use Rattle.bg_pick.specs.Picks.{IsComplete}
 use Rattle.bg_blocks.specs.declared.block.Block.{Block}
 use Rattle.bg_blocks.specs.Views.{block_of}
 use Rattle.bg_incarnate.specs.declared.blocks.PassiveBlock as code
@@ -152,7 +152,7 @@ module _ (bodies : BodyLaw) (fits : FitLaw) (clauses : ClauseLaw) (truths : Trut
   qs = map passive_block_of w.passive.blocks.items
 
   -- the equations deny the entry under the truth values of a leaf
-  pub denied_here : (spot : Spot) (f : Formula) (set other : ℕ → Bool) (leaf : List Decision) → clauses_of w.passive.count P.candidates spot qs ≡ Some f → is_whole f ≡ true → IsLeaf f other leaf → is_denied set spot P no_interp (λ a. unwrap_or (slice_get (marked leaf (replicate w.passive.count false)) a) false) w.passive.count qs ≡ true
+  pub denied_here : (spot : Spot) (f : Formula) (set other : ℕ → Bool) (leaf : List Decision) → clauses_of w.passive.count P.candidates spot qs ≡ Some f → is_whole f ≡ true → IsComplete f other leaf → is_denied set spot P no_interp (λ a. unwrap_or (slice_get (marked leaf (replicate w.passive.count false)) a) false) w.passive.count qs ≡ true
   denied_here spot f set other leaf e whole l =
       let v = path_values leaf in
       let plain = plain_formula w.passive.count P.candidates spot qs f e in
@@ -211,7 +211,7 @@ module _ (bodies : BodyLaw) (fits : FitLaw) (clauses : ClauseLaw) (truths : Trut
       (i : Interp) → Fit w.passive →
       IsTold (is_denied (set_of set) spot P i (λ a. unwrap_or (slice_get ts a) false) w.passive.count qs) o (IsCounterexample P (map (block_of p) bs) w.frame w.passive (set_of set) spot (λ a. unwrap_or (slice_get ts a) false))
 
-  pub refutes : (spot : Spot) (candidate : Option ℕ) (f : Formula) (set : List Bool) (leaf : List Decision) (bs : List Block) (ts : List Bool) (got : Option Counterexample) → formula_by P n (slice_get P.implementations n) spot ≡ Some f → is_whole f ≡ true → IsLeaf f (has set) leaf → bs ≡ w.blocks.items → ts ≡ marked leaf (replicate w.passive.count false) → Told spot set bs ts got → IsRefuted spot candidate set got
+  pub refutes : (spot : Spot) (candidate : Option ℕ) (f : Formula) (set : List Bool) (leaf : List Decision) (bs : List Block) (ts : List Bool) (got : Option Counterexample) → formula_by P n (slice_get P.implementations n) spot ≡ Some f → is_whole f ≡ true → IsComplete f (has set) leaf → bs ≡ w.blocks.items → ts ≡ marked leaf (replicate w.passive.count false) → Told spot set bs ts got → IsRefuted spot candidate set got
   refutes spot candidate f set leaf bs ts got e whole l eb et told =
       on got (subst (λ x. Told spot set x (marked leaf (replicate w.passive.count false)) got) eb (subst (λ x. Told spot set bs x got) et told) no_interp (P.candidates, fit evens passes p n w h t o))
     where

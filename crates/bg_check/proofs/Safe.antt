@@ -17,6 +17,7 @@ use Rattle.bg_cert.specs.declared.cert.Node.{Node}
 use Rattle.bg_cert.specs.Certs.{node_of}
 use Rattle.bg_cert.specs.Walks.{no_instance}
 use Rattle.bg_fits.specs.Truths.{is_over_truths}
+use Rattle.bg_tree.specs.declared.outcome.Budget.{Budget}
 use Rattle.bg_check.specs.declared.verdict.Verdict.{Verdict}
 use Rattle.bg_check.specs.declared.verdict.Verdict.TheVariants.{Proved, Refuted, Unknown}
 use Rattle.bg_check.specs.declared.verdict.Judged.{Judged}
@@ -30,7 +31,7 @@ pub record Proof (p : Prog) (set : ℕ → Bool) (t : Place) : Type 0 where
   pub nodes : List Node
   pub certificate : HasCertificate p set t nodes
 
-proof_of : (budget : ℕ) (p : Prog) (set : ℕ → Bool) (t : Place) (v : Verdict) → IsRight budget p set t v → is_proved v ≡ true → Proof p set t
+proof_of : (budget : Budget) (p : Prog) (set : ℕ → Bool) (t : Place) (v : Verdict) → IsRight budget p set t v → is_proved v ≡ true → Proof p set t
 proof_of budget p set t (Proved nodes) h e = record { nodes = nodes.items; certificate = h }
 proof_of budget p set t (Refuted cex) h e = absurd (let bad : ⊥ = cc in bad)
 proof_of budget p set t (Unknown parts) h e = absurd (let bad : ⊥ = cc in bad)
@@ -43,7 +44,7 @@ rest_by : (b : Bool) (j : Judged) (rest : List Judged) → are_proved (cond b (j
 rest_by true j rest h = and_right (is_proved j.verdict) (are_proved rest) h
 rest_by false j rest h = h
 
-judged_place : (budget : ℕ) (p : Prog) (set : ℕ → Bool) (js : List Judged) (t : Place) → AreRightAt budget p set js → are_proved (filter (is_there set) js) ≡ true → is_kept set t.candidate ≡ true → In (map place_in (map placed_at js)) t → Proof p set t
+judged_place : (budget : Budget) (p : Prog) (set : ℕ → Bool) (js : List Judged) (t : Place) → AreRightAt budget p set js → are_proved (filter (is_there set) js) ≡ true → is_kept set t.candidate ≡ true → In (map place_in (map placed_at js)) t → Proof p set t
 judged_place budget p set [] t h e k i = absurd i
 judged_place budget p set (j ∷ js) t h e k (inl s) =
     let kept = subst (λ u. is_kept set u.candidate ≡ true) (sym s) k in
@@ -51,7 +52,7 @@ judged_place budget p set (j ∷ js) t h e k (inl s) =
 judged_place budget p set (j ∷ js) t h e k (inr i) =
     judged_place budget p set js t h.1 (rest_by (is_there set j) j (filter (is_there set) js) e) k i
 
-module _ (functions : FunctionLaw) (bodies : BodyLaw) (safe : SafeLaw) (place : PlaceLaw) (runs : PassiveLaw) (fits : FitLaw) (denies : DenyLaw) (clauses : ClauseLaw) (whole : WholeLaw) (truths : TruthLaw) (certs : CertLaw) (used : UsedLaw) (inside : InsideLaw) (set : ℕ → Bool) (budget : ℕ) (p : r.Program) (t : IsTyped (meaning_of p)) (o : is_over_truths (meaning_of p) ≡ true) where
+module _ (functions : FunctionLaw) (bodies : BodyLaw) (safe : SafeLaw) (place : PlaceLaw) (runs : PassiveLaw) (fits : FitLaw) (denies : DenyLaw) (clauses : ClauseLaw) (whole : WholeLaw) (truths : TruthLaw) (certs : CertLaw) (used : UsedLaw) (inside : InsideLaw) (set : ℕ → Bool) (budget : Budget) (p : r.Program) (t : IsTyped (meaning_of p)) (o : is_over_truths (meaning_of p) ≡ true) where
   one_safe : (k : ℕ) (m : r.Impl) (js : List Judged) → slice_get p.implementations k ≡ Some m → AreRightOf budget p set k m js → are_proved (filter (is_there set) js) ≡ true → Safe (meaning_of p) set k
   one_safe k m js at right proved =
       safe (meaning_of p) set k t below

@@ -9,9 +9,11 @@ use Rattle.bg_sense.specs.Claims.{Safe, Fails}
 use Rattle.bg_sense.specs.Clauses.{is_kept}
 use Rattle.bg_formula.specs.Formulas.{Formula}
 use Rattle.bg_cert.specs.declared.cert.Node.{Node}
-use Rattle.bg_cert.specs.Certs.{Accepts, node_of, root}
+use Rattle.bg_cert.specs.Certs.{Accepts, node_of}
 use Rattle.bg_cert.specs.Walks.{no_instance}
-use Rattle.bg_tree.specs.Trees.{tree, part_of}
+use Rattle.bg_tree.specs.declared.outcome.Budget.{Budget}
+use Rattle.bg_tree.specs.declared.outcome.Why.{Why}
+use Rattle.bg_tree.specs.Trees.{IsCause}
 use Rattle.bg_places.specs.Placed.{Placed, placed_impl}
 use Rattle.bg_places.specs.Views.{placed_of}
 use Rattle.bg_replay.specs.Moments.{choice_of}
@@ -28,11 +30,11 @@ pub record HasCertificate (p : Prog) (set : ℕ → Bool) (t : Place) (nodes : L
   pub is : formula_at p t ≡ Some formula
   pub accepted : Accepts formula set no_instance (map node_of nodes)
 
--- they have this tree of as many inner nodes as the budget says, with an open leaf
-pub record IsSpent (p : Prog) (set : ℕ → Bool) (t : Place) (budget : ℕ) (parts : List (Option Node)) : Type 0 where
+-- this is why they are left unknown within the budget
+pub record HasCause (p : Prog) (set : ℕ → Bool) (t : Place) (budget : Budget) (why : Why) : Type 0 where
   pub formula : Formula
   pub is : formula_at p t ≡ Some formula
-  pub spent : tree formula set budget false (root formula ∷ []) (map part_of parts) ≡ true
+  pub cause : IsCause formula set budget why
 
 -- the induction run from these values, with these choices, fails at the place
 abbrev pub IsFailure : Prog → (ℕ → Bool) → Place → Counterexample → Type 0
@@ -40,43 +42,43 @@ IsFailure p set t cex =
     Fails p set t no_interp (state_of cex.globals.items cex.frame.items) (map choice_of cex.choices.items)
 
 -- a verdict on a place, under a set of candidates
-abbrev pub IsRight : ℕ → Prog → (ℕ → Bool) → Place → Verdict → Type 0
+abbrev pub IsRight : Budget → Prog → (ℕ → Bool) → Place → Verdict → Type 0
 IsRight budget p set t (Proved nodes) = HasCertificate p set t nodes.items
 IsRight budget p set t (Refuted cex) = IsFailure p set t cex
-IsRight budget p set t (Unknown parts) = IsSpent p set t budget parts.items
+IsRight budget p set t (Unknown why) = HasCause p set t budget why
 
 abbrev pub placed_at : Judged → Placed
 placed_at j = placed_of j.place
 
 -- each verdict is right
-abbrev pub AreRightAt : ℕ → Prog → (ℕ → Bool) → List Judged → Type 0
+abbrev pub AreRightAt : Budget → Prog → (ℕ → Bool) → List Judged → Type 0
 AreRightAt budget p set [] = Unit {0}
 AreRightAt budget p set (j ∷ js) = IsRight budget p set (placed_at j).place j.verdict × AreRightAt budget p set js
 
 -- one right verdict for each place of the implementation with this number, in order
-pub record AreRightOf (budget : ℕ) (p : r.Program) (set : ℕ → Bool) (k : ℕ) (m : r.Impl) (js : List Judged) : Type 0 where
+pub record AreRightOf (budget : Budget) (p : r.Program) (set : ℕ → Bool) (k : ℕ) (m : r.Impl) (js : List Judged) : Type 0 where
   pub places : map placed_at js ≡ placed_impl p.procedures k m
   pub right : AreRightAt budget (meaning_of p) set js
 
 -- for each of these implementations, numbered from k on
-abbrev pub AreRightFrom : ℕ → r.Program → (ℕ → Bool) → ℕ → List r.Impl → List (List Judged) → Type 0
+abbrev pub AreRightFrom : Budget → r.Program → (ℕ → Bool) → ℕ → List r.Impl → List (List Judged) → Type 0
 AreRightFrom budget p set k [] [] = Unit {0}
 AreRightFrom budget p set k [] (js ∷ os) = ⊥
 AreRightFrom budget p set k (m ∷ ms) [] = ⊥
 AreRightFrom budget p set k (m ∷ ms) (js ∷ os) = AreRightOf budget p set k m js × AreRightFrom budget p set (suc k) ms os
 
 -- one right verdict for each place of a program, under a set of candidates
-abbrev pub AreRightUnder : (ℕ → Bool) → ℕ → r.Program → List (List Judged) → Type 0
+abbrev pub AreRightUnder : (ℕ → Bool) → Budget → r.Program → List (List Judged) → Type 0
 AreRightUnder set budget p outcome = AreRightFrom budget p set 0 p.implementations outcome
 
 -- under no candidate
-abbrev pub AreRight : ℕ → r.Program → List (List Judged) → Type 0
+abbrev pub AreRight : Budget → r.Program → List (List Judged) → Type 0
 AreRight = AreRightUnder none
 
 abbrev pub is_proved : Verdict → Bool
 is_proved (Proved nodes) = true
 is_proved (Refuted cex) = false
-is_proved (Unknown parts) = false
+is_proved (Unknown why) = false
 
 abbrev pub are_proved : List Judged → Bool
 are_proved [] = true

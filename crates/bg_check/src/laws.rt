@@ -19,6 +19,7 @@ ghost use Rattle.bg_replay.specs.Endings.{state_of, Tells, IsReplay};
 ghost use Rattle.bg_replay.specs.declared.choice.Choice as replayed;
 ghost use Rattle.bg_replay.specs.declared.choice.Ending.{Ending};
 ghost use Rattle.bg_model.specs.declared.failure.Counterexample.{Counterexample};
+ghost use Rattle.bg_tree.specs.declared.outcome.Budget.{Budget};
 ghost use Rattle.bg_check.specs.declared.verdict.Judged.{Judged};
 ghost use Rattle.bg_check.specs.Verdicts.{HasCertificate, IsFailure, AreRightUnder, AreRight, ProvedAreSafe};
 ghost use Rattle.bg_check.specs.Clauses.{none};
@@ -52,7 +53,7 @@ pub fn proved_places_do_not_fail()
 /// An implementation of a typed program over truth values is safe under a set of candidates where each of its places is proved whose
 /// clause is there: no execution of it fails, of any number of steps.
 pub fn proved_under_a_set_is_safe()
-    ensures { (p : Program) (set : ℕ → Bool) (budget : ℕ) (outcome : List (List Judged)) → IsTyped (meaning_of p) → is_over_truths (meaning_of p) ≡ true → AreRightUnder set budget p outcome → ProvedAreSafe p set 0 outcome }
+    ensures { (p : Program) (set : ℕ → Bool) (budget : Budget) (outcome : List (List Judged)) → IsTyped (meaning_of p) → is_over_truths (meaning_of p) ≡ true → AreRightUnder set budget p outcome → ProvedAreSafe p set 0 outcome }
 {
     typed_programs_have_typed_bodies();
     what_fails_at_no_place_is_safe();
@@ -70,7 +71,7 @@ pub fn proved_under_a_set_is_safe()
 /// An implementation of a typed program over truth values is safe where each of its places without a candidate is proved: no execution
 /// of it fails, of any number of steps.
 pub fn proved_is_safe()
-    ensures { (p : Program) (budget : ℕ) (outcome : List (List Judged)) → IsTyped (meaning_of p) → is_over_truths (meaning_of p) ≡ true → AreRight budget p outcome → ProvedAreSafe p none 0 outcome }
+    ensures { (p : Program) (budget : Budget) (outcome : List (List Judged)) → IsTyped (meaning_of p) → is_over_truths (meaning_of p) ≡ true → AreRight budget p outcome → ProvedAreSafe p none 0 outcome }
 {
     proved_under_a_set_is_safe()
 }

@@ -6,7 +6,8 @@ ghost use Rattle.bg_sense.specs.Typed.{IsTyped};
 ghost use Rattle.bg_places.specs.Views.{placed_of};
 ghost use Rattle.bg_formula.specs.Formulas.{formula_of, is_whole};
 ghost use Rattle.bg_cert.specs.Walks.{has};
-ghost use Rattle.bg_tree.specs.Trees.{IsLeaf};
+ghost use Rattle.bg_pick.specs.Picks.{IsComplete};
+ghost use Rattle.bg_tree.specs.declared.outcome.Budget.{Budget};
 ghost use Rattle.bg_fits.specs.Truths.{is_over_truths};
 ghost use Rattle.bg_check.specs.Clauses.{formula_at};
 ghost use Rattle.bg_check.specs.Prepared.{IsPrepared};
@@ -24,7 +25,7 @@ use bg_model::counterexample;
 use bg_passive::laws::arrivals_fit;
 use bg_places::Place;
 use bg_sense::laws::typed_programs_have_typed_bodies;
-use bg_tree::{Outcome, search};
+use bg_tree::{Budget, Outcome, search};
 use bg_truths::laws::{
     blocks_are_even, no_interpretation_is_needed, passive_blocks_fit,
     truth_values_begin_with_a_state, typed_values_are_truths,
@@ -86,8 +87,8 @@ fn refuted(
     requires prepared { IsPrepared (program_of program.now) place.now.implementation prepared.now }
     requires clauses { formula_at (meaning_of (program_of program.now)) (placed_of place.now).place ≡ Some (formula_of f.now) }
     requires whole { is_whole (formula_of f.now) ≡ true }
-    requires leaf { IsLeaf (formula_of f.now) (has set.now) leaf.now }
-    ensures { IfOk result (λ verdict. (budget : ℕ) → IsRight budget (meaning_of (program_of program.now)) (has set.now) (placed_of place.now).place verdict) }
+    requires leaf { IsComplete (formula_of f.now) (has set.now) leaf.now }
+    ensures { IfOk result (λ verdict. (budget : Budget) → IsRight budget (meaning_of (program_of program.now)) (has set.now) (placed_of place.now).place verdict) }
 {
     typed_programs_have_typed_bodies();
     arrivals_fit();
@@ -110,7 +111,7 @@ fn refuted(
 }
 
 /// What is known of a place of a typed program over truth values, under a set of candidates, where its implementation is prepared.
-/// A search makes at most `budget` inner nodes.
+/// A search makes at most the budget's inner nodes, and keeps at most its rows.
 ///
 /// Only want of memory is an error; 2^32 atoms count as such.
 pub fn check_place(
@@ -119,7 +120,7 @@ pub fn check_place(
     prepared: &Prepared<'_>,
     place: &Place,
     set: &[bool],
-    budget: u32,
+    budget: Budget,
 ) -> Result<Verdict, AllocError>
     requires typed { IsTyped (meaning_of (program_of program.now)) }
     requires truths { is_over_truths (meaning_of (program_of program.now)) ≡ true }
@@ -129,7 +130,7 @@ pub fn check_place(
     let f = place_clauses(alloc, program, prepared, place)?;
     match search(alloc, &f, set, budget)? {
         Outcome::Closed(nodes) => Ok(Verdict::Proved(nodes)),
-        Outcome::Leaf(leaf) => refuted(alloc, program, prepared, place, set, &f, &leaf),
-        Outcome::Nodes(parts) => Ok(Verdict::Unknown(parts)),
+        Outcome::Leaf(leaf) => refuted(alloc, program, prepared, place, set, &f, &leaf.path),
+        Outcome::Unknown(why) => Ok(Verdict::Unknown(why)),
     }
 }

@@ -18,6 +18,7 @@ use crate::verdict::Judged;
 use bg_ast::resolved::{Resolved, Variable};
 use bg_blocks::callees_of;
 use bg_places::{Place, places_of};
+use bg_tree::Budget;
 use std::alloc::{AllocError, Global};
 
 /// What is known of a place of the implementation with this number.
@@ -28,7 +29,7 @@ fn judge(
     number: usize,
     place: &Place,
     set: &[bool],
-    budget: u32,
+    budget: Budget,
 ) -> Result<Judged, AllocError>
     requires typed { IsTyped (meaning_of (program_of program.now)) }
     requires truths { is_over_truths (meaning_of (program_of program.now)) ≡ true }
@@ -52,7 +53,7 @@ fn judge_places(
     number: usize,
     places: &[Place],
     set: &[bool],
-    budget: u32,
+    budget: Budget,
 ) -> Result<Vec<Judged>, AllocError>
     requires typed { IsTyped (meaning_of (program_of program.now)) }
     requires truths { is_over_truths (meaning_of (program_of program.now)) ≡ true }
@@ -76,7 +77,7 @@ fn judge_implementation(
     callees: &[Vec<Variable>],
     number: usize,
     set: &[bool],
-    budget: u32,
+    budget: Budget,
 ) -> Result<Vec<Judged>, AllocError>
     requires typed { IsTyped (meaning_of (program_of program.now)) }
     requires truths { is_over_truths (meaning_of (program_of program.now)) ≡ true }
@@ -90,13 +91,13 @@ fn judge_implementation(
 }
 
 /// What is known of each place of a typed program over truth values, by implementation and place, under the empty set of candidates.
-/// A search makes at most `budget` inner nodes.
+/// A search makes at most the budget's inner nodes, and keeps at most its rows.
 ///
 /// Only want of memory is an error; 2^32 incarnations, atoms or branches of an implementation count as such.
 pub fn check_program(
     alloc: Global,
     program: &Resolved,
-    budget: u32,
+    budget: Budget,
 ) -> Result<Vec<Vec<Judged>>, AllocError>
     requires typed { IsTyped (meaning_of (program_of program.now)) }
     requires truths { is_over_truths (meaning_of (program_of program.now)) ≡ true }

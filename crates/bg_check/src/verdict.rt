@@ -2,14 +2,15 @@
 use bg_cert::Node;
 use bg_model::Counterexample;
 use bg_places::Place;
+use bg_tree::Why;
 
 /// What is known of a place: a certificate that its check never fails; a counterexample, with which the induction run fails there;
-/// or a tree with exactly the budget's number of inner nodes, in which `None` is an open leaf.
+/// or why neither was found within the budget.
 #[derive(Debug, Drop)]
 pub enum Verdict {
     Proved(Vec<Node>),
     Refuted(Counterexample),
-    Unknown(Vec<Option<Node>>),
+    Unknown(Why),
 }
 
 /// A place, and what is known of it.

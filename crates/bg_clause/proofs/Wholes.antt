@@ -7,7 +7,7 @@ use Rattle.bg_sense.specs.Variables.{count_from}
 use Rattle.bg_passive.specs.Passive.{PassiveBlock}
 use Rattle.bg_formula.specs.declared.atom.Literal.{Literal}
 use Rattle.bg_formula.specs.Atoms.{IsTruth, at}
-use Rattle.bg_formula.specs.Formulas.{literals_below, clauses_below, units_below, is_whole}
+use Rattle.bg_formula.specs.Formulas.{literals_below, clauses_below, units_below, rows_below, is_whole}
 use Rattle.bg_formula.specs.Meaning.{Valuation, same, signed, literal_true, clause_true, clauses_true}
 use Rattle.bg_forms.specs.Forms.{Form, Plain, Is, NotSo, Both, Same, literal_in, opposite}
 use Rattle.bg_clause.specs.Fitting.{fits_cmds, fit_edges, fit_blocks}
@@ -226,13 +226,20 @@ units_counted n k zero le = refl
 units_counted n k (suc m) le =
     and_both (nat_lt k n) (units_below n (map Some (count_from (suc k) m))) (one_below k n (omega (arith, le))) (units_counted n (suc k) m (omega (arith, le)))
 
+-- truth variables are no rows
+no_rows : (n : ℕ) (xs : List ℕ) → rows_below n (map IsTruth xs) ≡ true
+no_rows n [] = refl
+no_rows n (x ∷ xs) = no_rows n xs
+
 -- the formula is whole
 pub formula_whole : (n m : ℕ) (t : Spot) (bs : List PassiveBlock) → fit_blocks n m bs ≡ true → is_whole (formula n m t bs) ≡ true
 formula_whole n m t bs fits =
     let s = entry_told n t (n + m) bs in
     let units = map Some (count_from n m) in
-    let both = and_both (clauses_below s.next s.clauses) (units_below s.next units) (entry_below n m t (n + m) (omega arith) bs fits) (units_counted s.next n m (omega (arith, entry_more n m t (n + m) bs))) in
-    subst (λ x. (clauses_below x s.clauses && units_below x units) ≡ true) (sym (how_many_atoms 0 s.next)) both
+    let atoms = map IsTruth (count_from 0 s.next) in
+    let named = and_both (units_below s.next units) (rows_below 0 atoms) (units_counted s.next n m (omega (arith, entry_more n m t (n + m) bs))) (no_rows 0 (count_from 0 s.next)) in
+    let all = and_both (clauses_below s.next s.clauses) (units_below s.next units && rows_below 0 atoms) (entry_below n m t (n + m) (omega arith) bs fits) named in
+    subst (λ x. (clauses_below x s.clauses && (units_below x units && rows_below 0 atoms)) ≡ true) (sym (how_many_atoms 0 s.next)) all
 
 -- an atom that is there is the truth variable of its number
 at_count : (k n j x : ℕ) → x ≡ k + j → nat_lt j n ≡ true → at (map IsTruth (count_from k n)) j ≡ Some (IsTruth x)

@@ -1,9 +1,11 @@
-//! Whether what names an atom names one that is there.
+//! Whether what names an atom or a term names one that is there.
 ghost use Rattle.std.specs.Prelude.{◌≡◌, map};
-ghost use Rattle.bg_formula.specs.Formulas.{formula_of, literals_below, clauses_below, units_below, is_whole};
+ghost use Rattle.bg_formula.specs.Atoms.{atom_of};
+ghost use Rattle.bg_formula.specs.Formulas.{formula_of, literals_below, clauses_below, units_below, entries_below, atom_below, rows_below, is_whole};
 
-use crate::atom::Literal;
+use crate::atom::{Atom, Literal};
 use crate::clauses::Clauses;
+use bg_rows::Entry;
 
 fn literals_below(atoms: usize, clause: &[Literal]) -> bool
     ensures { result ≡ literals_below atoms clause.now }
@@ -40,10 +42,43 @@ fn units_below(atoms: usize, candidates: &[Option<u32>]) -> bool
     true
 }
 
-/// Whether each literal's atom and each candidate's is one of the formula's.
+fn entries_below(terms: u32, entries: &[Entry]) -> bool
+    ensures { result ≡ entries_below terms entries.now }
+{
+    for t in entries {
+        if t.variable >= terms {
+            return false;
+        }
+    }
+    true
+}
+
+fn atom_below(terms: u32, atom: &Atom) -> bool
+    ensures { result ≡ atom_below terms (atom_of atom.now) }
+{
+    match atom {
+        Atom::Truth(_) => true,
+        Atom::Holds(l) => entries_below(terms, &l.row.entries),
+    }
+}
+
+fn rows_below(terms: u32, atoms: &[Atom]) -> bool
+    ensures { result ≡ rows_below terms (map atom_of atoms.now) }
+{
+    for a in atoms {
+        if !atom_below(terms, a) {
+            return false;
+        }
+    }
+    true
+}
+
+/// Whether each literal's atom and each candidate's is one of the formula's, and each term of a row
+/// is below the formula's number of terms.
 pub fn is_whole(f: &Clauses) -> bool
     ensures { result ≡ is_whole (formula_of f.now) }
 {
     let atoms = f.atoms.len();
-    clauses_below(atoms, &f.clauses) && units_below(atoms, &f.candidates)
+    clauses_below(atoms, &f.clauses)
+        && (units_below(atoms, &f.candidates) && rows_below(f.terms, &f.atoms))
 }

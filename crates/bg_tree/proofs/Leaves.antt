@@ -1,20 +1,30 @@
 -- Where a valuation agrees with a complete leaf, it meets the clauses and the units.
-use Rattle.std.proofs.Common.{◌≡◌, ℕ, zero, suc, ◌<◌, Bool, true, false, not, ◌&&◌, ◌||◌, ◌==◌, cond, List, [], ◌∷◌, length, refl, ◌∙◌, arith, inl, inr}
-use Rattle.std.specs.Prelude.{Option, Some, None, nat_lt}
+use Rattle.std.proofs.Common.{◌≡◌, ℕ, zero, suc, ◌<◌, Bool, true, false, not, ◌&&◌, ◌||◌, ◌==◌, cond, List, [], ◌∷◌, ℤ, ◌≤ℤ◌, ◌<ℤ◌, length, map, refl, sym, ◌∙◌, arith, inl, inr, subst}
+use Rattle.std.specs.Prelude.{Option, Some, None, Ok, nat_lt, int_le}
+use Rattle.std.proofs.lemmas.Int.{ints}
 use Rattle.std.proofs.lemmas.Bool.Decides.{nat_tests}
+use Rattle.bg_rows.specs.Rows.{RowOf, row_of, holds, Meets, AllMeet, denied}
+use Rattle.bg_rows.proofs.Meaning.{denied_denies}
+use Rattle.bg_point.specs.Points.{value_of}
+use Rattle.bg_point.proofs.Near.{funext, holds_is, holds_not}
+use Rattle.bg_point.proofs.Upto.{point_meets}
 use Rattle.bg_formula.specs.declared.atom.Literal.{Literal}
-use Rattle.bg_formula.specs.Atoms.{AtomOf}
-use Rattle.bg_formula.specs.Formulas.{Formula, unit_atom, literals_below, clauses_below, units_below, is_whole}
-use Rattle.bg_formula.specs.Meaning.{Valuation, clause_true, clauses_true, unit_true, MeetsUnits}
+use Rattle.bg_formula.specs.Atoms.{AtomOf, IsTruth, IsRow, at}
+use Rattle.bg_formula.specs.Formulas.{Formula, unit_atom, literals_below, clauses_below, is_whole}
+use Rattle.bg_formula.specs.Meaning.{Valuation, same, signed, clause_true, clauses_true, unit_true, MeetsUnits, AtomsAgree}
 use Rattle.bg_cert.specs.declared.cert.Decision.{Decision}
-use Rattle.bg_cert.specs.Paths.{decides, clause_false, decided_true}
+use Rattle.bg_cert.specs.declared.cert.Decision.TheVariants.{Atom, AtMost}
+use Rattle.bg_cert.specs.Paths.{decides, clause_false, decision_true, decided_true, at_most, above, row_of_atom, row_of_decision, in_front, rows_on}
 use Rattle.bg_cert.specs.Causes.{is_decided, all_decided, has_true, undecided, any_false, any_open, member_atom, unit_clause, unit_clauses, units_of}
 use Rattle.bg_cert.proofs.Follow.{either, and_of, or_left, or_right, decided_signs}
-use Rattle.bg_tree.specs.Trees.{IsLeaf}
-use Rattle.bg_tree.proofs.Falses.{false_parts}
-use Rattle.bg_tree.proofs.Members.{atom_low, candidate_there}
-use Rattle.bg_tree.proofs.Below.{split_and}
-use Rattle.bg_tree.proofs.Opens.{split_or, none_left}
+use Rattle.bg_pick.specs.Picks.{IsComplete}
+use Rattle.bg_pick.proofs.Falses.{false_parts}
+use Rattle.bg_pick.proofs.Members.{atom_low, candidate_there}
+use Rattle.bg_pick.proofs.Below.{split_and, whole_clauses, whole_units}
+use Rattle.bg_pick.proofs.Opens.{split_or, none_left}
+use Rattle.bg_tree.specs.declared.outcome.Leaf.{Leaf}
+use Rattle.bg_tree.specs.Ends.{IsLeaf, truth_agrees, decision_agrees, truths_agree}
+use Rattle.bg_tree.proofs.Gaps.{one_times, minus_one_times}
 
 decided_below : (n a : ℕ) (ds : List Decision) → all_decided n ds ≡ true → a < n → is_decided a ds ≡ true
 decided_below zero a ds h l = absurd (omega arith)
@@ -25,7 +35,7 @@ decided_below (suc n) a ds h l =
     by_last r true e g = let q : a ≡ n = grind (arith, nat_tests) in rw q g
     by_last r false e g = let k : a < n = grind (arith, nat_tests) in r k
 
-pub nothing_undecided : (n : ℕ) (ds : List Decision) (c : List Literal) → all_decided n ds ≡ true → literals_below n c ≡ true → undecided ds c ≡ []
+nothing_undecided : (n : ℕ) (ds : List Decision) (c : List Literal) → all_decided n ds ≡ true → literals_below n c ≡ true → undecided ds c ≡ []
 nothing_undecided n ds [] h b = refl
 nothing_undecided n ds (l ∷ ls) h b =
     let s = split_and (nat_lt l.atom n) (literals_below n ls) b in
@@ -44,7 +54,7 @@ clause_met ds c f u = by_true (has_true ds c) refl
     by_true true e = refl
     by_true false e = absurd (let z = none_left ds c e u in cc)
 
-pub clauses_met : (n : ℕ) (ds : List Decision) (cs : List (List Literal)) → all_decided n ds ≡ true → clauses_below n cs ≡ true → any_false ds cs ≡ false → any_open ds cs ≡ false
+clauses_met : (n : ℕ) (ds : List Decision) (cs : List (List Literal)) → all_decided n ds ≡ true → clauses_below n cs ≡ true → any_false ds cs ≡ false → any_open ds cs ≡ false
 clauses_met n ds [] h b f = refl
 clauses_met n ds (c ∷ cs) h b f =
     let s = split_and (literals_below n c) (clauses_below n cs) b in
@@ -71,11 +81,10 @@ true_clauses v xs ds (c ∷ cs) d h =
     is_so true e = refl
     is_so false e = absurd (cc)
 
-pub leaf_clauses : (f : Formula) (set : ℕ → Bool) (ds : List Decision) (v : Valuation) → is_whole f ≡ true → IsLeaf f set ds → decided_true v f.atoms ds ≡ true → clauses_true v f.atoms f.clauses ≡ true
-leaf_clauses f set ds v w l d =
-    let p = false_parts ds f.clauses (units_of f set) l.0 in
-    let b = split_and (clauses_below (length f.atoms) f.clauses) (units_below (length f.atoms) f.candidates) w in
-    true_clauses v f.atoms ds f.clauses d (clauses_met (length f.atoms) ds f.clauses l.1 b.0 p.0)
+complete_clauses : (f : Formula) (set : ℕ → Bool) (ds : List Decision) (v : Valuation) → is_whole f ≡ true → IsComplete f set ds → decided_true v f.atoms ds ≡ true → clauses_true v f.atoms f.clauses ≡ true
+complete_clauses f set ds v w l d =
+    let p = false_parts ds f.clauses (units_of f set) l.fine in
+    true_clauses v f.atoms ds f.clauses d (clauses_met (length f.atoms) ds f.clauses l.decided (whole_clauses f w) p.0)
 
 -- ---- its units
 
@@ -101,8 +110,8 @@ decided_true_sign : (t f : Bool) → (t || f) ≡ true → f ≡ false → t ≡
 decided_true_sign true f h k = refl
 decided_true_sign false f h k = absurd (let z = k in cc)
 
-pub leaf_units : (f : Formula) (set : ℕ → Bool) (ds : List Decision) (v : Valuation) → is_whole f ≡ true → IsLeaf f set ds → decided_true v f.atoms ds ≡ true → MeetsUnits v f set
-leaf_units f set ds v w l d c s = by_atom (unit_atom f c) refl
+complete_units : (f : Formula) (set : ℕ → Bool) (ds : List Decision) (v : Valuation) → is_whole f ≡ true → IsComplete f set ds → decided_true v f.atoms ds ≡ true → MeetsUnits v f set
+complete_units f set ds v w l d c s = by_atom (unit_atom f c) refl
   where
     is_member : (b : Bool) (x : Option ℕ) → b ≡ true → cond b x None ≡ x
     is_member true x e = refl
@@ -111,10 +120,70 @@ leaf_units f set ds v w l d c s = by_atom (unit_atom f c) refl
     by_atom : (x : Option ℕ) → unit_atom f c ≡ x → unit_true v f x ≡ true
     by_atom None e = refl
     by_atom (Some a) e =
-        let b = split_and (clauses_below (length f.atoms) f.clauses) (units_below (length f.atoms) f.candidates) w in
-        let p = false_parts ds f.clauses (units_of f set) l.0 in
+        let p = false_parts ds f.clauses (units_of f set) l.fine in
         let m : member_atom f set c ≡ Some a = is_member (set c) (unit_atom f c) s ∙ e in
         let n = member_not_false f set ds a c (length f.candidates) (candidate_there f.candidates c a e) m p.1 in
-        let t = atom_low (length f.atoms) f.candidates c a b.1 e in
+        let t = atom_low (length f.atoms) f.candidates c a (whole_units f w) e in
         let k : a < length f.atoms = grind (arith, nat_tests) in
-        decided_signs v f.atoms a true ds (decided_true_sign (decides a true ds) (decides a false ds) (decided_below (length f.atoms) a ds l.1 k) n) d
+        decided_signs v f.atoms a true ds (decided_true_sign (decides a true ds) (decides a false ds) (decided_below (length f.atoms) a ds l.decided k) n) d
+
+-- ---- a point makes the path's rows true
+
+denial_at : (xs : List AtomOf) (a : ℕ) (r d : RowOf) → AtomsAgree xs → at xs a ≡ Some (IsRow r d) → denied r ≡ Ok d
+denial_at [] a r d g e = absurd (cc)
+denial_at (IsTruth x ∷ xs) zero r d g e = absurd (cc)
+denial_at (IsRow q c ∷ xs) zero r d g e =
+    let p : q ≡ r = cc in
+    let s : c ≡ d = cc in
+    let t = g.0 in
+    rw (p, s) at t
+denial_at (IsTruth x ∷ xs) (suc a) r d g e = denial_at xs a r d g e
+denial_at (IsRow q c ∷ xs) (suc a) r d g e = denial_at xs a r d g.1 e
+
+at_most_holds : (v : ℕ → ℤ) (x : ℕ) (k : ℤ) → Meets v (at_most x k) → int_le (v x) k ≡ true
+at_most_holds v x k m = let le : v x ≤ℤ k = omega (arith, ints, m, one_times (v x)) in grind (arith, ints)
+
+above_holds : (v : ℕ → ℤ) (x : ℕ) (k : ℤ) → Meets v (above x k) → int_le (v x) k ≡ false
+above_holds v x k m = let lt : k <ℤ v x = omega (arith, ints, m, minus_one_times (v x)) in grind (arith, ints)
+
+same_sign : (b s : Bool) → b ≡ s → same b s ≡ true
+same_sign true true e = refl
+same_sign true false e = absurd (cc)
+same_sign false true e = absurd (cc)
+same_sign false false e = refl
+
+decision_holds : (v : Valuation) (xs : List AtomOf) (d : Decision) → AtomsAgree xs → ((r : RowOf) → row_of_decision xs d ≡ Some r → Meets v.numbers r) → decision_agrees v xs d ≡ true → decision_true v xs d ≡ true
+decision_holds v xs (Atom a s) g m h = by_atom (at xs a) refl s h m
+  where
+    by_atom : (o : Option AtomOf) → at xs a ≡ o → (t : Bool) → truth_agrees v o t ≡ true → ((r : RowOf) → row_of_atom (at xs a) t ≡ Some r → Meets v.numbers r) → signed v (at xs a) t ≡ true
+    by_atom None e t k f = absurd (cc)
+    by_atom (Some (IsTruth x)) e t k f = rw e k
+    by_atom (Some (IsRow r d)) e true k f =
+        rw e (same_sign (holds v.numbers r) true (holds_is v.numbers r (f r (rw e refl))))
+    by_atom (Some (IsRow r d)) e false k f =
+        rw e (same_sign (holds v.numbers r) false (holds_not v.numbers r (λ n. denied_denies v.numbers r d (denial_at xs a r d g e) (f d (rw e refl)) n)))
+decision_holds v xs (AtMost x k true) g m h = same_sign _ true (at_most_holds v.numbers x k (m (at_most x k) refl))
+decision_holds v xs (AtMost x k false) g m h = same_sign _ false (above_holds v.numbers x k (m (above x k) refl))
+
+front_met : (v : ℕ → ℤ) (o : Option RowOf) (rs : List RowOf) → AllMeet v (in_front o rs) → ((r : RowOf) → o ≡ Some r → Meets v r) × AllMeet v rs
+front_met v None rs m = ((λ r e. absurd (cc)), m)
+front_met v (Some q) rs m = ((λ r e. let is : q ≡ r = cc in subst (Meets v) is m.0), m.1)
+
+path_holds : (v : Valuation) (xs : List AtomOf) (ds : List Decision) → AtomsAgree xs → AllMeet v.numbers (rows_on xs ds) → truths_agree v xs ds ≡ true → decided_true v xs ds ≡ true
+path_holds v xs [] g m h = refl
+path_holds v xs (d ∷ ds) g m h =
+    let p = split_and (decision_agrees v xs d) (truths_agree v xs ds) h in
+    let f = front_met v.numbers (row_of_decision xs d) (rows_on xs ds) m in
+    and_of _ _ (decision_holds v xs d g f.0 p.0) (path_holds v xs ds g f.1 p.1)
+
+leaf_holds : (f : Formula) (set : ℕ → Bool) (leaf : Leaf) (v : Valuation) → AtomsAgree f.atoms → IsLeaf f set leaf → ((x : ℕ) → v.numbers x ≡ value_of leaf.spots.items x) → truths_agree v f.atoms leaf.path.items ≡ true → decided_true v f.atoms leaf.path.items ≡ true
+leaf_holds f set leaf v g l n t =
+    let m = point_meets (rows_on f.atoms leaf.path.items) leaf.order.variables.items (map row_of leaf.order.rows.items) leaf.spots.items l.solved.kept l.point in
+    let e : value_of leaf.spots.items ≡ v.numbers = sym (funext v.numbers (value_of leaf.spots.items) n) in
+    path_holds v f.atoms leaf.path.items g (subst (λ (w : ℕ → ℤ). AllMeet w (rows_on f.atoms leaf.path.items)) e m) t
+
+pub leaf_clauses : (f : Formula) (set : ℕ → Bool) (leaf : Leaf) (v : Valuation) → is_whole f ≡ true → AtomsAgree f.atoms → IsLeaf f set leaf → ((x : ℕ) → v.numbers x ≡ value_of leaf.spots.items x) → truths_agree v f.atoms leaf.path.items ≡ true → clauses_true v f.atoms f.clauses ≡ true
+leaf_clauses f set leaf v w g l n t = complete_clauses f set leaf.path.items v w l.complete (leaf_holds f set leaf v g l n t)
+
+pub leaf_units : (f : Formula) (set : ℕ → Bool) (leaf : Leaf) (v : Valuation) → is_whole f ≡ true → AtomsAgree f.atoms → IsLeaf f set leaf → ((x : ℕ) → v.numbers x ≡ value_of leaf.spots.items x) → truths_agree v f.atoms leaf.path.items ≡ true → MeetsUnits v f set
+leaf_units f set leaf v w g l n t = complete_units f set leaf.path.items v w l.complete (leaf_holds f set leaf v g l n t)

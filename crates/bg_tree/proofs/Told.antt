@@ -1,63 +1,68 @@
 -- What the search has told when it ends.
-use Rattle.std.proofs.Common.{◌≡◌, ℕ, Bool, true, false, List, [], ◌∷◌, ◌++◌, map, refl, sym, ap, ◌∙◌, append-nil, append_assoc}
-use Rattle.std.specs.Prelude.{Some}
+use Rattle.std.proofs.Common.{◌≡◌, ℕ, Bool, true, false, List, [], ◌∷◌, ◌++◌, map, refl, sym, ap, ◌∙◌, subst, append-nil, append_assoc}
+use Rattle.std.specs.Prelude.{Option, Some, None}
 use Rattle.bg_formula.specs.Formulas.{Formula}
 use Rattle.bg_cert.specs.declared.cert.Node.{Node}
-use Rattle.bg_cert.specs.Certs.{NodeOf, node_of, accepts, root, Accepts}
-use Rattle.bg_cert.specs.Causes.{PartOf}
+use Rattle.bg_cert.specs.Certs.{NodeOf, Bounds, node_of, accepts, root, Accepts}
 use Rattle.bg_cert.specs.Walks.{no_instance, stack_of}
+use Rattle.bg_tree.specs.declared.part.Part.{Part}
+use Rattle.bg_tree.specs.declared.part.Part.TheVariants.{Open, Plain, Bound}
+use Rattle.bg_tree.specs.declared.outcome.Halt.{Halt}
 use Rattle.bg_tree.specs.declared.step.Search.{Search}
-use Rattle.bg_tree.specs.Trees.{part_of, tree, Moves, Steps}
+use Rattle.bg_tree.specs.Trees.{AreTrees, nodes_of, Moves, Steps}
 
-pub map_snoc : {A B : Type 0} (g : A → B) (xs : List A) (x : A) → map g (xs ++ (x ∷ [])) ≡ map g xs ++ (g x ∷ [])
-map_snoc g [] x = refl
-map_snoc g (y ∷ xs) x = ap (λ t. g y ∷ t) (map_snoc g xs x)
-
-pub moved : (f : Formula) (set : ℕ → Bool) (old new : Search) (done : Bool) → done ≡ false → Steps f set old new done → Moves f set old new
-moved f set old new true e s = absurd (cc)
-moved f set old new false e s = s
+pub moved : (f : Formula) (set : ℕ → Bool) (rows : ℕ) (old new : Search) (halt : Option Halt) → halt ≡ None → Steps f set rows old new halt → Moves f set old new
+moved f set rows old new (Some h) e s = absurd (cc)
+moved f set rows old new None e s = s
 
 -- ---- the unfinished tree
 
 abbrev pub Told : Formula → (ℕ → Bool) → ℕ → Search → Type 0
-Told f set budget s = (rest : List PartOf) → tree f set budget false (root f ∷ []) (map part_of s.parts.items ++ rest) ≡ tree f set s.left s.seen (stack_of f s.walk) rest
+Told f set budget s = (rest : List Part) → AreTrees f set s.left s.seen (stack_of f s.walk) rest → AreTrees f set budget false (root f ∷ []) (s.parts.items ++ rest)
 
 pub told_more : (f : Formula) (set : ℕ → Bool) (budget : ℕ) (old new : Search) → Moves f set old new → Told f set budget old → Told f set budget new
-told_more f set budget old new m t rest =
-    ap (λ ps. tree f set budget false (root f ∷ []) (map part_of ps ++ rest)) m.made
-    ∙ ap (λ ps. tree f set budget false (root f ∷ []) (ps ++ rest)) (map_snoc part_of old.parts.items m.part)
-    ∙ ap (tree f set budget false (root f ∷ [])) (append_assoc (map part_of old.parts.items) (part_of m.part ∷ []) rest)
-    ∙ t (part_of m.part ∷ rest)
-    ∙ m.tells rest
+told_more f set budget old new m t rest h =
+    let e : new.parts.items ++ rest ≡ old.parts.items ++ (m.part ∷ rest) = ap (λ ps. ps ++ rest) m.made ∙ append_assoc old.parts.items (m.part ∷ []) rest in
+    subst (λ (ps : List Part). AreTrees f set budget false (root f ∷ []) ps) (sym e) (t (m.part ∷ rest) (m.tells rest h))
 
-pub told_all : (f : Formula) (set : ℕ → Bool) (budget : ℕ) (s : Search) → Told f set budget s → s.walk.is_open ≡ false → s.seen ≡ true → s.left ≡ 0 → tree f set budget false (root f ∷ []) (map part_of s.parts.items) ≡ true
-told_all f set budget s t o e l = let h = t [] in rw (append-nil, o, e, l) at h
+pub told_all : (f : Formula) (set : ℕ → Bool) (budget : ℕ) (s : Search) → Told f set budget s → s.walk.is_open ≡ false → s.seen ≡ true → s.left ≡ 0 → AreTrees f set budget false (root f ∷ []) s.parts.items
+told_all f set budget s t o e l =
+    subst (λ (ps : List Part). AreTrees f set budget false (root f ∷ []) ps) (append-nil s.parts.items) (t [] (rw o (l, e)))
 
 -- ---- the certificate, where no leaf was left open
 
+nodes_append : (xs ys : List Part) → nodes_of (xs ++ ys) ≡ nodes_of xs ++ nodes_of ys
+nodes_append [] ys = refl
+nodes_append (Open ∷ xs) ys = nodes_append xs ys
+nodes_append (Plain n ∷ xs) ys = ap (λ ns. node_of n ∷ ns) (nodes_append xs ys)
+nodes_append (Bound k ∷ xs) ys = ap (λ ns. Bounds k.gap.variable k.gap.below ∷ ns) (nodes_append xs ys)
+
+-- one more part's nodes are behind the others
+pub nodes_next : (made more all : List NodeOf) (part : Part) (rest old : List Part) → old ≡ part ∷ rest → more ≡ made ++ nodes_of (part ∷ []) → made ++ nodes_of old ≡ all → more ++ nodes_of rest ≡ all
+nodes_next made more all part rest old e m h =
+    ap (λ ns. ns ++ nodes_of rest) m
+    ∙ append_assoc made (nodes_of (part ∷ [])) (nodes_of rest)
+    ∙ ap (λ ns. made ++ ns) (sym (nodes_append (part ∷ []) rest))
+    ∙ ap (λ ps. made ++ nodes_of ps) (sym e)
+    ∙ h
+
 abbrev pub Whole : Formula → (ℕ → Bool) → Search → Type 0
 Whole f set s =
-    s.seen ≡ false → (ns : List Node) × (s.parts.items ≡ map Some ns) ×
-    ((rest : List NodeOf) → accepts f set no_instance (root f ∷ []) (map node_of ns ++ rest) ≡ accepts f set no_instance (stack_of f s.walk) rest)
+    s.seen ≡ false → (rest : List NodeOf) → accepts f set no_instance (root f ∷ []) (nodes_of s.parts.items ++ rest) ≡ accepts f set no_instance (stack_of f s.walk) rest
 
 pub whole_more : (f : Formula) (set : ℕ → Bool) (old new : Search) → Moves f set old new → Whole f set old → Whole f set new
-whole_more f set old new m w g =
+whole_more f set old new m w g rest =
     let n = m.whole g in
-    let h = w n.2 in (
-      h.0 ++ (n.0 ∷ []),
-      m.made ∙ ap (λ x. old.parts.items ++ (x ∷ [])) n.1 ∙ ap (λ ps. ps ++ (Some n.0 ∷ [])) h.1 ∙ sym (map_snoc Some h.0 n.0),
-      λ rest.
-          ap (λ ps. accepts f set no_instance (root f ∷ []) (ps ++ rest)) (map_snoc node_of h.0 n.0)
-          ∙ ap (accepts f set no_instance (root f ∷ [])) (append_assoc (map node_of h.0) (node_of n.0 ∷ []) rest)
-          ∙ h.2 (node_of n.0 ∷ rest)
-          ∙ n.3 rest,
-    )
+    let e : nodes_of new.parts.items ≡ nodes_of old.parts.items ++ nodes_of (m.part ∷ []) = ap nodes_of m.made ∙ nodes_append old.parts.items (m.part ∷ []) in
+    ap (λ ns. accepts f set no_instance (root f ∷ []) (ns ++ rest)) e
+    ∙ ap (accepts f set no_instance (root f ∷ [])) (append_assoc (nodes_of old.parts.items) (nodes_of (m.part ∷ [])) rest)
+    ∙ w n.0 (nodes_of (m.part ∷ []) ++ rest)
+    ∙ n.1 rest
 
 pub whole_first : (f : Formula) (set : ℕ → Bool) (s : Search) → s.parts.items ≡ [] → stack_of f s.walk ≡ root f ∷ [] → Whole f set s
-whole_first f set s p t g = ([], p, λ rest. ap (λ ps. accepts f set no_instance ps rest) (sym t))
+whole_first f set s p t g rest = rw p (ap (λ ps. accepts f set no_instance ps rest) (sym t))
 
-pub whole_all : (f : Formula) (set : ℕ → Bool) (s : Search) (made : List Node) → Whole f set s → s.walk.is_open ≡ false → s.seen ≡ false → ((ns : List Node) → s.parts.items ≡ map Some ns → made ≡ ns) → Accepts f set no_instance (map node_of made)
+pub whole_all : (f : Formula) (set : ℕ → Bool) (s : Search) (made : List Node) → Whole f set s → s.walk.is_open ≡ false → s.seen ≡ false → map node_of made ≡ nodes_of s.parts.items → Accepts f set no_instance (map node_of made)
 whole_all f set s made w o e r =
-    let h = w e in
-    let k : accepts f set no_instance (root f ∷ []) (map node_of h.0) ≡ true = let x = h.2 [] in rw (append-nil, o) at x in
-    ap (λ ns. accepts f set no_instance (root f ∷ []) (map node_of ns)) (r h.0 h.1) ∙ k
+    let k : accepts f set no_instance (root f ∷ []) (nodes_of s.parts.items) ≡ true = let x = w e [] in rw (append-nil, o) at x in
+    ap (accepts f set no_instance (root f ∷ [])) r ∙ k

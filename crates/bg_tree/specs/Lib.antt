@@ -1,5 +1,3 @@
 pub mod Once
-pub mod Picks
-pub mod Index
-pub mod Marks
+pub mod Ends
 pub mod Trees

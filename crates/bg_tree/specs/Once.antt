@@ -1,11 +1,26 @@
--- Paths that give no atom both signs.
-use Rattle.std.specs.Prelude.{◌≡◌, ℕ, true, false, ◌&&◌, List, [], ◌∷◌}
+-- What holds of each path of the search.
+use Rattle.std.specs.Prelude.{◌≡◌, ℕ, Bool, true, false, nat_lt, ◌&&◌, List, [], ◌∷◌}
 use Rattle.bg_cert.specs.declared.cert.Decision.{Decision}
+use Rattle.bg_cert.specs.declared.cert.Decision.TheVariants.{Atom, AtMost}
 use Rattle.bg_cert.specs.Paths.{PathOf, decides}
 
+-- no atom has both signs
 abbrev pub IsOnce : List Decision → Type 0
 IsOnce ds = (a : ℕ) → (decides a true ds && decides a false ds) ≡ false
 
-abbrev pub AllOnce : List PathOf → Type 0
-AllOnce [] = Unit {0}
-AllOnce (p ∷ ps) = IsOnce p.decided × AllOnce ps
+-- each bound is that of one of the first n terms
+abbrev pub bound_in : ℕ → Decision → Bool
+bound_in n (Atom a s) = true
+bound_in n (AtMost x k s) = nat_lt x n
+
+abbrev pub bounds_in : ℕ → List Decision → Bool
+bounds_in n [] = true
+bounds_in n (d ∷ ds) = bound_in n d && bounds_in n ds
+
+pub record IsPath (n : ℕ) (ds : List Decision) : Type 0 where
+  pub once : IsOnce ds
+  pub bounds : bounds_in n ds ≡ true
+
+abbrev pub ArePaths : ℕ → List PathOf → Type 0
+ArePaths n [] = Unit {0}
+ArePaths n (p ∷ ps) = IsPath n p.decided × ArePaths n ps

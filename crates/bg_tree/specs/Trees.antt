@@ -1,71 +1,114 @@
 -- The trees that the search makes.
-use Rattle.std.specs.Prelude.{◌≡◌, ℕ, ◌+◌, ◌*◌, ◌<◌, Bool, true, false, List, [], ◌∷◌, ◌++◌, map, Option, Some, None, length}
+use Rattle.std.specs.Prelude.{◌≡◌, ℕ, ◌+◌, ◌-◌, ◌*◌, ◌<◌, Bool, true, false, List, [], ◌∷◌, ◌++◌, map, reverse, Option, Some, None, length}
 use Rattle.bg_formula.specs.Formulas.{Formula}
 use Rattle.bg_cert.specs.declared.cert.Node.{Node}
-use Rattle.bg_cert.specs.declared.cert.Node.TheVariants.{Split, Bound}
-use Rattle.bg_cert.specs.declared.cert.Decision.{Decision}
-use Rattle.bg_cert.specs.Paths.{PathOf}
-use Rattle.bg_cert.specs.Certs.{NodeOf, node_of, root, accepts, Accepts}
-use Rattle.bg_cert.specs.Causes.{PartOf, Closed, Inner, Open, partial, any_false, all_decided, units_of}
-use Rattle.bg_cert.specs.Walks.{no_instance, stack_of, IsWalk, paths_open, decided_on, atoms_on}
-use Rattle.bg_tree.specs.Once.{IsOnce, AllOnce}
+use Rattle.bg_cert.specs.declared.cert.Node.TheVariants.{Split}
+use Rattle.bg_cert.specs.declared.cert.Decision.TheVariants.{Atom, AtMost}
+use Rattle.bg_cert.specs.Paths.{PathOf, rows_on, with_decision}
+use Rattle.bg_cert.specs.Certs.{NodeOf, Bounds, node_of, root, closes, accepts, Accepts}
+use Rattle.bg_cert.specs.Causes.{any_false, may_split, may_bound, units_of}
+use Rattle.bg_cert.specs.declared.walk.Walk.{Walk}
+use Rattle.bg_cert.specs.Walks.{no_instance, stack_of, others_of, IsWalk, paths_open, decided_on, atoms_on}
+use Rattle.bg_elim.specs.Kept.{FillBudget}
+use Rattle.bg_pick.specs.declared.index.Index.{Index}
+use Rattle.bg_pick.specs.declared.guide.Guide.{Guide}
+use Rattle.bg_pick.specs.Marks.{AllReady}
+use Rattle.bg_pick.specs.Picks.{IsComplete}
+use Rattle.bg_tree.specs.declared.part.Kept.{Kept}
+use Rattle.bg_tree.specs.declared.part.Part.{Part}
+use Rattle.bg_tree.specs.declared.part.Part.TheVariants.{Open, Plain, Bound}
 use Rattle.bg_tree.specs.declared.step.Search.{Search}
-use Rattle.bg_tree.specs.declared.find.Outcome.{Outcome}
-use Rattle.bg_tree.specs.declared.find.Outcome.TheVariants.{Closed as IsClosed, Leaf, Nodes}
+use Rattle.bg_tree.specs.declared.outcome.Budget.{Budget}
+use Rattle.bg_tree.specs.declared.outcome.Halt.{Halt}
+use Rattle.bg_tree.specs.declared.outcome.Outcome.{Outcome}
+use Rattle.bg_tree.specs.declared.outcome.Why.{Why}
+use Rattle.bg_tree.specs.declared.outcome.Why.TheVariants.{Nodes, Rows, Range}
+use Rattle.bg_tree.specs.declared.outcome.Outcome.TheVariants.{Closed, Leaf, Unknown}
+use Rattle.bg_tree.specs.Once.{ArePaths}
+use Rattle.bg_tree.specs.Ends.{KeepsGap, IsBeyond, IsHalt, IsLeaf}
 
-abbrev pub part_of_node : Node → PartOf
-part_of_node (Split a) = Inner (node_of (Split a))
-part_of_node (Bound x k) = Inner (node_of (Bound x k))
-part_of_node n = Closed (node_of n)
+-- no clause and no unit of the set is false on the path
+abbrev pub IsFine : Formula → (ℕ → Bool) → PathOf → Type 0
+IsFine f set p = any_false p.decided (p.clauses ++ units_of f set) ≡ false
 
--- a part of a tree: a node, or an open leaf
-abbrev pub part_of : Option Node → PartOf
-part_of None = Open
-part_of (Some n) = part_of_node n
+-- an atom is split by the rule
+pub record IsSplit (f : Formula) (set : ℕ → Bool) (p : PathOf) (a : ℕ) : Type 0 where
+  pub fine : IsFine f set p
+  pub rule : may_split (length p.atoms) a p.decided (p.clauses ++ units_of f set) ≡ true
 
--- over truth values alone no bound or instance is kept
-abbrev pub none_kept : PathOf → NodeOf → Bool
-none_kept p n = false
+-- a new bound of a term that is there is split where all is decided, at a gap of the path's rows
+pub record IsBound (f : Formula) (set : ℕ → Bool) (p : PathOf) (k : Kept) : Type 0 where
+  pub fine : IsFine f set p
+  pub there : k.gap.variable < f.terms
+  pub rule : may_bound (length p.atoms) k.gap.variable k.gap.below p.decided ≡ true
+  pub gap : KeepsGap (rows_on p.atoms p.decided) k
 
--- an unfinished tree of the budget's inner nodes
-abbrev pub tree : Formula → (ℕ → Bool) → ℕ → Bool → List PathOf → List PartOf → Bool
-tree f set = partial f set no_instance none_kept
+-- the parts are one tree for each path, with n inner nodes together, and an open leaf where none was `seen` before
+abbrev pub AreTrees : Formula → (ℕ → Bool) → ℕ → Bool → List PathOf → List Part → Type 0
+AreTrees f set n seen [] [] = (n ≡ 0) × (seen ≡ true)
+AreTrees f set n seen [] (part ∷ rest) = ⊥
+AreTrees f set n seen (p ∷ ps) [] = ⊥
+AreTrees f set n seen (p ∷ ps) (Open ∷ rest) = IsFine f set p × AreTrees f set n true ps rest
+AreTrees f set n seen (p ∷ ps) (Plain (Split a) ∷ rest) =
+    IsSplit f set p a × (0 < n) ×
+    AreTrees f set (n - 1) seen (with_decision p (Atom a true) ∷ with_decision p (Atom a false) ∷ ps) rest
+AreTrees f set n seen (p ∷ ps) (Bound k ∷ rest) =
+    IsBound f set p k × (0 < n) ×
+    AreTrees f set (n - 1) seen (with_decision p (AtMost k.gap.variable k.gap.below true) ∷ with_decision p (AtMost k.gap.variable k.gap.below false) ∷ ps) rest
+AreTrees f set n seen (p ∷ ps) (Plain leaf ∷ rest) = (closes f set p (node_of leaf) ≡ true) × AreTrees f set n seen ps rest
 
--- nothing is false and nothing is left to decide
-abbrev pub IsLeaf : Formula → (ℕ → Bool) → List Decision → Type 0
-IsLeaf f set ds = (any_false ds (f.clauses ++ units_of f set) ≡ false) × (all_decided (length f.atoms) ds ≡ true)
+-- the nodes of a tree, in order
+abbrev pub nodes_of : List Part → List NodeOf
+nodes_of [] = []
+nodes_of (Open ∷ rest) = nodes_of rest
+nodes_of (Plain n ∷ rest) = node_of n ∷ nodes_of rest
+nodes_of (Bound k ∷ rest) = Bounds k.gap.variable k.gap.below ∷ nodes_of rest
+
+-- what is kept of a formula with the units of a set that is left unknown: a tree of the budget's inner nodes; or a path that
+-- decides every atom and makes nothing false, with the budget's number of rows, or an operation that leaves the range
+abbrev pub IsCause : Formula → (ℕ → Bool) → Budget → Why → Type 0
+IsCause f set budget (Nodes parts) = AreTrees f set budget.nodes false (root f ∷ []) parts.items
+IsCause f set budget (Rows path o) =
+    IsComplete f set path.items × FillBudget (rows_on f.atoms path.items) budget.rows o.variables.items o.reasons.items
+IsCause f set budget (Range path beyond) =
+    IsComplete f set path.items × IsBeyond (rows_on f.atoms path.items) beyond
 
 -- what each answer of the search claims
-abbrev pub IsOutcome : Formula → (ℕ → Bool) → ℕ → Outcome → Type 0
-IsOutcome f set budget (IsClosed nodes) = Accepts f set no_instance (map node_of nodes.items)
-IsOutcome f set budget (Leaf trail) = IsLeaf f set trail.items × IsOnce trail.items
-IsOutcome f set budget (Nodes parts) = tree f set budget false (root f ∷ []) (map part_of parts.items) ≡ true
+abbrev pub IsOutcome : Formula → (ℕ → Bool) → Budget → Outcome → Type 0
+IsOutcome f set budget (Closed nodes) = Accepts f set no_instance (map node_of nodes.items)
+IsOutcome f set budget (Leaf leaf) = IsLeaf f set leaf
+IsOutcome f set budget (Unknown why) = IsCause f set budget why
 
 -- ---- steps
+
+-- the marks of the paths that wait fit them
+abbrev pub OthersReady : Formula → (ℕ → Bool) → Index → Walk → Guide → Type 0
+OthersReady f set i walk guide = AllReady f set i (others_of f walk) (reverse guide.marks.items)
 
 -- what bounds the steps
 abbrev pub work : Search → ℕ
 work s = 2 * s.left + paths_open s.walk
 
--- a part that is no open leaf, and what follows it is accepted where it is with the part
-abbrev pub Continues : Formula → (ℕ → Bool) → Search → Search → Option Node → Type 0
+-- what follows a part is accepted for the paths behind it exactly where it is with the part for those before it
+abbrev pub Continues : Formula → (ℕ → Bool) → Search → Search → Part → Type 0
 Continues f set old new part =
-    (n : Node) × (part ≡ Some n) × (old.seen ≡ false) ×
-    ((rest : List NodeOf) → accepts f set no_instance (stack_of f old.walk) (node_of n ∷ rest) ≡ accepts f set no_instance (stack_of f new.walk) rest)
+    (old.seen ≡ false) ×
+    ((rest : List NodeOf) → accepts f set no_instance (stack_of f old.walk) (nodes_of (part ∷ []) ++ rest) ≡ accepts f set no_instance (stack_of f new.walk) rest)
 
--- one more part is made, and what follows it says of the paths before what it says of those after
+-- one more part is made, and what follows it says of the paths after what it says with the part of those before
 pub record Moves (f : Formula) (set : ℕ → Bool) (old new : Search) : Type 0 where
   pub walks : IsWalk new.walk
   pub sized : atoms_on new.walk ≡ atoms_on old.walk
-  pub part : Option Node
+  pub part : Part
   pub made : new.parts.items ≡ old.parts.items ++ (part ∷ [])
-  pub tells : (rest : List PartOf) → tree f set old.left old.seen (stack_of f old.walk) (part_of part ∷ rest) ≡ tree f set new.left new.seen (stack_of f new.walk) rest
+  pub tells : (rest : List Part) → AreTrees f set new.left new.seen (stack_of f new.walk) rest → AreTrees f set old.left old.seen (stack_of f old.walk) (part ∷ rest)
   pub whole : new.seen ≡ false → Continues f set old new part
-  pub once : AllOnce (stack_of f old.walk) → AllOnce (stack_of f new.walk)
+  pub paths : ArePaths f.terms (stack_of f old.walk) → ArePaths f.terms (stack_of f new.walk)
   pub smaller : work new < work old
   pub spent : (old.seen ≡ true → old.left ≡ 0) → new.seen ≡ true → new.left ≡ 0
 
--- a step: nothing changed at a leaf, else one more part
-abbrev pub Steps : Formula → (ℕ → Bool) → Search → Search → Bool → Type 0
-Steps f set old new true = IsLeaf f set (decided_on old.walk) × (new ≡ old)
-Steps f set old new false = Moves f set old new
+-- a step: nothing changed at the end, else one more part
+abbrev pub Steps : Formula → (ℕ → Bool) → ℕ → Search → Search → Option Halt → Type 0
+Steps f set rows old new (Some halt) =
+    IsComplete f set (decided_on old.walk) × IsHalt (rows_on f.atoms (decided_on old.walk)) rows halt × (new ≡ old)
+Steps f set rows old new None = Moves f set old new

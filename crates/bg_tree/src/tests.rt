@@ -1,7 +1,8 @@
 //! The search on formulas made by hand, with ample memory, and its certificates checked again.
-use crate::{Hint, Outcome, index_of, search};
+use crate::{Beyond, Budget, Outcome, Why, search};
 use bg_cert::{Node, accepts, used};
-use bg_formula::{Atom, Clauses, Literal, is_whole};
+use bg_formula::{Atom, Clauses, Literal, deny_row, is_whole};
+use bg_rows::{Entry, make};
 use std::alloc::Global;
 use std::test::Fail;
 
@@ -34,7 +35,12 @@ fn formula(
     Ok(made)
 }
 
-fn found(alloc: Global, f: &Clauses, set: &[bool], budget: u32) -> Result<Outcome, Fail> {
+fn found(alloc: Global, f: &Clauses, set: &[bool], nodes: u32) -> Result<Outcome, Fail> {
+    let budget = Budget { nodes, rows: 1000 };
+    found_within(alloc, f, set, budget)
+}
+
+fn found_within(alloc: Global, f: &Clauses, set: &[bool], budget: Budget) -> Result<Outcome, Fail> {
     if is_whole(f) {
         Ok(search(alloc, f, set, budget)?)
     } else {
@@ -75,11 +81,11 @@ fn leaves_and_budgets(rt: HostRuntime) -> Result<(), Fail> {
     let alloc = rt.alloc();
     let f = formula(alloc, 2, &[&[(0, true), (1, true)]], &[])?;
     match found(alloc, &f, &[], 2)? {
-        Outcome::Leaf(trail) => assert!(rt; trail.len() == 2),
+        Outcome::Leaf(leaf) => assert!(rt; leaf.path.len() == 2),
         _ => return Err("no leaf".into()),
     }
     match found(alloc, &f, &[], 1)? {
-        Outcome::Nodes(parts) => assert!(rt; parts.len() == 3),
+        Outcome::Unknown(Why::Nodes(parts)) => assert!(rt; parts.len() == 3),
         _ => return Err("no budget".into()),
     }
     Ok(())
@@ -152,28 +158,124 @@ fn push(alloc: Global, f: &mut Clauses, literals: &[(u32, bool)]) -> Result<(), 
     Ok(())
 }
 
-fn lengths(alloc: Global, lists: &[Vec<Hint>]) -> Result<Vec<usize>, Fail> {
-    let mut made = Vec::new(alloc);
-    for list in lists {
-        made.push(list.len())?;
-    }
-    Ok(made)
+/// A row with the sign that its unit clause asks for.
+#[derive(Clone, Copy)]
+struct Asked {
+    entries: &'static [(u32, i128)],
+    bound: i128,
+    sign: bool,
 }
 
-/// A literal's list names no other clauses than its own.
-#[test]
-fn lists_are_as_short_as_can_be(rt: HostRuntime) -> Result<(), Fail> {
-    let alloc = rt.alloc();
-    let clauses: [&[(u32, bool)]; 2] = [&[(0, true), (1, true)], &[(0, true), (1, false)]];
-    let f = formula(alloc, 2, &clauses, &[None, Some(1)])?;
-    if !is_whole(&f) {
-        return Err("an atom isn't there".into());
+/// Rows, each with a unit clause, and so many truth variables that stand in no clause.
+fn rows_formula(alloc: Global, terms: u32, rows: &[Asked], free: u32) -> Result<Clauses, Fail> {
+    let mut f = formula(alloc, 0, &[], &[])?;
+    f.terms = terms;
+    for (a, asked) in rows.iter().enumerate() {
+        let mut entries = Vec::new(alloc);
+        for (variable, by) in asked.entries {
+            entries.push(Entry {
+                variable: *variable,
+                by: *by,
+            })?;
+        }
+        let row = make(entries, asked.bound).ok_or("no row")?;
+        let linear = deny_row(alloc, row).map_err(|_| "no denial")?;
+        f.atoms.push(Atom::Holds(linear))?;
+        push(alloc, &mut f, &[(a as u32, asked.sign)])?;
     }
-    let i = index_of(alloc, &f, &[true, true])?;
-    assert!(rt; i.start.len() == 3);
-    let yes = lengths(alloc, &i.yes)?;
-    let no = lengths(alloc, &i.no)?;
-    assert!(rt; yes.as_slice() == &[2, 2][..]);
-    assert!(rt; no.as_slice() == &[0, 1][..]);
+    for x in 0..free {
+        f.atoms.push(Atom::Truth(x))?;
+    }
+    Ok(f)
+}
+
+/// What is found: 'c' with the number of nodes, 'l' with the first value of the point, 'n' with the
+/// number of parts, 'r' with that of rows, 'e' and 'v' where an elimination or a value leaves 128 bits.
+fn told(alloc: Global, f: &Clauses, nodes: u32, rows: u32) -> Result<(char, i128), Fail> {
+    match found_within(alloc, f, &[], Budget { nodes, rows })? {
+        Outcome::Closed(nodes) => {
+            if accepts(alloc, f, &[], &nodes)? {
+                Ok(('c', nodes.len() as i128))
+            } else {
+                Err("not accepted".into())
+            }
+        }
+        Outcome::Leaf(leaf) => match leaf.spots.first() {
+            Some(spot) => Ok(('l', spot.value)),
+            None => Ok(('l', 0)),
+        },
+        Outcome::Unknown(Why::Nodes(parts)) => Ok(('n', parts.len() as i128)),
+        Outcome::Unknown(Why::Rows(_, order)) => Ok(('r', order.rows.len() as i128)),
+        Outcome::Unknown(Why::Range(_, Beyond::Elimination(_, _))) => Ok(('e', 0)),
+        Outcome::Unknown(Why::Range(_, Beyond::Value(_, _, _))) => Ok(('v', 0)),
+    }
+}
+
+fn ask(entries: &'static [(u32, i128)], bound: i128, sign: bool) -> Asked {
+    Asked {
+        entries,
+        bound,
+        sign,
+    }
+}
+
+/// Bounds that clash, with and without a truth variable beside them; 2x = 2y + 1; and 3y = x + 1
+/// where x is 3 or 4, which no bound but one of y closes.
+#[test]
+fn rows_close_paths(rt: HostRuntime) -> Result<(), Fail> {
+    let alloc = rt.alloc();
+    let clash = [ask(&[(0, 1)], 1, true), ask(&[(0, -1)], -2, true)];
+    let f = rows_formula(alloc, 1, &clash, 0)?;
+    assert_eq!(rt; told(alloc, &f, 9, 1000)?, ('c', 5));
+    let f = rows_formula(alloc, 1, &clash, 9)?;
+    assert_eq!(rt; told(alloc, &f, 2, 1000)?, ('c', 5));
+    let parity = [
+        ask(&[(0, 2), (1, -2)], 1, true),
+        ask(&[(0, 2), (1, -2)], 0, false),
+    ];
+    let f = rows_formula(alloc, 2, &parity, 0)?;
+    assert_eq!(rt; told(alloc, &f, 9, 1000)?, ('c', 5));
+    assert_eq!(rt; told(alloc, &f, 9, 1)?, ('r', 1));
+    assert_eq!(rt; told(alloc, &f, 9, 2)?, ('r', 2));
+    let gap = [
+        ask(&[(0, -1), (1, 3)], 1, true),
+        ask(&[(0, 1), (1, -3)], -1, true),
+        ask(&[(0, -1)], -3, true),
+        ask(&[(0, 1)], 4, true),
+    ];
+    let f = rows_formula(alloc, 2, &gap, 0)?;
+    assert_eq!(rt; told(alloc, &f, 5, 1000)?, ('c', 11));
+    assert_eq!(rt; told(alloc, &f, 4, 1000)?, ('n', 9));
+    Ok(())
+}
+
+/// A point nearest to 0 from below and from above; a row that is denied; and the ends of the range.
+#[test]
+fn rows_have_points_or_leave_the_range(rt: HostRuntime) -> Result<(), Fail> {
+    let alloc = rt.alloc();
+    let most = 170141183460469231731687303715884105727;
+    let above = [ask(&[(0, 1)], 5, true), ask(&[(0, -1)], -2, true)];
+    let f = rows_formula(alloc, 1, &above, 1)?;
+    assert_eq!(rt; told(alloc, &f, 9, 1000)?, ('l', 2));
+    let below = [ask(&[(0, 2)], -5, true), ask(&[(0, 1)], -9, false)];
+    let f = rows_formula(alloc, 1, &below, 0)?;
+    assert_eq!(rt; told(alloc, &f, 9, 1000)?, ('l', -3));
+    assert_eq!(rt; told(alloc, &f, 1, 1000)?, ('n', 3));
+    let f = rows_formula(alloc, 0, &[], 3)?;
+    assert_eq!(rt; told(alloc, &f, 9, 1)?, ('l', 0));
+    let sum = [
+        ask(&[(0, 1), (1, -1)], most, true),
+        ask(&[(1, 1), (2, -1)], 1, true),
+        ask(&[(0, -1)], 0, true),
+        ask(&[(2, 1)], 0, true),
+    ];
+    let f = rows_formula(alloc, 3, &sum, 0)?;
+    assert_eq!(rt; told(alloc, &f, 9, 1000)?, ('e', 0));
+    let value = [
+        ask(&[(0, -1)], -most, true),
+        ask(&[(0, 1), (1, -1)], -1, true),
+    ];
+    let f = rows_formula(alloc, 2, &value, 0)?;
+    assert_eq!(rt; told(alloc, &f, 9, 1000)?, ('v', 0));
     Ok(())
 }

@@ -1,21 +1,45 @@
 //! A finished tree, as a certificate.
-ghost use Rattle.std.specs.Prelude.{◌≡◌, List, map, IfOk, Some};
-ghost use Rattle.bg_cert.specs.declared.cert.Node.{Node};
+ghost use Rattle.std.specs.Prelude.{◌≡◌, ◌++◌, ◌∷◌, [], map, IfOk, OnOk};
+ghost use Rattle.bg_cert.specs.Certs.{Bounds, node_of};
+ghost use Rattle.bg_tree.specs.Trees.{nodes_of};
 
+use crate::part::Part;
 use bg_cert::Node;
+use bg_point::Gap;
 use std::alloc::{AllocError, Global};
 
-/// The nodes of a tree without open leaves.
-pub fn whole(alloc: Global, parts: Vec<Option<Node>>) -> Result<Vec<Node>, AllocError>
-    ensures { IfOk result (λ made. (ns : List Node) → parts.items ≡ map Some ns → made.items ≡ ns) }
+/// The node that splits the bound at a gap.
+fn bound_at(gap: &Gap) -> Node
+    ensures { node_of result ≡ Bounds gap.now.variable gap.now.below }
 {
-    let mut parts = parts;
-    let mut nodes = Vec::new(alloc);
-    while let Some(part) = parts.pop() {
-        if let Some(node) = part {
+    Node::Bound(gap.variable as u128, gap.below)
+}
+
+/// The node of a part behind those made. An open leaf has none.
+fn push_part(nodes: &mut Vec<Node>, part: Part) -> Result<(), AllocError>
+    ensures { OnOk result (map node_of nodes.new.items ≡ map node_of nodes.old.items ++ nodes_of (part ∷ [])) }
+{
+    match part {
+        Part::Open => Ok(()),
+        Part::Plain(node) => {
             nodes.push(node)?;
+            Ok(())
+        }
+        Part::Bound(kept) => {
+            let node = bound_at(&kept.gap);
+            nodes.push(node)?;
+            Ok(())
         }
     }
-    nodes.reverse();
+}
+
+/// The nodes of a tree. Open leaves have none.
+pub fn whole(alloc: Global, parts: Vec<Part>) -> Result<Vec<Node>, AllocError>
+    ensures { IfOk result (λ made. map node_of made.items ≡ nodes_of parts.items) }
+{
+    let mut nodes = Vec::new(alloc);
+    for part in parts {
+        push_part(&mut nodes, part)?;
+    }
     Ok(nodes)
 }

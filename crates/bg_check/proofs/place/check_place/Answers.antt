@@ -6,12 +6,13 @@ use Rattle.bg_ast.specs.Meaning.{meaning_of}
 use Rattle.bg_ast.specs.Views.{program_of}
 use Rattle.bg_cert.specs.Walks.{has}
 use Rattle.bg_places.specs.Views.{placed_of}
+use Rattle.bg_tree.specs.declared.outcome.Budget.{Budget}
 use Rattle.bg_check.specs.declared.verdict.Verdict.{Verdict}
 use Rattle.bg_check.specs.Verdicts.{IsRight}
 use Rattle.bg_check.proofs.place.check_place.Goals as goal
 
 -- what holds for each budget holds for this one
-at_budget : (budget : ℕ) (p : Prog) (set : ℕ → Bool) (t : Place) (o : Result Verdict AllocError) → IfOk o (λ v. (n : ℕ) → IsRight n p set t v) → IfOk o (λ v. IsRight budget p set t v)
+at_budget : (budget : Budget) (p : Prog) (set : ℕ → Bool) (t : Place) (o : Result Verdict AllocError) → IfOk o (λ v. (n : Budget) → IsRight n p set t v) → IfOk o (λ v. IsRight budget p set t v)
 at_budget budget p set t (Ok v) h = h budget
 at_budget budget p set t (Err e) h = h
 

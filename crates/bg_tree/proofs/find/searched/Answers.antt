@@ -2,26 +2,36 @@ use Rattle.std.proofs.Common.{◌∙◌, rules}
 use Rattle.bg_formula.specs.Formulas.{formula_of}
 use Rattle.bg_cert.specs.Walks.{has}
 use Rattle.bg_tree.specs.Trees.{Moves}
+use Rattle.bg_tree.proofs.Paths.{paths_first}
+use Rattle.bg_tree.proofs.Ends.{halted}
 use Rattle.bg_tree.proofs.Told.{moved, told_more, told_all, whole_more, whole_all}
-use Rattle.bg_tree.proofs.Readies.{first_ready}
+use Rattle.bg_pick.proofs.Readies.{first_ready}
 use Rattle.bg_tree.proofs.find.searched.Goals as goal
 
 pub loop-s-preserved : goal.loop-s-preserved
 loop-s-preserved c =
-    let m : Moves (formula_of c.args.f.now) (has c.args.set.now) c.loop-s.s c.step.new.s = moved (formula_of c.args.f.now) (has c.args.set.now) c.loop-s.s c.step.new.s c.in_ok-step.field-0 c.if-branch.false c.in_ok-step.ensures.steps in
+    let f = formula_of c.args.f.now in
+    let set = has c.args.set.now in
+    let m : Moves f set c.loop-s.s c.step.new.s = moved f set c.args.budget.rows c.loop-s.s c.step.new.s c.in_ok-halt.field-0 c.in_default.is c.in_ok-halt.ensures.steps in
     record {
       walks = m.walks;
       sized = m.sized ∙ c.loop-s.invariant.sized;
-      told = told_more (formula_of c.args.f.now) (has c.args.set.now) c.args.budget c.loop-s.s c.step.new.s m c.loop-s.invariant.told;
-      whole = whole_more (formula_of c.args.f.now) (has c.args.set.now) c.loop-s.s c.step.new.s m c.loop-s.invariant.whole;
-      ready = c.in_ok-step.ensures.ready c.if-branch.false;
-      once = m.once c.loop-s.invariant.once;
+      told = told_more f set c.args.budget.nodes c.loop-s.s c.step.new.s m c.loop-s.invariant.told;
+      whole = whole_more f set c.loop-s.s c.step.new.s m c.loop-s.invariant.whole;
+      paths = m.paths c.loop-s.invariant.paths;
+      ready = c.in_ok-halt.ensures.ready c.in_default.is;
       spent = m.spent c.loop-s.invariant.spent;
     }
 
+pub returns-in-Some : goal.returns-in-Some
+returns-in-Some c =
+    let e = c.in_ok-halt.ensures.steps in
+    let s = rw c.in-Some.is at e in
+    rw c.outcome_of.ensures (halted (formula_of c.args.f.now) (has c.args.set.now) c.args.budget c.loop-s.s c.step.new.s c.in-Some.halt s c.loop-s.invariant.paths c.loop-s-test.true)
+
 pub returns-then-s : goal.returns-then-s
 returns-then-s c =
-    told_all (formula_of c.args.f.now) (has c.args.set.now) c.args.budget c.loop-s.s c.loop-s.invariant.told c.loop-s-test.false c.if-s.true (c.loop-s.invariant.spent c.if-s.true)
+    told_all (formula_of c.args.f.now) (has c.args.set.now) c.args.budget.nodes c.loop-s.s c.loop-s.invariant.told c.loop-s-test.false c.if-s.true (c.loop-s.invariant.spent c.if-s.true)
 
 pub returns : goal.returns
 returns c =
@@ -34,7 +44,7 @@ loop-s-init c =
       sized = search rules;
       told = search rules;
       whole = search rules;
-      once = search rules;
+      paths = paths_first (formula_of c.args.f.now).terms (formula_of c.args.f.now) c.in_ok-first_walk.field-0 (c.in_ok-first_walk.ensures.stack (formula_of c.args.f.now));
       ready = first_ready (formula_of c.args.f.now) (has c.args.set.now) c.args.i.now _ _ c.requires.named (c.in_ok-first_walk.ensures.stack (formula_of c.args.f.now)) c.first_guide-guide.ensures;
       spent = search rules;
     }

@@ -1,5 +1,8 @@
 use Rattle.bg_tree.proofs.Leaves.{leaf_clauses, leaf_units}
 use Rattle.bg_tree.proofs.laws.leaves_are_met.Goals as goal
 
-pub returns : goal.returns
-returns c = record { clauses = leaf_clauses; units = leaf_units }
+pub returns-clause-clauses : goal.returns-clause-clauses
+returns-clause-clauses c = leaf_clauses
+
+pub returns-clause-units : goal.returns-clause-units
+returns-clause-units c = leaf_units

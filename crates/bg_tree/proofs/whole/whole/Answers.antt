@@ -1,11 +1,9 @@
-use Rattle.std.proofs.Common.{◌∙◌, ◌++◌, ◌∷◌, [], ap}
-use Rattle.bg_tree.proofs.Wholes.{rest_next, none_missing}
+use Rattle.std.proofs.Common.{map}
+use Rattle.bg_cert.specs.Certs.{node_of}
+use Rattle.bg_tree.specs.Trees.{nodes_of}
+use Rattle.bg_tree.proofs.Told.{nodes_next}
 use Rattle.bg_tree.proofs.whole.whole.Goals as goal
-
-pub loop-part-preserved-in-Continue-1 : goal.loop-part-preserved-in-Continue-1
-loop-part-preserved-in-Continue-1 c =
-    rest_next c.args.parts.items c.loop-part.parts.items c.pop.new.self.items c.in-Some-part.node c.loop-part.nodes.items c.push.new.self.items (c.in-Some.ensures.items ∙ ap (λ p. c.pop.new.self.items ++ (p ∷ [])) c.in-Some-part.is) c.in_ok-push.ensures.items c.loop-part.invariant
 
 pub loop-part-preserved : goal.loop-part-preserved
 loop-part-preserved c =
-    none_missing c.args.parts.items c.loop-part.parts.items c.pop.new.self.items c.loop-part.nodes.items (c.in-Some.ensures.items ∙ ap (λ p. c.pop.new.self.items ++ (p ∷ [])) c.in_default-part.is) c.loop-part.invariant
+    nodes_next (map node_of c.loop-part.nodes.items) (map node_of c.push_part.new.nodes.items) (nodes_of c.args.parts.items) c.in-Some.part c.next.new.self.rest.items c.loop-part.part-iterator.rest.items c.in-Some.ensures.steps.0 c.in_ok-push_part.ensures c.loop-part.invariant

@@ -1,9 +1,8 @@
-use Rattle.std.proofs.Common.{length}
-use Rattle.bg_tree.proofs.Wholes.{Rest}
+use Rattle.std.proofs.Common.{◌≡◌, ◌++◌, map}
+use Rattle.bg_cert.specs.Certs.{node_of}
+use Rattle.bg_tree.specs.Trees.{nodes_of}
 use Rattle.bg_tree.proofs.whole.whole.Given as goal
 
 abbrev pub invariant-loop-part : goal.invariant-loop-part
-invariant-loop-part l = Rest l.fn.parts.items l.parts.items l.nodes.items
-
-abbrev pub decreases-loop-part : goal.decreases-loop-part
-decreases-loop-part l = length l.parts.items
+invariant-loop-part l =
+    map node_of l.nodes.items ++ nodes_of l.part-iterator.rest.items ≡ nodes_of l.fn.parts.items

@@ -1,0 +1,15 @@
+pub mod Places
+pub mod Lefts
+pub mod Units
+pub mod Below
+pub mod Falses
+pub mod Opens
+pub mod Appends
+pub mod Lists
+pub mod Members
+pub mod Rule
+pub mod Indexes
+pub mod Touched
+pub mod Marked
+pub mod Readies
+pub mod Bounded

@@ -1,0 +1,273 @@
+//! A look ahead: an atom that has one value whichever literal of an open clause is true, as the dilemma rule says (Sheeran and
+//! Stålmarck, A tutorial on Stålmarck's proof procedure for propositional logic, 2000). Below its other value the clause soon
+//! closes the path, and what was common to all cases is known behind them.
+ghost use Rattle.std.specs.Prelude.{◌≡◌, IfSome, map};
+ghost use Rattle.bg_cert.specs.Causes.{is_among};
+ghost use Rattle.bg_pick.specs.Marks.{stands_in, StandsOpen, IsOpenAt};
+
+use crate::hint::Hint;
+use crate::index::Index;
+use crate::left::{has_true, is_decided, some_left};
+use crate::mark::Mark;
+use crate::probe::{Common, Probe, assume, forget, spread, value_of};
+use crate::rows::{hints_at, row_at};
+use bg_cert::Trail;
+use bg_formula::{Clauses, Literal};
+
+/// How many clauses are looked at for one split.
+const MOST_CLAUSES: u32 = 4096;
+
+/// How many splits at most are chosen without a look, where looks tell nothing.
+const MOST_REST: u32 = 1024;
+
+/// How many literals a clause may leave undecided.
+
+const MOST_LITERALS: u32 = 4;
+
+/// Notes a value behind `count` literals. True where all of them have it in common.
+fn note_one(p: &mut Probe, a: u32, count: u32) -> bool {
+    let Some(Some(value)) = p.assumed.get(a as usize) else {
+        return false;
+    };
+    let value = *value;
+    let turn = p.turn;
+    let Some(c) = p.common.get_mut(a as usize) else {
+        return false;
+    };
+    let goes_on = count == 0 || (c.turn == turn && c.count == count && c.value == value);
+    if goes_on {
+        *c = Common {
+            turn,
+            count: count.saturating_add(1),
+            value,
+        };
+    }
+    goes_on
+}
+
+/// Notes the values that are assumed, behind `count` literals. Answers the first one that all of them have in common, if any.
+fn note(p: &mut Probe, count: u32) -> Option<u32> {
+    let mut found = None;
+    for k in 0..p.order.len() {
+        if let Some(a) = p.order.get(k) {
+            let a = *a;
+            if note_one(p, a, count) && found.is_none() {
+                found = Some(a);
+            }
+        }
+    }
+    found
+}
+
+/// The atom of an undecided literal of the clause that can't be true.
+fn look_for_false(
+    f: &Clauses,
+    i: &Index,
+    trail: &Trail,
+    p: &mut Probe,
+    clause: &[Literal],
+) -> Option<u32> {
+    for l in clause {
+        if value_of(trail, p, l.atom).is_none() {
+            assume(p, *l);
+            let fails = spread(f, i, trail, p);
+            forget(p);
+            if fails {
+                return Some(l.atom);
+            }
+        }
+    }
+    None
+}
+
+/// An atom that has one value behind each undecided literal of the clause.
+fn look_for_common(
+    f: &Clauses,
+    i: &Index,
+    trail: &Trail,
+    p: &mut Probe,
+    clause: &[Literal],
+) -> Option<u32> {
+    p.turn = p.turn.wrapping_add(1);
+    let mut found = None;
+    let mut count: u32 = 0;
+    for l in clause {
+        if value_of(trail, p, l.atom).is_none() {
+            if count >= MOST_LITERALS {
+                return None;
+            }
+            assume(p, *l);
+            let _ = spread(f, i, trail, p);
+            found = note(p, count);
+            forget(p);
+            found?;
+            count = count.saturating_add(1);
+        }
+    }
+    found
+}
+
+fn is_among(clause: &[Literal], a: u32) -> bool
+    ensures { result ≡ is_among a clause.now }
+{
+    for l in clause {
+        if l.atom == a {
+            return true;
+        }
+    }
+    false
+}
+
+/// Whether the clause has no true literal and the atom stands in it.
+fn stands_in(trail: &Trail, clause: &[Literal], a: u32) -> bool
+    ensures { result ≡ stands_in a trail.now.decisions.items clause.now }
+{
+    !has_true(trail, clause) && is_among(clause, a)
+}
+
+/// A clause of these hints that has no true literal and in which the atom stands.
+fn open_with(f: &Clauses, trail: &Trail, hints: &[Hint], a: u32) -> Option<usize>
+    ensures { IfSome result (λ k. StandsOpen trail.now.decisions.items (map (λ c. c.items) f.now.clauses.items) k a) }
+{
+    for x in hints {
+        if let Hint::Nth(k) = x {
+            if *k < f.clauses.len() && stands_in(trail, &f.clauses[*k], a) {
+                return Some(*k);
+            }
+        }
+    }
+    None
+}
+
+/// An atom to split by what an open clause tells: by a literal that can't be true, or by what all of them have in common.
+fn look_at(
+    f: &Clauses,
+    i: &Index,
+    trail: &Trail,
+    p: &mut Probe,
+    k: usize,
+    common: bool,
+) -> Option<u32> {
+    let clause = f.clauses.get(k)?;
+    some_left(trail, clause)?;
+    if common {
+        look_for_common(f, i, trail, p, clause)
+    } else {
+        look_for_false(f, i, trail, p, clause)
+    }
+}
+
+/// An atom to split by what a decision's clauses tell. The mark keeps the clause that tells it.
+fn look_along(
+    f: &Clauses,
+    i: &Index,
+    trail: &Trail,
+    p: &mut Probe,
+    row: usize,
+    mark: &mut Mark,
+) -> Option<u32> {
+    for hint in row_at(i, trail, row) {
+        if let Hint::Nth(k) = hint {
+            if p.left > 0 {
+                p.left -= 1;
+                if let Some(a) = look_at(f, i, trail, p, *k, true) {
+                    mark.look = *k;
+                    return Some(a);
+                }
+            }
+        }
+    }
+    None
+}
+
+/// The same along the rows from `high` down to the one above `low`.
+fn look_down(
+    f: &Clauses,
+    i: &Index,
+    trail: &Trail,
+    p: &mut Probe,
+    high: usize,
+    low: usize,
+    mark: &mut Mark,
+) -> Option<u32> {
+    for row in (low..high).rev() {
+        if p.left == 0 {
+            return None;
+        }
+        if let Some(a) = look_along(f, i, trail, p, row.saturating_add(1), mark) {
+            mark.from = row;
+            mark.top = trail.decisions.len();
+            return Some(a);
+        }
+    }
+    None
+}
+
+/// An atom to split by what the clauses of the decisions tell: first those of decisions behind the last look, then those before the
+/// one at which it ended, and at last those between, at which it looked in vain.
+fn look_back(f: &Clauses, i: &Index, trail: &Trail, p: &mut Probe, mark: &mut Mark) -> Option<u32> {
+    p.left = MOST_CLAUSES;
+    let (top, from) = (mark.top, mark.from);
+    if let Some(a) = look_down(f, i, trail, p, trail.decisions.len(), top, mark) {
+        return Some(a);
+    }
+    if let Some(a) = look_down(f, i, trail, p, from.saturating_add(1), 0, mark) {
+        return Some(a);
+    }
+    look_down(f, i, trail, p, top, from, mark)
+}
+
+/// An atom to split by a look ahead. The clause that chose the last split is looked at first: below the value that all its literals
+/// deny, each of them can't be true. Where looks tell nothing they become rarer.
+fn candidate(f: &Clauses, i: &Index, trail: &Trail, p: &mut Probe, mark: &mut Mark) -> Option<u32> {
+    if let Some(a) = look_at(f, i, trail, p, mark.look, false) {
+        return Some(a);
+    }
+    if p.rest > 0 {
+        p.rest -= 1;
+        return None;
+    }
+    let found = look_back(f, i, trail, p, mark);
+    p.pause = match found {
+        Some(_) => 0,
+        None => MOST_REST.min(p.pause.saturating_mul(2).saturating_add(1)),
+    };
+    p.rest = p.pause;
+    found
+}
+
+/// The atom, where it is undecided and stands in a clause without a true literal.
+fn if_open(f: &Clauses, i: &Index, trail: &Trail, a: u32) -> Option<u32>
+    ensures { IfSome result (λ a. IsOpenAt trail.now.decisions.items (map (λ c. c.items) f.now.clauses.items) a) }
+{
+    if is_decided(trail, a as usize) {
+        return None;
+    }
+    let yes = open_with(f, trail, hints_at(&i.yes, a as usize), a);
+    let no = open_with(f, trail, hints_at(&i.no, a as usize), a);
+    if yes.is_some() || no.is_some() {
+        Some(a)
+    } else {
+        None
+    }
+}
+
+/// An undecided atom of an open clause, chosen by a look ahead; none where the look tells nothing. Of the mark it changes what is
+/// kept for the next look alone.
+pub fn suggest(f: &Clauses, i: &Index, trail: &Trail, p: &mut Probe, mark: &mut Mark) -> Option<u32>
+    ensures stands { IfSome result (λ a. IsOpenAt trail.now.decisions.items (map (λ c. c.items) f.now.clauses.items) a) }
+    ensures row { mark.new.row ≡ mark.old.row }
+    ensures place { mark.new.place ≡ mark.old.place }
+    ensures clause { mark.new.clause ≡ mark.old.clause }
+    ensures atom { mark.new.atom ≡ mark.old.atom }
+{
+    let mut look = *mark;
+    let found = candidate(f, i, trail, p, &mut look);
+    mark.look = look.look;
+    mark.top = look.top;
+    mark.from = look.from;
+    match found {
+        Some(a) => if_open(f, i, trail, a),
+        None => None,
+    }
+}

@@ -1,6 +1,0 @@
-use Rattle.std.proofs.Common.{map}
-use Rattle.bg_tree.specs.Marks.{TrueBelow}
-use Rattle.bg_tree.proofs.mark.open_from.Given as goal
-
-abbrev pub invariant-loop-k : goal.invariant-loop-k
-invariant-loop-k l = TrueBelow l.trail.decisions.items (map (λ c. c.items) l.clauses) l.k

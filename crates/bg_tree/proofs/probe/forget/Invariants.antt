@@ -1,4 +1,0 @@
-use Rattle.bg_tree.proofs.probe.forget.Given as goal
-
-abbrev pub decreases-loop-a : goal.decreases-loop-a
-decreases-loop-a l = goal.left-loop-a l

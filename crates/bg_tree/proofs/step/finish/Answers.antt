@@ -1,0 +1,10 @@
+use Rattle.bg_formula.specs.Formulas.{formula_of}
+use Rattle.bg_cert.specs.Walks.{has, decided_on}
+use Rattle.bg_tree.proofs.Ends.{gap_may}
+use Rattle.bg_tree.proofs.step.finish.Goals as goal
+
+pub halve-requires-clause-may : goal.halve-requires-clause-may
+halve-requires-clause-may c =
+    let e = c.in_ok-steps.ensures in
+    let g = rw c.in-Split.is at e in
+    gap_may (formula_of c.args.f.now) (has c.args.set.now) (decided_on c.args.s.now.walk) c.in-Split.kept c.requires.complete g

@@ -1,0 +1,89 @@
+-- What the rows of a path tell that decides every atom.
+use Rattle.std.specs.Prelude.{◌≡◌, ℕ, ◌<◌, Bool, true, false, ◌&&◌, List, [], ◌∷◌, map, Option, Some, None, Vec}
+use Rattle.std.specs.declared.alloc.Global.{Global}
+use Rattle.bg_rows.specs.Rows.{RowOf, row_of}
+use Rattle.bg_rows.specs.Steps.{derives}
+use Rattle.bg_elim.specs.declared.order.Order.{Order}
+use Rattle.bg_elim.specs.Kept.{FillBudget, LeavesRange}
+use Rattle.bg_elim.specs.Answers.{SolvedBy}
+use Rattle.bg_point.specs.declared.spot.Spot.{Spot}
+use Rattle.bg_point.specs.Points.{IsPoint, IsGap, IsFar}
+use Rattle.bg_formula.specs.Atoms.{AtomOf, IsTruth, IsRow, at}
+use Rattle.bg_formula.specs.Formulas.{Formula}
+use Rattle.bg_formula.specs.Meaning.{Valuation, same}
+use Rattle.bg_cert.specs.declared.cert.Decision.{Decision}
+use Rattle.bg_cert.specs.declared.cert.Decision.TheVariants.{Atom, AtMost}
+use Rattle.bg_cert.specs.Paths.{rows_on}
+use Rattle.bg_pick.specs.Picks.{IsComplete}
+use Rattle.bg_tree.specs.declared.part.Kept.{Kept}
+use Rattle.bg_tree.specs.declared.outcome.Leaf.{Leaf}
+use Rattle.bg_tree.specs.declared.outcome.Beyond.{Beyond}
+use Rattle.bg_tree.specs.declared.outcome.Beyond.TheVariants.{Elimination, Value}
+use Rattle.bg_tree.specs.declared.outcome.Halt.{Halt}
+use Rattle.bg_tree.specs.declared.outcome.Halt.TheVariants.{Point, Rows, Range}
+use Rattle.bg_tree.specs.declared.outcome.End.{End}
+use Rattle.bg_tree.specs.declared.outcome.End.TheVariants.{Refuted, Split, Halted}
+use Rattle.bg_tree.specs.declared.outcome.Outcome.{Outcome}
+use Rattle.bg_tree.specs.declared.outcome.Why.TheVariants.{Rows as ByRows, Range as ByRange}
+use Rattle.bg_tree.specs.declared.outcome.Outcome.TheVariants.{Leaf as Found, Unknown}
+use Rattle.bg_tree.specs.Once.{IsOnce}
+
+-- an order solves the rows, and under near values of its later variables no whole number fits at the gap's variable
+pub record KeepsGap (given : List RowOf) (k : Kept) : Type 0 where
+  pub solved : SolvedBy given k.order
+  pub gap : IsGap k.order.variables.items (map row_of k.order.rows.items) k.spots.items k.gap.variable k.gap.below k.gap.low k.gap.up
+
+-- an operation of a further elimination, or of the next near value, leaves the range
+abbrev pub IsBeyond : List RowOf → Beyond → Type 0
+IsBeyond given (Elimination o f) =
+    LeavesRange given o.variables.items o.reasons.items f.first f.second f.variable f.operation
+IsBeyond given (Value o spots far) =
+    SolvedBy given o × IsFar o.variables.items (map row_of o.rows.items) spots.items far.variable far.row far.operation
+
+-- a near point, the budget's number of different rows, or an operation that leaves the range
+abbrev pub IsHalt : List RowOf → ℕ → Halt → Type 0
+IsHalt given budget (Point o spots) = SolvedBy given o × IsPoint o.variables.items (map row_of o.rows.items) spots.items
+IsHalt given budget (Rows o) = FillBudget given budget o.variables.items o.reasons.items
+IsHalt given budget (Range beyond) = IsBeyond given beyond
+
+-- a derivation of a false row, a gap at one of the first n terms, or an end
+abbrev pub IsEnd : List RowOf → ℕ → ℕ → End → Type 0
+IsEnd given n budget (Refuted steps) = derives given [] false steps.items ≡ true
+IsEnd given n budget (Split k) = KeepsGap given k × (k.gap.variable < n)
+IsEnd given n budget (Halted halt) = IsHalt given budget halt
+
+-- the same where an order solves the rows
+abbrev pub IsPlacedEnd : List RowOf → End → Type 0
+IsPlacedEnd given (Refuted steps) = ⊥
+IsPlacedEnd given (Split k) = KeepsGap given k
+IsPlacedEnd given (Halted (Rows o)) = ⊥
+IsPlacedEnd given (Halted (Range (Elimination o f))) = ⊥
+IsPlacedEnd given (Halted (Point o spots)) = IsHalt given 0 (Point o spots)
+IsPlacedEnd given (Halted (Range (Value o spots far))) = IsBeyond given (Value o spots far)
+
+-- where the search ends at a path
+abbrev pub outcome_of : Vec Decision Global → Halt → Outcome
+outcome_of path (Point order spots) = Found (record { path = path; order = order; spots = spots })
+outcome_of path (Rows order) = Unknown (ByRows path order)
+outcome_of path (Range beyond) = Unknown (ByRange path beyond)
+
+-- a complete leaf: every atom is decided, none both ways, nothing is false, and a near point meets the path's rows
+pub record IsLeaf (f : Formula) (set : ℕ → Bool) (l : Leaf) : Type 0 where
+  pub complete : IsComplete f set l.path.items
+  pub once : IsOnce l.path.items
+  pub solved : SolvedBy (rows_on f.atoms l.path.items) l.order
+  pub point : IsPoint l.order.variables.items (map row_of l.order.rows.items) l.spots.items
+
+-- whether a valuation agrees with the truth variables that a path decides, all of them atoms that are there
+abbrev pub truth_agrees : Valuation → Option AtomOf → Bool → Bool
+truth_agrees v None s = false
+truth_agrees v (Some (IsTruth x)) s = same (v.truths x) s
+truth_agrees v (Some (IsRow r d)) s = true
+
+abbrev pub decision_agrees : Valuation → List AtomOf → Decision → Bool
+decision_agrees v atoms (Atom a s) = truth_agrees v (at atoms a) s
+decision_agrees v atoms (AtMost x k s) = true
+
+abbrev pub truths_agree : Valuation → List AtomOf → List Decision → Bool
+truths_agree v atoms [] = true
+truths_agree v atoms (d ∷ ds) = decision_agrees v atoms d && truths_agree v atoms ds

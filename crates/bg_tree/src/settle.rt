@@ -1,0 +1,96 @@
+//! What the rows of a path tell: elimination in the manner of Fourier and Motzkin, then a point read off its order.
+ghost use Rattle.std.specs.Prelude.{◌≡◌, [], true, false, IfOk, IfSome, map, List};
+ghost use Rattle.bg_rows.specs.Rows.{row_of, RowOf};
+ghost use Rattle.bg_rows.specs.Steps.{derives};
+ghost use Rattle.bg_elim.specs.Answers.{SolvedBy};
+ghost use Rattle.bg_formula.specs.Formulas.{formula_of, is_whole};
+ghost use Rattle.bg_cert.specs.Paths.{rows_on};
+ghost use Rattle.bg_tree.specs.Once.{bounds_in};
+ghost use Rattle.bg_tree.specs.Ends.{IsPlacedEnd, IsEnd};
+
+use crate::outcome::{Beyond, End, Halt};
+use crate::part::Kept;
+use bg_cert::{Decision, Trail, rows_on};
+use bg_elim::{Found, Order, Stop, refute_or_order};
+use bg_formula::{Atom, Clauses};
+use bg_pick::Mark;
+use bg_point::{Placed, point};
+use bg_rows::{Row, Step};
+use std::alloc::{AllocError, Global};
+
+/// How many rows an elimination may make beside those of a path that doesn't decide every atom.
+const MORE_ROWS: u32 = 200;
+
+/// A point of an order that solves the rows, or why there is none.
+fn placed(alloc: Global, given: &[Row], order: Order) -> Result<End, AllocError>
+    requires { SolvedBy (map row_of given.now) order }
+    ensures { IfOk result (λ end. IsPlacedEnd (map row_of given.now) end) }
+{
+    match point(alloc, &order)? {
+        Placed::Point(spots) => Ok(End::Halted(Halt::Point(order, spots))),
+        Placed::Split(spots, gap) => Ok(End::Split(Kept { order, spots, gap })),
+        Placed::Unknown(spots, far) => Ok(End::Halted(Halt::Range(Beyond::Value(
+            order, spots, far,
+        )))),
+    }
+}
+
+/// What the rows of a path tell that decides every atom, where as many different rows may be kept
+/// as the budget says.
+pub fn settle(alloc: Global, f: &Clauses, trail: &Trail, budget: u32) -> Result<End, AllocError>
+    requires whole { is_whole (formula_of f.now) ≡ true }
+    requires bounds { bounds_in (formula_of f.now).terms trail.now.decisions.items ≡ true }
+    ensures { IfOk result (λ end. IsEnd (rows_on (formula_of f.now).atoms trail.now.decisions.items) (formula_of f.now).terms budget end) }
+{
+    let given = rows_on(alloc, &f.atoms, &trail.decisions)?;
+    match refute_or_order(alloc, &given, budget)? {
+        Found::Refuted(steps) => Ok(End::Refuted(steps)),
+        Found::Solvable(order) => {
+            let end = placed(alloc, &given, order)?;
+            Ok(end)
+        }
+        Found::Unknown(Stop::Rows(order)) => Ok(End::Halted(Halt::Rows(order))),
+        Found::Unknown(Stop::Range(order, further)) => {
+            Ok(End::Halted(Halt::Range(Beyond::Elimination(order, further))))
+        }
+    }
+}
+
+/// Whether one of the decisions from a place on is a row.
+fn any_row_from(f: &Clauses, trail: &Trail, from: usize) -> bool {
+    for n in from..trail.decisions.len() {
+        if let Decision::Atom(a, _) = trail.decisions[n] {
+            if let Some(Atom::Holds(_)) = f.atoms.get(a) {
+                return true;
+            }
+        }
+    }
+    false
+}
+
+/// A derivation of a false row of the path's rows, where one was decided since they were last
+/// eliminated and few rows suffice. Of the mark it changes what says when that was alone.
+pub fn refuted(
+    alloc: Global,
+    f: &Clauses,
+    trail: &Trail,
+    mark: &mut Mark,
+) -> Result<Option<Vec<Step>>, AllocError>
+    ensures derives { IfOk result (λ found. IfSome found (λ steps. derives (rows_on (formula_of f.now).atoms trail.now.decisions.items) [] false steps.items ≡ true)) }
+    ensures row { mark.new.row ≡ mark.old.row }
+    ensures place { mark.new.place ≡ mark.old.place }
+    ensures clause { mark.new.clause ≡ mark.old.clause }
+    ensures atom { mark.new.atom ≡ mark.old.atom }
+{
+    let from = mark.asked;
+    mark.asked = trail.decisions.len();
+    if !any_row_from(f, trail, from) {
+        return Ok(None);
+    }
+    let path = rows_on(alloc, &f.atoms, &trail.decisions)?;
+    let rows = path.len().min(1_000_000) as u32;
+    match refute_or_order(alloc, &path, rows + MORE_ROWS)? {
+        Found::Refuted(steps) => Ok(Some(steps)),
+        _ => Ok(None),
+    }
+}
