@@ -35,6 +35,13 @@ use Rattle.bg_clause.specs.Whole.{clauses_of}
 use Rattle.bg_places.specs.Placed.{placed, place_in}
 use Rattle.bg_fits.specs.Truths.{is_over_truths}
 use Rattle.bg_truths.specs.Passives.{blocks_in, incarnations_in, passives_in, no_interp}
+use Rattle.bg_blocks.specs.Whole.{AreBlocks}
+use Rattle.bg_blocks.specs.declared.block.Block.{Block}
+use Rattle.bg_replay.specs.Moments.{choice_of}
+use Rattle.bg_replay.specs.Endings.{state_of, IsRight, IsReplay}
+use Rattle.bg_replay.specs.Views.{set_of}
+use Rattle.bg_replay.specs.declared.choice.Choice as code
+use Rattle.bg_replay.specs.declared.choice.Ending.{Ending}
 
 abbrev pub FunctionLaw : Type 0
 FunctionLaw = (p : Prog) → IsTyped p → AreTypedBodies p
@@ -136,3 +143,9 @@ StartLaw =
 
 abbrev pub MeetLaw : Type 0
 MeetLaw = (p : Prog) → is_over_truths p ≡ true → Meets p no_interp
+
+abbrev pub ReplayLaw : Type 0
+ReplayLaw =
+    (p : r.Program) (set : List Bool) (i : Interp) (number : ℕ) (m : r.Impl) (q : r.Proc) (bs : List Block) (gs fs : List Bool) (cs : List code.Choice) (ending : Ending) →
+    slice_get p.implementations number ≡ Some m → slice_get p.procedures m.procedure ≡ Some q → AreBlocks p number m q bs → IsReplay p bs set number m q gs fs cs ending →
+    IsRight ending (induction_run (meaning_of p) (set_of set) i number (state_of gs fs) (map choice_of cs))

@@ -7,3 +7,5 @@ pub mod Leaves
 pub mod Prepares
 pub mod Refutes
 pub mod Judging
+pub mod Plain
+pub mod Replayed

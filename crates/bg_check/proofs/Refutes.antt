@@ -93,7 +93,7 @@ no_candidates p o =
     (and_left (p.candidates == 0) _ (and_right (is_empty p.axioms) _ (and_right (is_empty p.functions) _ (and_right (is_empty p.constants) _ (and_right (are_truth_decls p.globals) _ o)))))
 
 -- a set as a list, by either reading
-set_same : (bs : List Bool) → set_of bs ≡ has bs
+pub set_same : (bs : List Bool) → set_of bs ≡ has bs
 set_same bs = λ i b. unwrap_or-slice_get bs b false i
 
 module _ (evens : EvenLaw) (passes : PassFitLaw) (p : r.Program) (n : ℕ) (w : Prepared) (h : IsPrepared p n w) (t : IsTyped (meaning_of p)) (o : is_over_truths (meaning_of p) ≡ true) where

@@ -1,22 +1,33 @@
 //! Laws of verdicts, which are proved of the definitions alone.
-ghost use Rattle.std.specs.Prelude.{◌≡◌, ℕ, Bool, true, List, map};
+ghost use Rattle.std.specs.Prelude.{◌≡◌, ℕ, Bool, true, List, Some, map, slice_get};
 ghost use Rattle.bg_ast.specs.Syntax.{Prog};
-ghost use Rattle.bg_ast.specs.Resolved.{Program};
+ghost use Rattle.bg_ast.specs.Resolved.{Program, Impl, Proc};
 ghost use Rattle.bg_ast.specs.Meaning.{meaning_of};
 ghost use Rattle.bg_ast.specs.Execution.{Interp, State, Choice, Place};
 ghost use Rattle.bg_sense.specs.Typed.{IsTyped};
-ghost use Rattle.bg_sense.specs.Claims.{Fails};
+ghost use Rattle.bg_sense.specs.Claims.{Fails, IsState};
+ghost use Rattle.bg_sense.specs.Flow.{Failed};
 ghost use Rattle.bg_cert.specs.declared.cert.Node.{Node};
 ghost use Rattle.bg_cert.specs.Certs.{node_of, uses};
+ghost use Rattle.bg_cert.specs.Walks.{has};
 ghost use Rattle.bg_fits.specs.Truths.{is_over_truths};
+ghost use Rattle.bg_blocks.specs.Whole.{AreBlocks};
+ghost use Rattle.bg_blocks.specs.declared.block.Block.{Block};
+ghost use Rattle.bg_replay.specs.Said.{Stops};
+ghost use Rattle.bg_replay.specs.Views.{said_by};
+ghost use Rattle.bg_replay.specs.Endings.{state_of, Tells, IsReplay};
+ghost use Rattle.bg_replay.specs.declared.choice.Choice as replayed;
+ghost use Rattle.bg_replay.specs.declared.choice.Ending.{Ending};
+ghost use Rattle.bg_model.specs.declared.failure.Counterexample.{Counterexample};
 ghost use Rattle.bg_check.specs.declared.verdict.Judged.{Judged};
-ghost use Rattle.bg_check.specs.Verdicts.{HasCertificate, AreRightUnder, AreRight, ProvedAreSafe};
+ghost use Rattle.bg_check.specs.Verdicts.{HasCertificate, IsFailure, AreRightUnder, AreRight, ProvedAreSafe};
 ghost use Rattle.bg_check.specs.Clauses.{none};
 
 use bg_cert::laws::{accepted_has_no_valuation, accepted_where_used};
 use bg_clause::laws::{clauses_are_whole, clauses_fail_alike};
 use bg_passive::laws::{arrivals_fit, passive_blocks_fail_alike};
 use bg_places::laws::placed_are_places;
+use bg_replay::laws::replays_are_induction_runs;
 use bg_sense::laws::{typed_programs_have_typed_bodies, what_fails_at_no_place_is_safe};
 use bg_truths::laws::typed_values_are_truths;
 use bg_wp::laws::equations_deny_failing_walks;
@@ -62,4 +73,24 @@ pub fn proved_is_safe()
     ensures { (p : Program) (budget : ℕ) (outcome : List (List Judged)) → IsTyped (meaning_of p) → is_over_truths (meaning_of p) ≡ true → AreRight budget p outcome → ProvedAreSafe p none 0 outcome }
 {
     proved_under_a_set_is_safe()
+}
+
+/// A replay of the blocks of an implementation of a typed program over truth values, from a state of the implementation, tells how the
+/// run ends: it meets nothing but truth values.
+pub fn replays_over_truths_tell()
+    ensures { (p : Program) (set : List Bool) (k : ℕ) (m : Impl) (q : Proc) (bs : List Block) (gs fs : List Bool) (cs : List replayed.Choice) (ending : Ending) →
+        IsTyped (meaning_of p) → is_over_truths (meaning_of p) ≡ true →
+        slice_get p.implementations k ≡ Some m → slice_get p.procedures m.procedure ≡ Some q → AreBlocks p k m q bs →
+        IsState (meaning_of p) k (state_of gs fs) → IsReplay p bs set k m q gs fs cs ending → Tells (said_by ending) }
+{}
+
+/// The replay of a refuted place's counterexample fails at the place.
+pub fn refuted_places_replay()
+    ensures { (p : Program) (set : List Bool) (t : Place) (cex : Counterexample) (m : Impl) (q : Proc) (bs : List Block) (ending : Ending) →
+        IsTyped (meaning_of p) → is_over_truths (meaning_of p) ≡ true →
+        slice_get p.implementations t.implementation ≡ Some m → slice_get p.procedures m.procedure ≡ Some q → AreBlocks p t.implementation m q bs →
+        IsFailure (meaning_of p) (has set) t cex →
+        IsReplay p bs set t.implementation m q cex.globals.items cex.frame.items cex.choices.items ending → said_by ending ≡ Stops (Failed t.spot) }
+{
+    replays_are_induction_runs()
 }

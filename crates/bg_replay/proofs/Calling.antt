@@ -1,11 +1,8 @@
 -- Calls over truth values, and commands in order.
 use Rattle.std.proofs.Common.{◌≡◌, ℕ, Bool, true, false, List, [], ◌∷◌, ◌++◌, length, drop, map, Option, Some, None, refl, ap, ◌∙◌}
 use Rattle.std.specs.Prelude.{◌&&◌}
-use Rattle.bg_ast.specs.Values.{Val, Ty, BoolTy, Truth}
+use Rattle.bg_ast.specs.Values.{Val, Ty, BoolTy, Truth, is_bool}
 use Rattle.bg_ast.specs.Syntax.{Var, Decl, Prog}
-use Rattle.bg_ast.specs.Resolved as r
-use Rattle.bg_ast.specs.Meaning as m
-use Rattle.bg_ast.specs.Views.{declared_of}
 use Rattle.bg_ast.specs.Execution as e
 use Rattle.bg_sense.specs.Eval.{evs, functions_of}
 use Rattle.bg_sense.specs.Flow as f
@@ -14,14 +11,12 @@ use Rattle.bg_sense.specs.Context.{Ctx, scope, callee_scope}
 use Rattle.bg_sense.specs.Variables as v
 use Rattle.bg_sense.specs.Choices.{forget_all, choose_all}
 use Rattle.bg_calls.specs.Core.{Saying, Plan, Cmd, Check, Suppose, Forget, Put, Perform, Finish, check_these, suppose_these, act, act_all}
-use Rattle.bg_blocks.specs.Views.{cmd_of}
-use Rattle.bg_blocks.specs.declared.block.Cmd as code
-use Rattle.bg_blocks.specs.declared.block.Cmd.TheVariants as cmd
 use Rattle.bg_replay.specs.Truths.{Seen, truths_in, cons_o}
 use Rattle.bg_replay.specs.Moments.{Moment, Around, Goes, and_so, world_of, seen_at}
 use Rattle.bg_replay.specs.Said.{on_said, checks, supposes}
 use Rattle.bg_replay.specs.Acts.{put_each, forgotten, assigned, chosen, skipped, given_back, called_with, called, acts}
-use Rattle.bg_replay.specs.Ways.{is_bool, are_bools, is_plain, acts_each}
+use Rattle.bg_replay.specs.Bools.{are_bools}
+use Rattle.bg_replay.specs.Ways.{acts_each}
 use Rattle.bg_replay.specs.declared.choice.Choice.{Choice}
 use Rattle.bg_replay.specs.declared.choice.Choice.TheVariants as choice
 use Rattle.bg_replay.proofs.Worths.{AllWorth, truths_is}
@@ -47,35 +42,18 @@ chooses (d ∷ ds) h (choice.Branch k ∷ cs) m go_on = refl
 chooses (d ∷ ds) h (choice.Chosen b ∷ cs) m go_on =
     rw h.0 (chooses ds h.1 cs m (λ vs x. go_on (Truth b ∷ vs) x) ∙ after_cons b (chosen (length ds) cs) (choice.Chosen b) cs m go_on)
 
--- whether a call's results are truth values is told rightly
-abbrev Plainly : Bool → Cmd → Type 0
-Plainly b (Perform k) = b ≡ true → AreTruths k.results
-Plainly b _ = Unit {0}
-
-bool_type : (named : ℕ → Ty) (t : r.Ty) → is_bool t ≡ true → m.type_in named t ≡ BoolTy
-bool_type named (r.IntType p) h = absurd cc
-bool_type named (r.BoolType p) h = refl
-bool_type named (r.DeclaredType p k) h = absurd cc
-bool_type named (r.InParens p t) h = bool_type named t h
-bool_type named (r.MapType is t) h = absurd cc
-
 pub both_true : (a b : Bool) → (a && b) ≡ true → (a ≡ true) × (b ≡ true)
 both_true true b h = (refl, h)
 both_true false b h = absurd cc
 
-pub bools_are : (named : ℕ → Ty) (rs : List r.Declared) → are_bools rs ≡ true → AreTruths (map (m.decl_of named) rs)
-bools_are named [] h = tt
-bools_are named (d ∷ rs) h =
-    let b = both_true (is_bool d.ty) (are_bools rs) h in (bool_type named d.ty b.0, bools_are named rs b.1)
+bool_type : (t : Ty) → is_bool t ≡ true → t ≡ BoolTy
+bool_type BoolTy h = refl
+bool_type t h = absurd (let bad : ⊥ = cc in bad)
 
-plainly : (p : r.Program) (k : code.Cmd) → Plainly (is_plain k) (cmd_of p k)
-plainly p (cmd.Check g ks) = tt
-plainly p (cmd.Suppose w ks) = tt
-plainly p (cmd.Assume x) = tt
-plainly p (cmd.Forget xs) = tt
-plainly p (cmd.Put ts es) = tt
-plainly p (cmd.Perform k q xs) = bools_are (m.named_of p.types) (map declared_of q.now.results.items)
-plainly p cmd.Finish = tt
+pub bools_are : (ds : List Decl) → are_bools ds ≡ true → AreTruths ds
+bools_are [] h = tt
+bools_are (d ∷ ds) h =
+    let b = both_true (is_bool d.ty) (are_bools ds) h in (bool_type d.ty b.0, bools_are ds b.1)
 
 module _ (p : Prog) (i : e.Interp) (number : ℕ) (ds : List Decl) (a : Around) where
   abbrev c : Ctx
@@ -126,18 +104,16 @@ module _ (p : Prog) (i : e.Interp) (number : ℕ) (ds : List Decl) (a : Around) 
   assigns None vs xs m h = tt
   assigns (Some bs) vs xs m h = rw h (ap Next (put_each_is xs bs m))
 
-  acts_agree : Declares p i number ds a → (b : Bool) (k : Cmd) (m : Moment) → Plainly b k → Agrees (acts b a k m) (act c k (world_of m))
-  acts_agree d b (Check qs) m h = checks_are p i number ds a (seen_at a m) (scope c) qs m refl
-  acts_agree d b (Suppose qs) m h = supposes_are p i number ds a (seen_at a m) (scope c) qs m refl
-  acts_agree d b (Forget xs) m h = forgets p i number ds a d xs m
-  acts_agree d b (Put xs es) m h =
+  acts_agree : Declares p i number ds a → (k : Cmd) (m : Moment) → Agrees (acts a k m) (act c k (world_of m))
+  acts_agree d (Check qs) m = checks_are p i number ds a (seen_at a m) (scope c) qs m refl
+  acts_agree d (Suppose qs) m = supposes_are p i number ds a (seen_at a m) (scope c) qs m refl
+  acts_agree d (Forget xs) m = forgets p i number ds a d xs m
+  acts_agree d (Put xs es) m =
       assigns (truths_in es (seen_at a m)) (evs es (scope c (world_of m))) xs m (truths_is (functions_of p i) i.constants es (seen_at a m))
-  acts_agree d b (Perform k) m h = calls_if d b k m h
-  acts_agree d b Finish m h = refl
+  acts_agree d (Perform k) m = calls_if d (are_bools k.results) k m (bools_are k.results)
+  acts_agree d Finish m = refl
 
-  pub all_agree : Declares p i number ds a → (q : r.Program) (ks : List code.Cmd) (m : Moment) → Agrees (acts_each q a ks m) (act_all c (map (cmd_of q) ks) (world_of m))
-  all_agree d q [] m = refl
-  all_agree d q (k ∷ ks) m =
-      so_then (acts (is_plain k) a (cmd_of q k) m) (act c (cmd_of q k) (world_of m)) (acts_each q a ks) (act_all c (map (cmd_of q) ks))
-      (acts_agree d (is_plain k) (cmd_of q k) m (plainly q k))
-      (all_agree d q ks)
+  pub all_agree : Declares p i number ds a → (ks : List Cmd) (m : Moment) → Agrees (acts_each a ks m) (act_all c ks (world_of m))
+  all_agree d [] m = refl
+  all_agree d (k ∷ ks) m =
+      so_then (acts a k m) (act c k (world_of m)) (acts_each a ks) (act_all c ks) (acts_agree d k m) (all_agree d ks)

@@ -1,4 +1,5 @@
 pub mod Chains
+pub mod Bools
 pub mod Puts
 pub mod Written
 pub mod Plans

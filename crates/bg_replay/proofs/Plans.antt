@@ -16,6 +16,7 @@ use Rattle.bg_sense.specs.Variables.{wheres_of, wheres_at, wheres_in, modified}
 use Rattle.bg_calls.specs.Core.{Saying, Plan, Perform, demands, sayings, plain, each_one, plan_of, still}
 use Rattle.bg_blocks.specs.Views.{clauses_in, procedure_in}
 use Rattle.bg_replay.specs.Truths.{Seen, truth_in}
+use Rattle.bg_replay.specs.Bools.{are_bools, decls_in}
 use Rattle.bg_replay.specs.Moments.{Moment, Around, Out, and_so}
 use Rattle.bg_replay.specs.Said.{or_stops, then_said, Fine, supposes, on_said}
 use Rattle.bg_replay.specs.Acts.{called, acts}
@@ -59,8 +60,9 @@ gives_is : (xs ys : List s.Ex) (gives : List Saying) → xs ≡ [] → ys ≡ []
 gives_is xs ys gives h k = rw (h, k) refl
 
 -- a call, where no `where` clause is left and so many results are declared
-pub plan_called : (p : r.Program) (k : Call) (q : Procedure) (xs : List Variable) (b : Bool) (a : Around) (n : Moment) → called b a (m.exs_of (exs_in k.args.items)) (demands (AtCall k.site) (clauses_in q.requires_.items)) (map var_of xs) (length q.results.items) (sayings each_one (clauses_in q.ensures_.items)) (map m.variable_of (map placed_of k.takes.items)) n ≡ acts b a (Perform (record (plan_of (m.meaning_of p) (procedure_in p (proc_of q)) (m.call_of (call_of k))) { modifies = map var_of xs })) n
-plan_called p k q xs b a n =
+pub plan_called : (p : r.Program) (k : Call) (q : Procedure) (xs : List Variable) (a : Around) (n : Moment) → called (are_bools (decls_in p (map declared_of q.results.items))) a (m.exs_of (exs_in k.args.items)) (demands (AtCall k.site) (clauses_in q.requires_.items)) (map var_of xs) (length q.results.items) (sayings each_one (clauses_in q.ensures_.items)) (map m.variable_of (map placed_of k.takes.items)) n ≡ acts a (Perform (record (plan_of (m.meaning_of p) (procedure_in p (proc_of q)) (m.call_of (call_of k))) { modifies = map var_of xs })) n
+plan_called p k q xs a n =
+    let b = are_bools (decls_in p (map declared_of q.results.items)) in
     let named = m.named_of p.types in
     let plan : Plan = plan_of (m.meaning_of p) (procedure_in p (proc_of q)) (m.call_of (call_of k)) in
     let says = sayings each_one (clauses_in q.ensures_.items) in

@@ -18,7 +18,8 @@ use Rattle.bg_blocks.specs.Whole.{AreBlocks}
 use Rattle.bg_blocks.specs.declared.block.Block.{Block}
 use Rattle.bg_replay.specs.Moments.{Moment, Around, choice_of}
 use Rattle.bg_replay.specs.Said.{Said, Fine, Stops, Unsaid}
-use Rattle.bg_replay.specs.Ways.{are_bools, runs}
+use Rattle.bg_replay.specs.Bools.{are_bools, decls_in}
+use Rattle.bg_replay.specs.Ways.{runs}
 use Rattle.bg_replay.specs.Views.{set_of, said_by}
 use Rattle.bg_replay.specs.Endings.{state_of, IsRight, IsReplay, IsOver, are_declared}
 use Rattle.bg_replay.specs.declared.choice.Choice.{Choice}
@@ -54,20 +55,20 @@ module _ (p : r.Program) (i : Interp) (number : ℕ) (im : r.Impl) (q : r.Proc) 
 
   declares : (a : Around) → are_declared p im q ≡ true → a.globals ≡ length p.globals → a.frame ≡ length q.params + (length q.results + length im.locals) → Declares (m.meaning_of p) i number frame a
   declares a h g f (Global x) k =
-      let b = both_true (are_bools p.globals) (are_bools q.params && (are_bools q.results && are_bools im.locals)) h in
-      truths_type (map (m.decl_of named) p.globals) x (bools_are named p.globals b.0) (ap (nat_lt x) (length-map p.globals (m.decl_of named)) ∙ (ap (nat_lt x) (sym g) ∙ k))
+      let b = both_true (are_bools (decls_in p p.globals)) _ h in
+      truths_type (map (m.decl_of named) p.globals) x (bools_are (decls_in p p.globals) b.0) (ap (nat_lt x) (length-map p.globals (m.decl_of named)) ∙ (ap (nat_lt x) (sym g) ∙ k))
   declares a h g f (Local x) k =
-      let b = both_true (are_bools p.globals) (are_bools q.params && (are_bools q.results && are_bools im.locals)) h in
-      let c = both_true (are_bools q.params) (are_bools q.results && are_bools im.locals) b.1 in
-      let d = both_true (are_bools q.results) (are_bools im.locals) c.1 in
-      truths_type frame x (truths_join (map (m.decl_of named) q.params) (map (m.decl_of named) q.results ++ map (m.decl_of named) im.locals) (bools_are named q.params c.0) (truths_join (map (m.decl_of named) q.results) (map (m.decl_of named) im.locals) (bools_are named q.results d.0) (bools_are named im.locals d.1))) (ap (nat_lt x) frame_length ∙ (ap (nat_lt x) (sym f) ∙ k))
+      let b = both_true (are_bools (decls_in p p.globals)) _ h in
+      let c = both_true (are_bools (decls_in p q.params)) _ b.1 in
+      let d = both_true (are_bools (decls_in p q.results)) (are_bools (decls_in p im.locals)) c.1 in
+      truths_type frame x (truths_join (map (m.decl_of named) q.params) (map (m.decl_of named) q.results ++ map (m.decl_of named) im.locals) (bools_are (decls_in p q.params) c.0) (truths_join (map (m.decl_of named) q.results) (map (m.decl_of named) im.locals) (bools_are (decls_in p q.results) d.0) (bools_are (decls_in p im.locals) d.1))) (ap (nat_lt x) frame_length ∙ (ap (nat_lt x) (sym f) ∙ k))
 
-  pub replay_is : (set : List Bool) (gn fn : ℕ) (bs : List Block) (gs gs' fs fs' : List Bool) (cs : List Choice) (ending : Ending) → gs' ≡ gs → fs' ≡ fs → are_declared p im q ≡ true → gn ≡ length p.globals → fn ≡ length q.params + (length q.results + length im.locals) → said_by ending ≡ runs p (record { set = set_of set; before = gs; globals = gn; frame = fn }) 0 bs (record { globals = gs'; frame = fs'; choices = cs }) → IsRight ending (blocks_run (context Cut (m.meaning_of p) (set_of set) i number (m.impl_of named im) (m.proc_of named q) (state_of gs fs)) (map (block_of p) bs) (start (state_of gs fs) (map choice_of cs) 0))
+  pub replay_is : (set : List Bool) (gn fn : ℕ) (bs : List Block) (gs gs' fs fs' : List Bool) (cs : List Choice) (ending : Ending) → gs' ≡ gs → fs' ≡ fs → are_declared p im q ≡ true → gn ≡ length p.globals → fn ≡ length q.params + (length q.results + length im.locals) → said_by ending ≡ runs (record { set = set_of set; before = gs; globals = gn; frame = fn }) 0 (map (block_of p) bs) (record { globals = gs'; frame = fs'; choices = cs }) → IsRight ending (blocks_run (context Cut (m.meaning_of p) (set_of set) i number (m.impl_of named im) (m.proc_of named q) (state_of gs fs)) (map (block_of p) bs) (start (state_of gs fs) (map choice_of cs) 0))
   replay_is set gn fn bs gs gs' fs fs' cs ending eg ef h g f e x s =
       let a : Around = record { set = set_of set; before = gs; globals = gn; frame = fn } in
       let w : Moment = record { globals = gs; frame = fs; choices = cs } in
-      let ran : said_by ending ≡ runs p a 0 bs w = e ∙ rw (eg, ef) refl in
-      run_answer (runs p a 0 bs w) _ x (runs_agree p i number frame a (declares a h g f) 0 bs w) (sym ran ∙ s)
+      let ran : said_by ending ≡ runs a 0 (map (block_of p) bs) w = e ∙ rw (eg, ef) refl in
+      run_answer (runs a 0 (map (block_of p) bs) w) _ x (runs_agree (m.meaning_of p) i number frame a (declares a h g f) 0 (map (block_of p) bs) w) (sym ran ∙ s)
 
 item_map : {A B : Type 0} (f : A → B) (xs : List A) (k : ℕ) (x : A) → slice_get xs k ≡ Some x → slice_get (map f xs) k ≡ Some (f x)
 item_map f [] k x h = absurd cc
@@ -83,15 +84,15 @@ induction_is p set i number im q bs gs fs cs ending hm hq made right x s =
     ∙ (sym (ap (λ (l : List flow.Block). blocks_run c l (start (state_of gs fs) (map choice_of cs) 0)) made) ∙ right.right i x s)
 
 -- a replay whose ending is that of the run over truth values
-pub replays : (p : r.Program) (im : r.Impl) (q : r.Proc) (set : List Bool) (gn fn : ℕ) (bs : List Block) (gs gs' fs fs' : List Bool) (cs : List Choice) (ending : Ending) → gs' ≡ gs → fs' ≡ fs → are_declared p im q ≡ true → gn ≡ length p.globals → fn ≡ length q.params + (length q.results + length im.locals) → said_by ending ≡ runs p (record { set = set_of set; before = gs; globals = gn; frame = fn }) 0 bs (record { globals = gs'; frame = fs'; choices = cs }) → (number : ℕ) → IsReplay p bs set number im q gs fs cs ending
+pub replays : (p : r.Program) (im : r.Impl) (q : r.Proc) (set : List Bool) (gn fn : ℕ) (bs : List Block) (gs gs' fs fs' : List Bool) (cs : List Choice) (ending : Ending) → gs' ≡ gs → fs' ≡ fs → are_declared p im q ≡ true → gn ≡ length p.globals → fn ≡ length q.params + (length q.results + length im.locals) → said_by ending ≡ runs (record { set = set_of set; before = gs; globals = gn; frame = fn }) 0 (map (block_of p) bs) (record { globals = gs'; frame = fs'; choices = cs }) → (number : ℕ) → IsReplay p bs set number im q gs fs cs ending
 replays p im q set gn fn bs gs gs' fs fs' cs ending eg ef h g f e number =
     let a : Around = record { set = set_of set; before = gs; globals = gn; frame = fn } in
     let w : Moment = record { globals = gs'; frame = fs'; choices = cs } in
     record {
       right = λ i. replay_is p i number im q set gn fn bs gs gs' fs fs' cs ending eg ef h g f e;
       tells = λ (o : IsOver p im q bs gs fs).
-          let over : over_blocks p gn fn bs ≡ true = rw (g, f) o.blocks in
-          rw e (runs_tell a (o.globals ∙ sym g) p 0 bs w over (record { globals = ap length eg ∙ (o.globals ∙ sym g); frame = ap length ef ∙ (o.frame ∙ sym f) }));
+          let over : over_blocks gn fn (map (block_of p) bs) ≡ true = rw (g, f) o.blocks in
+          rw e (runs_tell a (o.globals ∙ sym g) 0 (map (block_of p) bs) w over (record { globals = ap length eg ∙ (o.globals ∙ sym g); frame = ap length ef ∙ (o.frame ∙ sym f) }));
     }
 
 -- the ending where some variable is no truth value

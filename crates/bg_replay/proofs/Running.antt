@@ -2,9 +2,7 @@
 use Rattle.std.proofs.Common.{◌≡◌, ℕ, zero, suc, Bool, true, false, List, [], ◌∷◌, length, map, Option, Some, None, refl}
 use Rattle.std.specs.Prelude.{if◌then◌else◌, ◌==◌, slice_get, nat_lt, unwrap_or}
 use Rattle.bg_ast.specs.Values.{Val, truth_of}
-use Rattle.bg_ast.specs.Syntax.{Guard, Star, Test, Decl}
-use Rattle.bg_ast.specs.Resolved as r
-use Rattle.bg_ast.specs.Meaning as mean
+use Rattle.bg_ast.specs.Syntax.{Guard, Star, Test, Decl, Prog}
 use Rattle.bg_ast.specs.Execution as e
 use Rattle.bg_sense.specs.Eval.{ev, functions_of}
 use Rattle.bg_sense.specs.Flow as f
@@ -12,9 +10,7 @@ use Rattle.bg_sense.specs.Flow.{World, Answer, Ended, BadChoice, Flow, Next, Jum
 use Rattle.bg_sense.specs.Context.{Ctx, scope}
 use Rattle.bg_sense.specs.Choices.{branch_from, decide}
 use Rattle.bg_calls.specs.Core.{act_all}
-use Rattle.bg_flow.specs.Blocks.{Exit, Leap, Either, Table, at_table, enter, index, leave, table}
-use Rattle.bg_blocks.specs.Views.{cmd_of, exit_of, block_of}
-use Rattle.bg_blocks.specs.declared.block.Block.{Block}
+use Rattle.bg_flow.specs.Blocks.{Block, Exit, Leap, Either, Table, at_table, enter, index, leave, table}
 use Rattle.bg_replay.specs.Truths.{truth_in}
 use Rattle.bg_replay.specs.Moments.{Moment, Around, Out, Goes, Over, Unknown, choice_of, world_of, seen_at}
 use Rattle.bg_replay.specs.Said.{Said, Fine, Stops, Unsaid}
@@ -71,14 +67,14 @@ module _ (t : Table) where
   tests (Some true) x on off m h = rw h refl
   tests (Some false) x on off m h = rw h refl
 
-module _ (p : r.Program) (i : e.Interp) (number : ℕ) (ds : List Decl) (a : Around) where
+module _ (p : Prog) (i : e.Interp) (number : ℕ) (ds : List Decl) (a : Around) where
   abbrev c : Ctx
-  c = ctx (mean.meaning_of p) i number ds a
+  c = ctx p i number ds a
 
   decides : (t : Table) (g : Guard) (on off : ℕ) (m : Moment) → EnterIs t (decided a g on off m) (decide c g (world_of m) (Jumps (Behind on)) (Jumps (Behind off)))
   decides t Star on off m = sides t m.choices on off m
   decides t (Test x) on off m =
-      tests t (truth_in x (seen_at a m)) (ev x (scope c (world_of m))) on off m (truth_is (functions_of (mean.meaning_of p) i) i.constants x (seen_at a m))
+      tests t (truth_in x (seen_at a m)) (ev x (scope c (world_of m))) on off m (truth_is (functions_of p i) i.constants x (seen_at a m))
 
   leaving : (t : Table) (x : Exit) (m : Moment) → EnterIs t (leaves a x m) (leave c x (world_of m))
   leaving t (Leap []) m = refl
@@ -97,9 +93,9 @@ module _ (p : r.Program) (i : e.Interp) (number : ℕ) (ds : List Decl) (a : Aro
   ran_is t g ih x (Over y) w h = rw h refl
   ran_is t g ih x Unknown w h = tt
 
-  pub runs_agree : Declares (mean.meaning_of p) i number ds a → (k : ℕ) (bs : List Block) (m : Moment) → RunIs (runs p a k bs m) (at_table (table c [] (map (block_of p) bs)) k (world_of m))
+  pub runs_agree : Declares p i number ds a → (k : ℕ) (bs : List Block) (m : Moment) → RunIs (runs a k bs m) (at_table (table c [] bs) k (world_of m))
   runs_agree d k [] m = refl
   runs_agree d zero (b ∷ bs) m =
-      ran_is (table c [] (map (block_of p) bs)) (λ k u. runs p a k bs u) (λ k u. runs_agree d k bs u) (exit_of b.exit) (acts_each p a b.cmds.items m) (act_all c (map (cmd_of p) b.cmds.items) (world_of m))
-      (all_agree (mean.meaning_of p) i number ds a d p b.cmds.items m)
+      ran_is (table c [] bs) (λ k u. runs a k bs u) (λ k u. runs_agree d k bs u) b.exit (acts_each a b.cmds m) (act_all c b.cmds (world_of m))
+      (all_agree p i number ds a d b.cmds m)
   runs_agree d (suc k) (b ∷ bs) m = runs_agree d k bs m

@@ -3,17 +3,14 @@ use Rattle.std.proofs.Common.{◌≡◌, ℕ, zero, suc, ◌+◌, Bool, true, fa
 use Rattle.std.specs.Prelude.{if◌then◌else◌, ◌&&◌, slice_get, slice_set}
 use Rattle.std.proofs.lemmas.List.{length-append}
 use Rattle.bg_ast.specs.Syntax.{Var, Global, Local, Star, Test}
-use Rattle.bg_ast.specs.Resolved as r
 use Rattle.bg_calls.specs.Core.{Saying, Plan, Cmd, Check, Suppose, Forget, Put, Perform, Finish}
-use Rattle.bg_flow.specs.Blocks.{Exit, Leap, Either}
-use Rattle.bg_blocks.specs.Views.{cmd_of, exit_of}
-use Rattle.bg_blocks.specs.declared.block.Block.{Block}
-use Rattle.bg_blocks.specs.declared.block.Cmd as code
+use Rattle.bg_flow.specs.Blocks.{Exit, Leap, Either, Block}
 use Rattle.bg_replay.specs.Truths.{Seen, truth_in, cons_o, truths_in}
 use Rattle.bg_replay.specs.Moments.{Moment, Around, Out, Goes, Over, Unknown, and_so, seen_at}
 use Rattle.bg_replay.specs.Said.{Said, Fine, Stops, Unsaid, on_said, checks, supposes}
+use Rattle.bg_replay.specs.Bools.{are_bools}
 use Rattle.bg_replay.specs.Acts.{taken, behind_one, moved, choose_by, choose_truth, put, put_each, is_there, forgotten, assigned, chosen, skipped, given_back, called_with, acts}
-use Rattle.bg_replay.specs.Ways.{Way, On, Off, Nowhere, branched, go_to, branch_to, test_to, leaves, is_plain, acts_each, enters, ran, runs}
+use Rattle.bg_replay.specs.Ways.{Way, On, Off, Nowhere, branched, go_to, branch_to, test_to, leaves, acts_each, enters, ran, runs}
 use Rattle.bg_replay.specs.Over.{is_var, are_vars, over_exs, count_exs, over_demands, over_sayings, over_plan, over_cmd, over_exit, over_cmds, over_blocks}
 use Rattle.bg_replay.specs.declared.choice.Choice.{Choice}
 use Rattle.bg_replay.specs.Endings.{Tells, Sized}
@@ -115,28 +112,28 @@ module _ (a : Around) where
   fits : Begun → (m : Moment) → Sized a m → Fits a.globals a.frame (seen_at a m)
   fits b m w = record { globals = w.globals; before = b; frame = w.frame }
 
-  known_act : Begun → (plain : Bool) (k : Cmd) (m : Moment) → over_cmd plain a.globals a.frame k ≡ true → Sized a m → Known (acts plain a k m)
-  known_act b plain (Check ds) m h w = known_on (checks a.set (seen_at a m) ds) m (checks_tell a.set a.globals a.frame (seen_at a m) ds (fits b m w) h) w
-  known_act b plain (Suppose ds) m h w = known_on (supposes a.set (seen_at a m) ds) m (supposes_tell a.set a.globals a.frame (seen_at a m) ds (fits b m w) h) w
-  known_act b plain (Forget xs) m h w = known_forgotten xs m h w
-  known_act b plain (Put xs es) m h w = known_assigned (count_exs es) (truths_in es (seen_at a m)) xs m (known_exs a.globals a.frame es (seen_at a m) (fits b m w) h) w
-  known_act b plain (Perform k) m h w =
+  known_act : Begun → (k : Cmd) (m : Moment) → over_cmd a.globals a.frame k ≡ true → Sized a m → Known (acts a k m)
+  known_act b (Check ds) m h w = known_on (checks a.set (seen_at a m) ds) m (checks_tell a.set a.globals a.frame (seen_at a m) ds (fits b m w) h) w
+  known_act b (Suppose ds) m h w = known_on (supposes a.set (seen_at a m) ds) m (supposes_tell a.set a.globals a.frame (seen_at a m) ds (fits b m w) h) w
+  known_act b (Forget xs) m h w = known_forgotten xs m h w
+  known_act b (Put xs es) m h w = known_assigned (count_exs es) (truths_in es (seen_at a m)) xs m (known_exs a.globals a.frame es (seen_at a m) (fits b m w) h) w
+  known_act b (Perform k) m h w =
       let says = over_sayings a.globals (count_exs k.args + length k.results) k.gives in
       let vars = are_vars a.globals a.frame k.modifies in
       let needs = over_demands a.globals (count_exs k.args) k.needs in
-      let h0 = both_true plain (over_plan a.globals a.frame k) h in
+      let h0 = both_true (are_bools k.results) (over_plan a.globals a.frame k) h in
       let h1 = both_true (over_exs a.globals a.frame k.args) (needs && (vars && says)) h0.1 in
       let h2 = both_true needs (vars && says) h1.1 in
       let h3 = both_true vars says h2.1 in
-      known_if plain (called_with (truths_in k.args (seen_at a m)) a k.needs k.modifies (length k.results) k.gives k.takes m) h0.0
+      known_if (are_bools k.results) (called_with (truths_in k.args (seen_at a m)) a k.needs k.modifies (length k.results) k.gives k.takes m) h0.0
       (known_call b (truths_in k.args (seen_at a m)) k m (known_exs a.globals a.frame k.args (seen_at a m) (fits b m w) h1.0) h2.0 h3.0 h3.1 w)
-  known_act b plain Finish m h w = tt
+  known_act b Finish m h w = tt
 
-  known_acts : Begun → (p : r.Program) (ks : List code.Cmd) (m : Moment) → over_cmds p a.globals a.frame ks ≡ true → Sized a m → Known (acts_each p a ks m)
-  known_acts b p [] m h w = w
-  known_acts b p (k ∷ ks) m h w =
-      let l = both_true (over_cmd (is_plain k) a.globals a.frame (cmd_of p k)) (over_cmds p a.globals a.frame ks) h in
-      known_then (acts (is_plain k) a (cmd_of p k) m) (acts_each p a ks) (known_act b (is_plain k) (cmd_of p k) m l.0 w) (λ n v. known_acts b p ks n l.1 v)
+  known_acts : Begun → (ks : List Cmd) (m : Moment) → over_cmds a.globals a.frame ks ≡ true → Sized a m → Known (acts_each a ks m)
+  known_acts b [] m h w = w
+  known_acts b (k ∷ ks) m h w =
+      let l = both_true (over_cmd a.globals a.frame k) (over_cmds a.globals a.frame ks) h in
+      known_then (acts a k m) (acts_each a ks) (known_act b k m l.0 w) (λ n v. known_acts b ks n l.1 v)
 
   -- a block is entered with as many values, or the run is over
   abbrev KnownWay : Way → Type 0
@@ -174,14 +171,14 @@ module _ (a : Around) where
   tells_ran (Over x) g h ih = tt
   tells_ran Unknown g h ih = absurd h
 
-  pub runs_tell : Begun → (p : r.Program) (k : ℕ) (bs : List Block) (m : Moment) → over_blocks p a.globals a.frame bs ≡ true → Sized a m → Tells (runs p a k bs m)
-  runs_tell b p k [] m h w = tt
-  runs_tell b p zero (x ∷ bs) m h w =
-      let l = both_true (over_cmds p a.globals a.frame x.cmds.items) (over_exit a.globals a.frame (exit_of x.exit) && over_blocks p a.globals a.frame bs) h in
-      let n = both_true (over_exit a.globals a.frame (exit_of x.exit)) (over_blocks p a.globals a.frame bs) l.1 in
-      tells_ran (acts_each p a x.cmds.items m) (λ u. enters (leaves a (exit_of x.exit) u) (λ k v. runs p a k bs v)) (known_acts b p x.cmds.items m l.0 w)
-      (λ u wu. tells_enters (leaves a (exit_of x.exit) u) (λ k v. runs p a k bs v) (known_leaves b (exit_of x.exit) u n.0 wu) (λ k v wv. runs_tell b p k bs v n.1 wv))
-  runs_tell b p (suc k) (x ∷ bs) m h w =
-      let l = both_true (over_cmds p a.globals a.frame x.cmds.items) (over_exit a.globals a.frame (exit_of x.exit) && over_blocks p a.globals a.frame bs) h in
-      let n = both_true (over_exit a.globals a.frame (exit_of x.exit)) (over_blocks p a.globals a.frame bs) l.1 in
-      runs_tell b p k bs m n.1 w
+  pub runs_tell : Begun → (k : ℕ) (bs : List Block) (m : Moment) → over_blocks a.globals a.frame bs ≡ true → Sized a m → Tells (runs a k bs m)
+  runs_tell b k [] m h w = tt
+  runs_tell b zero (x ∷ bs) m h w =
+      let l = both_true (over_cmds a.globals a.frame x.cmds) (over_exit a.globals a.frame x.exit && over_blocks a.globals a.frame bs) h in
+      let n = both_true (over_exit a.globals a.frame x.exit) (over_blocks a.globals a.frame bs) l.1 in
+      tells_ran (acts_each a x.cmds m) (λ u. enters (leaves a x.exit u) (λ k v. runs a k bs v)) (known_acts b x.cmds m l.0 w)
+      (λ u wu. tells_enters (leaves a x.exit u) (λ k v. runs a k bs v) (known_leaves b x.exit u n.0 wu) (λ k v wv. runs_tell b k bs v n.1 wv))
+  runs_tell b (suc k) (x ∷ bs) m h w =
+      let l = both_true (over_cmds a.globals a.frame x.cmds) (over_exit a.globals a.frame x.exit && over_blocks a.globals a.frame bs) h in
+      let n = both_true (over_exit a.globals a.frame x.exit) (over_blocks a.globals a.frame bs) l.1 in
+      runs_tell b k bs m n.1 w

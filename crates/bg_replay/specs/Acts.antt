@@ -4,6 +4,7 @@ use Rattle.bg_ast.specs.Syntax.{Var, Global, Local, Exs}
 use Rattle.bg_sense.specs.Flow.{Ended, BadChoice}
 use Rattle.bg_calls.specs.Core.{Demand, Saying, Cmd, Check, Suppose, Forget, Put, Perform, Finish}
 use Rattle.bg_replay.specs.Truths.{cons_o, truths_in}
+use Rattle.bg_replay.specs.Bools.{are_bools}
 use Rattle.bg_replay.specs.Moments.{Moment, Around, Out, Goes, Over, Unknown, and_so, seen_at}
 use Rattle.bg_replay.specs.Said.{on_said, checks, supposes}
 use Rattle.bg_replay.specs.declared.choice.Choice.{Choice}
@@ -83,11 +84,11 @@ abbrev pub called : Bool → Around → Exs → List Demand → List Var → ℕ
 called plain a args needs modifies count gives takes m =
     if plain then called_with (truths_in args (seen_at a m)) a needs modifies count gives takes m else Unknown
 
--- a command; of a call it is told whether the results are truth values
-abbrev pub acts : Bool → Around → Cmd → Moment → Out
-acts plain a (Check ds) m = on_said (checks a.set (seen_at a m) ds) m
-acts plain a (Suppose ds) m = on_said (supposes a.set (seen_at a m) ds) m
-acts plain a (Forget xs) m = forgotten a xs m
-acts plain a (Put xs es) m = assigned (truths_in es (seen_at a m)) xs m
-acts plain a (Perform k) m = called plain a k.args k.needs k.modifies (length k.results) k.gives k.takes m
-acts plain a Finish m = Over Ended
+-- a command
+abbrev pub acts : Around → Cmd → Moment → Out
+acts a (Check ds) m = on_said (checks a.set (seen_at a m) ds) m
+acts a (Suppose ds) m = on_said (supposes a.set (seen_at a m) ds) m
+acts a (Forget xs) m = forgotten a xs m
+acts a (Put xs es) m = assigned (truths_in es (seen_at a m)) xs m
+acts a (Perform k) m = called (are_bools k.results) a k.args k.needs k.modifies (length k.results) k.gives k.takes m
+acts a Finish m = Over Ended

@@ -12,7 +12,7 @@ use Rattle.bg_blocks.specs.Views.{block_of}
 use Rattle.bg_blocks.specs.declared.block.Block.{Block}
 use Rattle.bg_replay.specs.Moments.{Moment, Around, choice_of}
 use Rattle.bg_replay.specs.Said.{Said, Fine, Stops, Unsaid}
-use Rattle.bg_replay.specs.Ways.{are_bools}
+use Rattle.bg_replay.specs.Bools.{are_bools, decls_in}
 use Rattle.bg_replay.specs.Views.{set_of, said_by}
 use Rattle.bg_replay.specs.Over.{over_blocks}
 use Rattle.bg_replay.specs.declared.choice.Choice.{Choice}
@@ -26,9 +26,11 @@ state_of globals frame = record { globals = map Truth globals; frame = map Truth
 abbrev pub IsRight : Ending → Answer → Type 0
 IsRight ending answer = (x : Answer) → said_by ending ≡ Stops x → answer ≡ x
 
--- whether the globals and the variables of the frame are declared as truth values
+-- whether the globals and the variables of the frame are truth values, by what their types stand for
 abbrev pub are_declared : r.Program → r.Impl → r.Proc → Bool
-are_declared p m q = are_bools p.globals && (are_bools q.params && (are_bools q.results && are_bools m.locals))
+are_declared p m q =
+    are_bools (decls_in p p.globals)
+    && (are_bools (decls_in p q.params) && (are_bools (decls_in p q.results) && are_bools (decls_in p m.locals)))
 
 -- something is said
 abbrev pub Tells : Said → Type 0
@@ -50,7 +52,7 @@ pub record IsOver (p : r.Program) (im : r.Impl) (q : r.Proc) (bs : List Block) (
   pub declared : are_declared p im q ≡ true
   pub globals : length gs ≡ length p.globals
   pub frame : length fs ≡ frame_of im q
-  pub blocks : over_blocks p (length p.globals) (frame_of im q) bs ≡ true
+  pub blocks : over_blocks (length p.globals) (frame_of im q) (map (block_of p) bs) ≡ true
 
 -- the ending is that of the blocks' run under each interpretation, where it isn't `NotTruths`; and over truth values it never is
 pub record IsReplay (p : r.Program) (bs : List Block) (set : List Bool) (number : ℕ) (im : r.Impl) (q : r.Proc) (gs fs : List Bool) (choices : List Choice) (ending : Ending) : Type 0 where

@@ -1,4 +1,5 @@
 pub mod Truths
+pub mod Bools
 pub mod Moments
 pub mod Views
 pub mod Said

@@ -1,13 +1,9 @@
 -- Blocks over truth values: each expression is one of signs on truth values, and each variable is declared.
 use Rattle.std.specs.Prelude.{ℕ, suc, ◌+◌, Bool, true, false, ◌&&◌, List, [], ◌∷◌, length, nat_lt}
 use Rattle.bg_ast.specs.Syntax.{Var, Global, Local, Op, And, Or, Implies, Iff, Equal, Unequal, Ex, Exs, Fact, Read, Not, Binary, Old, NoMore, More, Star, Test}
-use Rattle.bg_ast.specs.Resolved as r
 use Rattle.bg_calls.specs.Core.{Demand, Saying, Plan, Cmd, Check, Suppose, Forget, Put, Perform, Finish}
-use Rattle.bg_flow.specs.Blocks.{Exit, Leap, Either}
-use Rattle.bg_blocks.specs.Views.{cmd_of, exit_of}
-use Rattle.bg_blocks.specs.declared.block.Block.{Block}
-use Rattle.bg_blocks.specs.declared.block.Cmd as code
-use Rattle.bg_replay.specs.Ways.{is_plain}
+use Rattle.bg_flow.specs.Blocks.{Exit, Leap, Either, Block}
+use Rattle.bg_replay.specs.Bools.{are_bools}
 
 -- an operator on truth values
 abbrev pub is_truth_op : Op → Bool
@@ -60,25 +56,25 @@ over_plan g f k =
     && (over_demands g (count_exs k.args) k.needs
     && (are_vars g f k.modifies && over_sayings g (count_exs k.args + length k.results) k.gives))
 
--- a command; of a call it is told whether the results are truth values
-abbrev pub over_cmd : Bool → ℕ → ℕ → Cmd → Bool
-over_cmd plain g f (Check ds) = over_demands g f ds
-over_cmd plain g f (Suppose ds) = over_sayings g f ds
-over_cmd plain g f (Forget xs) = are_vars g f xs
-over_cmd plain g f (Put xs es) = over_exs g f es
-over_cmd plain g f (Perform k) = plain && over_plan g f k
-over_cmd plain g f Finish = true
+-- a command; the results of a call are truth values
+abbrev pub over_cmd : ℕ → ℕ → Cmd → Bool
+over_cmd g f (Check ds) = over_demands g f ds
+over_cmd g f (Suppose ds) = over_sayings g f ds
+over_cmd g f (Forget xs) = are_vars g f xs
+over_cmd g f (Put xs es) = over_exs g f es
+over_cmd g f (Perform k) = are_bools k.results && over_plan g f k
+over_cmd g f Finish = true
 
 abbrev pub over_exit : ℕ → ℕ → Exit → Bool
 over_exit g f (Leap ks) = true
 over_exit g f (Either Star on off) = true
 over_exit g f (Either (Test e) on off) = over_ex g f e
 
-abbrev pub over_cmds : r.Program → ℕ → ℕ → List code.Cmd → Bool
-over_cmds p g f [] = true
-over_cmds p g f (k ∷ ks) = over_cmd (is_plain k) g f (cmd_of p k) && over_cmds p g f ks
+abbrev pub over_cmds : ℕ → ℕ → List Cmd → Bool
+over_cmds g f [] = true
+over_cmds g f (k ∷ ks) = over_cmd g f k && over_cmds g f ks
 
--- blocks of a program, where there are so many globals and so many variables of the frame
-abbrev pub over_blocks : r.Program → ℕ → ℕ → List Block → Bool
-over_blocks p g f [] = true
-over_blocks p g f (b ∷ bs) = over_cmds p g f b.cmds.items && (over_exit g f (exit_of b.exit) && over_blocks p g f bs)
+-- blocks, where there are so many globals and so many variables of the frame
+abbrev pub over_blocks : ℕ → ℕ → List Block → Bool
+over_blocks g f [] = true
+over_blocks g f (b ∷ bs) = over_cmds g f b.cmds && (over_exit g f b.exit && over_blocks g f bs)

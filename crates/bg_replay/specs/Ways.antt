@@ -1,14 +1,9 @@
 -- Where blocks lead over truth values, and their runs.
-use Rattle.std.specs.Prelude.{ℕ, zero, suc, Bool, true, false, ◌&&◌, List, [], ◌∷◌, map, Option, Some, None, slice_get}
+use Rattle.std.specs.Prelude.{ℕ, zero, suc, Bool, true, false, List, [], ◌∷◌, Option, Some, None, slice_get}
 use Rattle.bg_ast.specs.Syntax.{Guard, Star, Test}
-use Rattle.bg_ast.specs.Resolved as r
-use Rattle.bg_ast.specs.Views.{declared_of}
 use Rattle.bg_sense.specs.Flow.{Answer, Ended, BadChoice}
-use Rattle.bg_flow.specs.Blocks.{Exit, Leap, Either}
-use Rattle.bg_blocks.specs.Views.{cmd_of, exit_of}
-use Rattle.bg_blocks.specs.declared.block.Block.{Block}
-use Rattle.bg_blocks.specs.declared.block.Cmd as code
-use Rattle.bg_blocks.specs.declared.block.Cmd.TheVariants as cmd
+use Rattle.bg_calls.specs.Core.{Cmd}
+use Rattle.bg_flow.specs.Blocks.{Exit, Leap, Either, Block}
 use Rattle.bg_replay.specs.Truths.{truth_in}
 use Rattle.bg_replay.specs.Moments.{Moment, Around, Out, Goes, Over, Unknown, and_so, seen_at}
 use Rattle.bg_replay.specs.Said.{Said, Stops, Unsaid}
@@ -51,24 +46,9 @@ leaves a (Leap (k ∷ [])) m = On k m
 leaves a (Leap (k ∷ l ∷ ks)) m = branch_to (branched m.choices) (k ∷ l ∷ ks) (moved m)
 leaves a (Either g on off) m = decided a g on off m
 
--- `bool`, perhaps in parentheses
-abbrev pub is_bool : r.Ty → Bool
-is_bool (r.BoolType p) = true
-is_bool (r.InParens p t) = is_bool t
-is_bool _ = false
-
-abbrev pub are_bools : List r.Declared → Bool
-are_bools [] = true
-are_bools (d ∷ ds) = is_bool d.ty && are_bools ds
-
--- whether the results of a call are declared as truth values
-abbrev pub is_plain : code.Cmd → Bool
-is_plain (cmd.Perform k q xs) = are_bools (map declared_of q.now.results.items)
-is_plain _ = true
-
-abbrev pub acts_each : r.Program → Around → List code.Cmd → Moment → Out
-acts_each p a [] m = Goes m
-acts_each p a (k ∷ ks) m = and_so (acts (is_plain k) a (cmd_of p k) m) (acts_each p a ks)
+abbrev pub acts_each : Around → List Cmd → Moment → Out
+acts_each a [] m = Goes m
+acts_each a (k ∷ ks) m = and_so (acts a k m) (acts_each a ks)
 
 abbrev pub enters : Way → (ℕ → Moment → Said) → Said
 enters (On k m) go_on = go_on k m
@@ -81,8 +61,7 @@ ran (Over x) go_on = Stops x
 ran Unknown go_on = Unsaid
 
 -- a run from the block that is so far ahead
-abbrev pub runs : r.Program → Around → ℕ → List Block → Moment → Said
-runs p a k [] m = Stops Ended
-runs p a zero (b ∷ bs) m =
-    ran (acts_each p a b.cmds.items m) (λ n. enters (leaves a (exit_of b.exit) n) (λ k u. runs p a k bs u))
-runs p a (suc k) (b ∷ bs) m = runs p a k bs m
+abbrev pub runs : Around → ℕ → List Block → Moment → Said
+runs a k [] m = Stops Ended
+runs a zero (b ∷ bs) m = ran (acts_each a b.cmds m) (λ n. enters (leaves a b.exit n) (λ k u. runs a k bs u))
+runs a (suc k) (b ∷ bs) m = runs a k bs m

@@ -2,12 +2,13 @@
 ghost use Rattle.std.specs.Prelude.{◌≡◌, Some, map, length, IfOk};
 ghost use Rattle.bg_ast.specs.Meaning as m;
 ghost use Rattle.bg_ast.specs.Execution.{AtCall};
-ghost use Rattle.bg_ast.specs.Views.{type_of, declared_of, exs_in, placed_of, var_of};
+ghost use Rattle.bg_ast.specs.Views.{program_of, declared_of, exs_in, placed_of, var_of};
 ghost use Rattle.bg_calls.specs.Core.{demands, sayings, each_one};
 ghost use Rattle.bg_blocks.specs.Views.{clauses_in};
 ghost use Rattle.bg_replay.specs.Acts.{chosen, called, called_with, given_back};
 ghost use Rattle.bg_replay.specs.Said.{on_said};
-ghost use Rattle.bg_replay.specs.Ways as ways;
+ghost use Rattle.bg_replay.specs.Bools as bools;
+ghost use Rattle.bg_replay.specs.Bools.{decls_in};
 ghost use Rattle.bg_replay.specs.Views.{moment_of, around_of, said_of};
 
 use crate::choice::{Ending, Step};
@@ -15,35 +16,18 @@ use crate::clauses::{check, suppose};
 use crate::moment::{Around, Moment, forget, put_taken, rest_of, seen};
 use crate::sight::Sight;
 use crate::values::{append, chosen, copied, values};
-use bg_ast::resolved::{Call, Declared, Procedure, Variable, WrittenType};
+use bg_ast::resolved::{Call, Declared, Procedure, Resolved, Variable};
 use bg_blocks::Kept;
+use bg_fits::are_truths;
 use bg_places::Group;
 use std::alloc::AllocError;
 
-/// Whether a type is `bool`, perhaps in parentheses.
-#[cycle(is_bool)]
-fn is_bool(ty: &WrittenType) -> bool
-    ensures { result ≡ ways.is_bool (type_of ty.now) }
+/// Whether each of these variables of the program is of the type `bool`, or of one that stands for it.
+#[tactic(auto, using(crate::proofs::Bools::truth_decls))]
+pub fn are_bools(program: &Resolved, declared: &[Declared]) -> bool
+    ensures { result ≡ bools.are_bools (decls_in (program_of program.now) (map declared_of declared.now)) }
 {
-    match ty {
-        WrittenType::Bool(_) => true,
-        WrittenType::Parens(_, inner) => is_bool(inner),
-        WrittenType::Int(_) => false,
-        WrittenType::Declared(_, _) => false,
-        WrittenType::Map(_, _) => false,
-    }
-}
-
-/// Whether each is declared as `bool`.
-pub fn are_bools(declared: &[Declared]) -> bool
-    ensures { result ≡ ways.are_bools (map declared_of declared.now) }
-{
-    for d in declared {
-        if !is_bool(&d.ty) {
-            return false;
-        }
-    }
-    true
+    are_truths(&program.types, declared)
 }
 
 /// The end of a call with these arguments, which began with these globals: the results are chosen.
@@ -114,9 +98,9 @@ pub fn call(
     q: &Procedure,
     modifies: &[Variable],
 ) -> Result<Step, AllocError>
-    ensures { IfOk result (λ step. on_said (said_of step) (moment_of moment.new) ≡ called (ways.are_bools (map declared_of q.now.results.items)) (around_of around.entry) (m.exs_of (exs_in k.now.args.items)) (demands (AtCall k.now.site) (clauses_in q.now.requires_.items)) (map var_of modifies.now) (length q.now.results.items) (sayings each_one (clauses_in q.now.ensures_.items)) (map m.variable_of (map placed_of k.now.takes.items)) (moment_of moment.old)) }
+    ensures { IfOk result (λ step. on_said (said_of step) (moment_of moment.new) ≡ called (bools.are_bools (decls_in (program_of around.entry.program.now) (map declared_of q.now.results.items))) (around_of around.entry) (m.exs_of (exs_in k.now.args.items)) (demands (AtCall k.now.site) (clauses_in q.now.requires_.items)) (map var_of modifies.now) (length q.now.results.items) (sayings each_one (clauses_in q.now.ensures_.items)) (map m.variable_of (map placed_of k.now.takes.items)) (moment_of moment.old)) }
 {
-    if !are_bools(&q.results) {
+    if !are_bools(around.program, &q.results) {
         return Ok(Step::Over(Ending::NotTruths));
     }
     let Some(args) = values(around.alloc, seen(around, moment), &k.args)? else {

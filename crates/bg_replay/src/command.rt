@@ -7,7 +7,7 @@ ghost use Rattle.bg_replay.specs.Truths.{truths_in};
 ghost use Rattle.bg_replay.specs.Moments.{seen_at};
 ghost use Rattle.bg_replay.specs.Acts.{acts, assigned};
 ghost use Rattle.bg_replay.specs.Said.{on_said};
-ghost use Rattle.bg_replay.specs.Ways.{is_plain, acts_each};
+ghost use Rattle.bg_replay.specs.Ways.{acts_each};
 ghost use Rattle.bg_replay.specs.Views.{moment_of, around_of, said_of};
 
 use crate::call::call;
@@ -39,7 +39,7 @@ fn assign(
 /// A command.
 #[tactic(auto, using(crate::proofs::Plans::assumes_one))]
 fn command(around: Around<'_>, moment: &mut Moment<'_>, k: &Cmd<'_>) -> Result<Step, AllocError>
-    ensures { IfOk result (λ step. on_said (said_of step) (moment_of moment.new) ≡ acts (is_plain k.now) (around_of around.entry) (cmd_of (program_of around.entry.program.now) k.now) (moment_of moment.old)) }
+    ensures { IfOk result (λ step. on_said (said_of step) (moment_of moment.new) ≡ acts (around_of around.entry) (cmd_of (program_of around.entry.program.now) k.now) (moment_of moment.old)) }
 {
     match k {
         Cmd::Check(group, ks) => Ok(check(around.set, seen(around, moment), *group, ks)),
@@ -58,7 +58,7 @@ pub fn commands(
     moment: &mut Moment<'_>,
     ks: &[Cmd<'_>],
 ) -> Result<Step, AllocError>
-    ensures { IfOk result (λ step. on_said (said_of step) (moment_of moment.new) ≡ acts_each (program_of around.entry.program.now) (around_of around.entry) ks.now (moment_of moment.old)) }
+    ensures { IfOk result (λ step. on_said (said_of step) (moment_of moment.new) ≡ acts_each (around_of around.entry) (map (cmd_of (program_of around.entry.program.now)) ks.now) (moment_of moment.old)) }
 {
     for k in ks {
         match command(around, moment, k)? {

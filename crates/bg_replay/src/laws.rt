@@ -4,6 +4,7 @@ ghost use Rattle.bg_ast.specs.Resolved as r;
 ghost use Rattle.bg_ast.specs.Meaning as mean;
 ghost use Rattle.bg_ast.specs.Execution.{Interp};
 ghost use Rattle.bg_sense.specs.Run.{induction_run};
+ghost use Rattle.bg_flow.specs.Blocks as flow;
 ghost use Rattle.bg_blocks.specs.Whole.{AreBlocks};
 ghost use Rattle.bg_blocks.specs.declared.block.Block.{Block};
 ghost use Rattle.bg_replay.specs.Moments.{choice_of, Moment, Around};
@@ -23,5 +24,5 @@ pub fn replays_are_induction_runs()
 
 /// A run of blocks over truth values, from as many values as variables are declared, meets nothing else.
 pub fn runs_over_truths_tell()
-    ensures { (a : Around) → length a.before ≡ a.globals → (p : r.Program) (k : ℕ) (bs : List Block) (m : Moment) → over_blocks p a.globals a.frame bs ≡ true → Sized a m → Tells (runs p a k bs m) }
+    ensures { (a : Around) → length a.before ≡ a.globals → (k : ℕ) (bs : List flow.Block) (m : Moment) → over_blocks a.globals a.frame bs ≡ true → Sized a m → Tells (runs a k bs m) }
 {}

@@ -1,8 +1,8 @@
 //! Runs of blocks.
-ghost use Rattle.std.specs.Prelude.{◌≡◌, [], ◌∷◌, IfOk};
+ghost use Rattle.std.specs.Prelude.{◌≡◌, [], ◌∷◌, map, IfOk};
 ghost use Rattle.bg_ast.specs.Meaning as m;
 ghost use Rattle.bg_ast.specs.Views.{program_of, guard_of};
-ghost use Rattle.bg_blocks.specs.Views.{exit_of};
+ghost use Rattle.bg_blocks.specs.Views.{exit_of, block_of};
 ghost use Rattle.bg_replay.specs.Acts.{moved};
 ghost use Rattle.bg_replay.specs.Ways.{branched, branch_to, decided, leaves, runs};
 ghost use Rattle.bg_flow.specs.Blocks.{Leap};
@@ -77,7 +77,7 @@ pub fn run(
     moment: &mut Moment<'_>,
     blocks: &[Block<'_>],
 ) -> Result<Ending, AllocError>
-    ensures { IfOk result (λ ending. said_by ending ≡ runs (program_of around.entry.program.now) (around_of around.entry) 0 blocks.now (moment_of moment.old)) }
+    ensures { IfOk result (λ ending. said_by ending ≡ runs (around_of around.entry) 0 (map (block_of (program_of around.entry.program.now)) blocks.now) (moment_of moment.old)) }
 {
     let mut rest = blocks;
     while let Some((b, after)) = rest.split_first() {

@@ -23,12 +23,13 @@ fn frame_size(m: &Implementation, q: &Procedure) -> Result<usize, AllocError>
     }
 }
 
-/// Whether the globals and the variables of the frame are declared as truth values.
+/// Whether the globals and the variables of the frame are truth values.
 fn are_declared(program: &Resolved, m: &Implementation, q: &Procedure) -> bool
     ensures { result ≡ are_declared (program_of program.now) (impl_of m.now) (proc_of q.now) }
 {
-    are_bools(&program.globals)
-        && (are_bools(&q.params) && (are_bools(&q.results) && are_bools(&m.locals)))
+    are_bools(program, &program.globals)
+        && (are_bools(program, &q.params)
+            && (are_bools(program, &q.results) && are_bools(program, &m.locals)))
 }
 
 /// How many globals are declared.

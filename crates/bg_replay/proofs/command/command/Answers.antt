@@ -1,9 +1,8 @@
-use Rattle.std.proofs.Common.{map, sym, ap, ◌∙◌}
+use Rattle.std.proofs.Common.{sym, ap, ◌∙◌}
 use Rattle.std.proofs.lemmas.Result.{IfOk-weaker}
-use Rattle.bg_ast.specs.Views.{program_of, declared_of}
+use Rattle.bg_ast.specs.Views.{program_of}
 use Rattle.bg_blocks.specs.Views.{cmd_of}
 use Rattle.bg_replay.specs.Acts.{acts}
-use Rattle.bg_replay.specs.Ways.{are_bools, is_plain}
 use Rattle.bg_replay.specs.Views.{moment_of, around_of}
 use Rattle.bg_replay.proofs.Plans.{plan_called}
 use Rattle.bg_replay.proofs.command.command.Goals as goal
@@ -15,5 +14,5 @@ returns-in-Perform c =
     let a = around_of c.args.around in
     let n = moment_of c.args.moment.now in
     IfOk-weaker c.call.result _ _
-    (λ step h. h ∙ (plan_called p c.in-Perform.k.now q c.in-Perform.xs.now (are_bools (map declared_of q.results.items)) a n ∙ ap (λ k. acts (is_plain k) a (cmd_of p k) n) (sym c.in-Perform.is)))
+    (λ step h. h ∙ (plan_called p c.in-Perform.k.now q c.in-Perform.xs.now a n ∙ ap (λ k. acts a (cmd_of p k) n) (sym c.in-Perform.is)))
     c.call.ensures
