@@ -13,10 +13,10 @@ use Rattle.clap.specs.Faults.{turn_fault, walk_fault, settle_fault, fault_of, le
 use Rattle.clap.specs.ValueTests.{accepts, is_numeral, fits_i64}
 use Rattle.clap.proofs.FaultLemmas.{stopped_fault}
 use Rattle.clap.proofs.OnLiterals.{clap_on_literals}
-use Rattle.bg_cli.specs.Cli.{cli, nodes, files, verify, IsTaken, Plain, AllPlain, IsBudget, rows_in, files_in, nodes_in, files_of, nodes_of, number_or}
+use Rattle.bg_cli.specs.Cli.{cli, nodes, most_rows, files, verify, IsTaken, Plain, AllPlain, IsBudget, rows_in, files_in, nodes_in, most_rows_in, files_of, nodes_of, most_rows_of, number_or}
 
 abbrev rules : List Rule
-rules = filled_from 1 (nodes ∷ files ∷ help_rule ∷ [])
+rules = filled_from 1 (nodes ∷ most_rows ∷ files ∷ help_rule ∷ [])
 
 -- files are being read
 abbrev reading : List Row → List Text → Walk
@@ -132,6 +132,9 @@ plain_taken own f fs h n = plain_fine own f fs h n
 pub plain_files : (own f : Text) (fs : List Text) → AllPlain (f ∷ fs) → files_in (own ∷ codes "verify" ∷ f ∷ fs) ≡ f ∷ fs
 plain_files own f fs h = ap files_of (plain_rows own f fs h)
 
+pub plain_rows_number : (own f : Text) (fs : List Text) → AllPlain (f ∷ fs) → most_rows_in (own ∷ codes "verify" ∷ f ∷ fs) ≡ 20000
+plain_rows_number own f fs h = ap most_rows_of (plain_rows own f fs h)
+
 pub plain_nodes : (own f : Text) (fs : List Text) → AllPlain (f ∷ fs) → nodes_in (own ∷ codes "verify" ∷ f ∷ fs) ≡ 20000
 plain_nodes own f fs h = ap nodes_of (plain_rows own f fs h)
 
@@ -236,3 +239,107 @@ unsigned n k =
 
 pub option_nodes : (own n f : Text) (fs : List Text) → IsBudget n → AllPlain (f ∷ fs) → nodes_in (own ∷ codes "verify" ∷ asks n (f ∷ fs)) ≡ digits_value 10 (without_leading_plus n)
 option_nodes own n f fs k h = ap nodes_of (option_rows own n f fs k h) ∙ ap (λ t. number_or 20000 (Some t)) (as_plain n k.is_plain).0 ∙ rw (unsigned n k) refl
+
+pub option_rows_number : (own n f : Text) (fs : List Text) → IsBudget n → AllPlain (f ∷ fs) → most_rows_in (own ∷ codes "verify" ∷ asks n (f ∷ fs)) ≡ 20000
+option_rows_number own n f fs k h = ap most_rows_of (option_rows own n f fs k h)
+
+-- the number of rows was read behind that of nodes, and no file yet
+abbrev both_numbered : Text → Text → Walk
+both_numbered n m =
+    record {
+      held = record { rows = number_row n; pending = Some (codes "rows", m ∷ []); skip = 0 };
+      waiting = idle;
+      position = 1;
+      is_trailing = false;
+      stopped = None;
+    }
+
+abbrev asked_more : Text → Walk
+asked_more n =
+    record (walk_from nothing_held) {
+      held = record { rows = number_row n; pending = Some (codes "rows", []); skip = 0 };
+      waiting = option (codes "rows");
+    }
+
+second_walk : (n : Text) → walked rules [] (numbered n) (codes "--rows") ≡ asked_more n
+unfolding clap_on_literals
+second_walk n = refl
+
+second_fine : (n : Text) → IsBudget n → turn_fault leaf [] (numbered n) (codes "--rows") ≡ []
+unfolding clap_on_literals
+second_fine n k = simp (k.passes) refl
+
+more_walk : (n m : Text) → Plain m → walked rules [] (asked_more n) m ≡ both_numbered n m
+unfolding clap_on_literals
+more_walk n [] h = absurd h
+more_walk n (b ∷ bs) h = simp h refl
+
+more_fine : (n m : Text) → Plain m → turn_fault leaf [] (asked_more n) m ≡ []
+unfolding clap_on_literals
+more_fine n [] h = absurd h
+more_fine n (b ∷ bs) h = simp h refl
+
+abbrev both_row : Text → Text → List Row
+both_row n m = used (filled most_rows) (m ∷ []) (number_row n)
+
+both_file_walk : (n m f : Text) → Plain f → walked rules [] (both_numbered n m) f ≡ reading (both_row n m) (f ∷ [])
+unfolding clap_on_literals
+both_file_walk n m [] h = absurd h
+both_file_walk n m (b ∷ bs) h = simp h refl
+
+both_file_fine : (n m f : Text) → IsBudget m → Plain f → turn_fault leaf [] (both_numbered n m) f ≡ []
+unfolding clap_on_literals
+both_file_fine n m [] k h = absurd h
+both_file_fine n m (b ∷ bs) k h = simp (h, k.passes) refl
+
+abbrev asks_both : Text → Text → List Text → List Text
+asks_both n m ws = codes "--nodes" ∷ n ∷ codes "--rows" ∷ m ∷ ws
+
+both_files_walk : (n m f : Text) (fs : List Text) → IsBudget n → IsBudget m → AllPlain (f ∷ fs) → walk rules [] nothing_held (asks_both n m (f ∷ fs)) ≡ reading (both_row n m) (f ∷ fs)
+both_files_walk n m f fs k l h =
+    ap (λ s. fold (walked rules []) s (n ∷ codes "--rows" ∷ m ∷ f ∷ fs)) option_walk
+    ∙ ap (λ s. fold (walked rules []) s (codes "--rows" ∷ m ∷ f ∷ fs)) (number_walk n k.is_plain)
+    ∙ ap (λ s. fold (walked rules []) s (m ∷ f ∷ fs)) (second_walk n)
+    ∙ ap (λ s. fold (walked rules []) s (f ∷ fs)) (more_walk n m l.is_plain)
+    ∙ ap (λ s. fold (walked rules []) s fs) (both_file_walk n m f h.0) ∙ more (both_row n m) (f ∷ []) fs h.1
+
+both_settled : (n m f : Text) (fs : List Text) → length (f ∷ fs) ≤ usize_max → settle_fault rules false (reading (both_row n m) (f ∷ fs)).held ≡ []
+both_settled n m f fs a = ap₂ or_else (many_pass (length (f ∷ fs)) (omega arith) a) (texts_pass (f ∷ fs))
+
+both_words_fine : (n m f : Text) (fs : List Text) → IsBudget n → IsBudget m → AllPlain (f ∷ fs) → walk_fault leaf [] (walk_from nothing_held) (asks_both n m (f ∷ fs)) ≡ []
+unfolding walk_fault
+both_words_fine n m f fs k l h =
+    ap₂ or_else option_fine (ap (λ s. walk_fault leaf [] s (n ∷ codes "--rows" ∷ m ∷ f ∷ fs)) option_walk
+    ∙ ap₂ or_else (number_fine n k.is_plain) (ap (λ s. walk_fault leaf [] s (codes "--rows" ∷ m ∷ f ∷ fs)) (number_walk n k.is_plain)
+    ∙ ap₂ or_else (second_fine n k) (ap (λ s. walk_fault leaf [] s (m ∷ f ∷ fs)) (second_walk n)
+    ∙ ap₂ or_else (more_fine n m l.is_plain) (ap (λ s. walk_fault leaf [] s (f ∷ fs)) (more_walk n m l.is_plain)
+    ∙ ap₂ or_else (both_file_fine n m f l h.0) (ap (λ s. walk_fault leaf [] s fs) (both_file_walk n m f h.0) ∙ words_fine (both_row n m) (f ∷ []) fs h.1)))))
+
+both_leaf_fine : (n m f : Text) (fs : List Text) → IsBudget n → IsBudget m → AllPlain (f ∷ fs) → length (f ∷ fs) ≤ usize_max → level_fault leaf [] nothing_held (asks_both n m (f ∷ fs)) false [] ≡ []
+unfolding defaults_fault
+both_leaf_fine n m f fs k l h a =
+    ap₂ after_words (both_words_fine n m f fs k l h) (both_files_walk n m f fs k l h) ∙ ap (λ x. or_else x []) (both_settled n m f fs a)
+
+pub both_taken : (own n m f : Text) (fs : List Text) → IsBudget n → IsBudget m → AllPlain (f ∷ fs) → length (f ∷ fs) ≤ usize_max → IsTaken (own ∷ codes "verify" ∷ asks_both n m (f ∷ fs))
+unfolding defaults_fault cli
+both_taken own n m f fs k l h a =
+    ap₂ whole (top_first (asks_both n m (f ∷ fs))) (top_walk (asks_both n m (f ∷ fs))) ∙ ap (λ x. or_else x []) (both_leaf_fine n m f fs k l h a)
+
+both_rows : (own n m f : Text) (fs : List Text) → IsBudget n → IsBudget m → AllPlain (f ∷ fs) → rows_in (own ∷ codes "verify" ∷ asks_both n m (f ∷ fs)) ≡ finished rules (reading (both_row n m) (f ∷ fs)).held
+unfolding cli
+both_rows own n m f fs k l h =
+    ap (λ w. unwrap_or (option_map (λ p. p.1) (entered command w.stopped)) []) (top_walk (asks_both n m (f ∷ fs))) ∙ ap (λ w. finished rules w.held) (both_files_walk n m f fs k l h)
+
+pub both_files : (own n m f : Text) (fs : List Text) → IsBudget n → IsBudget m → AllPlain (f ∷ fs) → files_in (own ∷ codes "verify" ∷ asks_both n m (f ∷ fs)) ≡ f ∷ fs
+both_files own n m f fs k l h = ap files_of (both_rows own n m f fs k l h)
+
+read_number : (n : Text) → IsBudget n → number_or 20000 (Some n) ≡ digits_value 10 (without_leading_plus n)
+read_number n k = rw (unsigned n k) refl
+
+pub both_nodes : (own n m f : Text) (fs : List Text) → IsBudget n → IsBudget m → AllPlain (f ∷ fs) → nodes_in (own ∷ codes "verify" ∷ asks_both n m (f ∷ fs)) ≡ digits_value 10 (without_leading_plus n)
+both_nodes own n m f fs k l h =
+    ap nodes_of (both_rows own n m f fs k l h) ∙ ap (λ t. number_or 20000 (Some t)) (as_plain n k.is_plain).0 ∙ read_number n k
+
+pub both_rows_number : (own n m f : Text) (fs : List Text) → IsBudget n → IsBudget m → AllPlain (f ∷ fs) → most_rows_in (own ∷ codes "verify" ∷ asks_both n m (f ∷ fs)) ≡ digits_value 10 (without_leading_plus m)
+both_rows_number own n m f fs k l h =
+    ap most_rows_of (both_rows own n m f fs k l h) ∙ ap (λ t. number_or 20000 (Some t)) (as_plain m l.is_plain).0 ∙ read_number m l

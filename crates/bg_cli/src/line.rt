@@ -1,8 +1,9 @@
 //! From the words of a command line to what is asked.
-ghost use Rattle.std.specs.Prelude.{◌≡◌, ◌≢◌, IfOk, IsErrOf, map, codes};
+ghost use Rattle.std.specs.Prelude.{◌≡◌, ◌≢◌, IfOk, IsErrOf, map, codes, false};
+ghost use Rattle.clap.specs.Walk.{rule_of};
 ghost use Rattle.clap.specs.Words.{app_of, found_of, kind_of, rows_of};
 ghost use Rattle.bg_cli.specs.declared.line.LineError.TheVariants.{Memory};
-ghost use Rattle.bg_cli.specs.Cli.{cli, texts_of, IsTaken, files_in, nodes_in, files_of, nodes_of, rows_for};
+ghost use Rattle.bg_cli.specs.Cli.{cli, budget, texts_of, IsTaken, files_in, nodes_in, most_rows_in, files_of, nodes_of, most_rows_of, rows_for};
 
 use clap::error::ErrorKind;
 use clap::{Arg, ArgAction, ArgMatches, Command, Error, value_parser};
@@ -11,11 +12,16 @@ use std::alloc::{AllocError, Global};
 /// The most inner nodes of a certificate's tree, where the words say nothing of it.
 pub const NODES: u32 = 20_000;
 
-/// What a command line asks: the files in order, and the most inner nodes of a certificate's tree.
+/// The most rows of an elimination, where the words say nothing of it.
+pub const ROWS: u32 = 20_000;
+
+/// What a command line asks: the files in order, the most inner nodes of a certificate's tree, and the most rows that an elimination
+/// keeps.
 #[derive(Drop)]
 pub struct Line<'a> {
     pub files: Vec<&'a str>,
     pub nodes: u32,
+    pub rows: u32,
 }
 
 /// Why nothing is asked.
@@ -27,20 +33,32 @@ pub enum LineError {
     Memory,
 }
 
-/// The command `bg verify [--nodes N] FILE..`.
+/// An option with a number from 1 to 1,000,000, which is 20,000 where it isn't given.
+fn budget<'a>(alloc: Global, name: &'a str) -> Arg<'a>
+    ensures rule { rule_of result ≡ budget name.now }
+    ensures own { result.global ≡ false }
+{
+    Arg::new(alloc, name)
+        .long(name)
+        .value_parser(value_parser!(u32).range(1..=1_000_000))
+        .action(ArgAction::Set)
+        .default_value("20000")
+}
+
+/// The command `bg verify [--nodes N] [--rows N] FILE..`.
 pub fn cli<'a>(alloc: Global) -> Result<Command<'a>, AllocError>
     ensures { IfOk result (λ c. app_of c ≡ cli) }
 {
-    let nodes = Arg::new(alloc, "nodes")
-        .long("nodes")
-        .value_parser(value_parser!(u32).range(1..=1_000_000))
-        .action(ArgAction::Set)
-        .default_value("20000");
+    let nodes = budget(alloc, "nodes");
+    let rows = budget(alloc, "rows");
     let files = Arg::new(alloc, "FILE")
         .required(true)
         .num_args(1..)
         .action(ArgAction::Append);
-    let verify = Command::new(alloc, "verify").arg(nodes)?.arg(files)?;
+    let verify = Command::new(alloc, "verify")
+        .arg(nodes)?
+        .arg(rows)?
+        .arg(files)?;
     Command::new(alloc, "bg")
         .subcommand_required(true)
         .subcommand(verify)
@@ -74,20 +92,30 @@ fn nodes_of(verify: &ArgMatches<'_>) -> u32
     verify.get_one::<u32>("nodes").unwrap_or(NODES)
 }
 
+/// The number of rows that the matches of `verify` hold.
+fn most_rows_of(verify: &ArgMatches<'_>) -> u32
+    ensures { result ≡ most_rows_of (rows_of (found_of verify.now)) }
+{
+    verify.get_one::<u32>("rows").unwrap_or(ROWS)
+}
+
 /// What the matches ask.
 fn line_of<'a>(alloc: Global, matches: &ArgMatches<'a>) -> Result<Line<'a>, AllocError>
     ensures files { IfOk result (λ line. map (λ file. file.now) line.files.items ≡ files_of (rows_for matches.now)) }
     ensures nodes { IfOk result (λ line. line.nodes ≡ nodes_of (rows_for matches.now)) }
+    ensures rows { IfOk result (λ line. line.rows ≡ most_rows_of (rows_for matches.now)) }
 {
     let Some((_, verify)) = matches.subcommand() else {
         return Ok(Line {
             files: Vec::new(alloc),
             nodes: NODES,
+            rows: ROWS,
         });
     };
     Ok(Line {
         files: files_of(alloc, verify)?,
         nodes: nodes_of(verify),
+        rows: most_rows_of(verify),
     })
 }
 
@@ -99,6 +127,7 @@ pub fn read_line<'a>(alloc: Global, words: &'a [String]) -> Result<Line<'a>, Lin
     ensures taken { IfOk result (λ line. IsTaken (texts_of words.now)) }
     ensures files { IfOk result (λ line. map (λ file. file.now) line.files.items ≡ files_in (texts_of words.now)) }
     ensures nodes { IfOk result (λ line. line.nodes ≡ nodes_in (texts_of words.now)) }
+    ensures rows { IfOk result (λ line. line.rows ≡ most_rows_in (texts_of words.now)) }
     ensures refused { IsErrOf result LineError.Usage → IsTaken (texts_of words.now) → ⊥ }
 {
     let matches = match cli(alloc)?.try_get_matches_from(words) {

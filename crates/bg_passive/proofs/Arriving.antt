@@ -5,14 +5,14 @@ use Rattle.std.proofs.lemmas.Bool.{eqb-true, eq-eqb}
 use Rattle.bg_ast.specs.Values.{Ty}
 use Rattle.bg_ast.specs.Syntax.{Prog, Proc, Impl, Var, Global, Local, Exs, NoMore, More, Decl}
 use Rattle.bg_ast.specs.Execution.{Interp, State}
-use Rattle.bg_sense.specs.Context.{Turning}
+use Rattle.bg_sense.specs.Context.{Ctx, Turning}
 use Rattle.bg_sense.specs.Variables.{type_in, count_from}
 use Rattle.bg_sense.specs.Run.{context}
 use Rattle.bg_sense.specs.Types.{types_of}
 use Rattle.bg_sense.specs.Typing.{Sig, HaveTypes, sig_of, IsTypedSt}
 use Rattle.bg_calls.specs.Core.{Cmd, Check, Suppose, Forget, Put, Perform, Finish, frame_decls, routine_of}
 use Rattle.bg_flow.specs.Blocks.{Block, blocks_of}
-use Rattle.bg_passive.specs.Incarnations.{Env, hold, hold_all, hold_next, after_vars, after_exs, after_decls, each_ex, each_decl, pass, pass_all, Arrival, ty_of, TypesFrom, FitsCmd, FitsCmds, Below, EnvBelow, ForBool, JoinsFit, after_joins, FitsJoin, FitEach, targets_of, FitsBlocks, IsTypedCmd, AreTypedCmds, AreTypedBlocks, entry_env, incarnations, MakesPassive}
+use Rattle.bg_passive.specs.Incarnations.{Env, hold, hold_all, hold_next, after_vars, after_exs, after_decls, each_ex, each_decl, pass, pass_all, Arrival, ty_of, TypesFrom, FitsCmd, FitsCmds, Below, EnvBelow, ForBool, JoinsFit, after_joins, FitsJoin, FitEach, targets_of, FitsBlocks, IsTypedCmd, AreTypedCmds, AreTypedBlocks, entry_env, TypedNums, EnvTyped, ArrivalsTyped, incarnations, MakesPassive}
 use Rattle.bg_passive.specs.Arrivals.{all_begin, tails, merge, after_merge, merge_types, globals_in, frames_in, arrive_at, arrive_types, Ways, ways_here, ways_on, way_to, ways_to, cmd_types, cmds_types, arrive, arrived}
 use Rattle.bg_sense.proofs.Bools.{and_left, and_right}
 use Rattle.bg_passive.proofs.Renaming.{below_more, env_more}
@@ -70,25 +70,18 @@ merged_below n0 n (j ∷ js) os le b =
     on false x y = (let m = more_merged (suc n) js (tails os) in let g : n < after_merge (suc n) js (tails os) = omega arith in g, y)
 
 module _ (incs : List Ty) where
-  -- these incarnations have these types
-  abbrev TypedNums : List ℕ → List Ty → Type 0
-  TypedNums [] [] = Unit {0}
-  TypedNums [] (t ∷ ts) = ⊥
-  TypedNums (j ∷ js) [] = ⊥
-  TypedNums (j ∷ js) (t ∷ ts) = (slice_get incs j ≡ Some t) × TypedNums js ts
-
-  merged_typed : (n : ℕ) (js : List ℕ) (os : List (List ℕ)) (ts : List Ty) → TypedNums js ts → TypesFrom incs n (merge_types js os ts) → TypedNums (merge n js os) ts
+  merged_typed : (n : ℕ) (js : List ℕ) (os : List (List ℕ)) (ts : List Ty) → TypedNums incs js ts → TypesFrom incs n (merge_types js os ts) → TypedNums incs (merge n js os) ts
   merged_typed n [] os [] h f = tt
   merged_typed n [] os (t ∷ ts) h f = absurd h
   merged_typed n (j ∷ js) os [] h f = absurd h
   merged_typed n (j ∷ js) os (t ∷ ts) h f =
       on (all_begin j os) f (λ g. merged_typed n js (tails os) ts h.1 g) (λ g. merged_typed (suc n) js (tails os) ts h.1 g)
     where
-      on : (b : Bool) → TypesFrom incs n (if b then merge_types js (tails os) ts else t ∷ merge_types js (tails os) ts) → (TypesFrom incs n (merge_types js (tails os) ts) → TypedNums (merge n js (tails os)) ts) → (TypesFrom incs (suc n) (merge_types js (tails os) ts) → TypedNums (merge (suc n) js (tails os)) ts) → TypedNums (if b then j ∷ merge n js (tails os) else n ∷ merge (suc n) js (tails os)) (t ∷ ts)
+      on : (b : Bool) → TypesFrom incs n (if b then merge_types js (tails os) ts else t ∷ merge_types js (tails os) ts) → (TypesFrom incs n (merge_types js (tails os) ts) → TypedNums incs (merge n js (tails os)) ts) → (TypesFrom incs (suc n) (merge_types js (tails os) ts) → TypedNums incs (merge (suc n) js (tails os)) ts) → TypedNums incs (if b then j ∷ merge n js (tails os) else n ∷ merge (suc n) js (tails os)) (t ∷ ts)
       on true g x y = (h.0, x g)
       on false g x y = (g.0, y g.1)
 
-  merge_split : (n : ℕ) (js : List ℕ) (os : List (List ℕ)) (ts rest : List Ty) → TypedNums js ts → TypesFrom incs n (merge_types js os ts ++ rest) → TypesFrom incs n (merge_types js os ts) × TypesFrom incs (after_merge n js os) rest
+  merge_split : (n : ℕ) (js : List ℕ) (os : List (List ℕ)) (ts rest : List Ty) → TypedNums incs js ts → TypesFrom incs n (merge_types js os ts ++ rest) → TypesFrom incs n (merge_types js os ts) × TypesFrom incs (after_merge n js os) rest
   merge_split n [] os [] rest h f = (tt, f)
   merge_split n [] os (t ∷ ts) rest h f = absurd h
   merge_split n (j ∷ js) os [] rest h f = absurd h
@@ -112,7 +105,7 @@ module _ (incs : List Ty) where
       let e = other_test i n lt in
       (subst (λ x. ForBool x (JoinsFit incs n is js) (n ≤ n × ((ty : Ty) × ((slice_get incs i ≡ Some ty) × (slice_get incs n ≡ Some ty))) × JoinsFit incs (suc n) is js)) (sym e) (omega arith, (t, (gi, gn)), f.0), ap (λ x. if x then after_joins n is js else after_joins (suc n) is js) e ∙ f.1)
 
-  merge_fits : (n0 n : ℕ) (is js : List ℕ) (os : List (List ℕ)) (ts : List Ty) → n0 ≤ n → IsIn is os → TypedNums is ts → TypedNums js ts → Below n0 is → TypesFrom incs n (merge_types js os ts) → Fit n is (merge n js os) (after_merge n js os)
+  merge_fits : (n0 n : ℕ) (is js : List ℕ) (os : List (List ℕ)) (ts : List Ty) → n0 ≤ n → IsIn is os → TypedNums incs is ts → TypedNums incs js ts → Below n0 is → TypesFrom incs n (merge_types js os ts) → Fit n is (merge n js os) (after_merge n js os)
   merge_fits n0 n [] [] os [] le m hi hj b f = (tt, refl)
   merge_fits n0 n [] (j ∷ js) os [] le m hi hj b f = absurd hj
   merge_fits n0 n (i ∷ is) js os [] le m hi hj b f = absurd hi
@@ -149,7 +142,7 @@ module _ (incs : List Ty) where
       let y = joins_weaker (after_joins n v.globals a.env.globals) (after_joins m v.globals a.env.globals) v.frame a.env.frame x.1 f.3 in
       (let z = f.0 in omega arith, f.1, x.0, y.0)
 
-  nums_set : (ds : List Decl) (js : List ℕ) (x n : ℕ) → TypedNums js (types_of ds) → slice_get incs n ≡ Some (type_in (slice_get ds x)) → TypedNums (slice_set js x n) (types_of ds)
+  nums_set : (ds : List Decl) (js : List ℕ) (x n : ℕ) → TypedNums incs js (types_of ds) → slice_get incs n ≡ Some (type_in (slice_get ds x)) → TypedNums incs (slice_set js x n) (types_of ds)
   nums_set [] [] x n h e = tt
   nums_set [] (j ∷ js) x n h e = absurd h
   nums_set (d ∷ ds) [] x n h e = absurd h
@@ -163,12 +156,8 @@ module _ (incs : List Ty) where
     abbrev entry : Env
     entry = entry_env p ds
 
-    abbrev EnvTyped : Env → Type 0
-    EnvTyped v =
-        TypedNums v.globals (types_of p.globals) × (TypedNums v.frame (types_of ds) × (v.before ≡ entry.before))
-
     abbrev EnvOk : ℕ → Env → Type 0
-    EnvOk n v = EnvBelow n v × EnvTyped v
+    EnvOk n v = EnvBelow n v × EnvTyped incs p ds v
 
     abbrev AllOk : ℕ → List Env → Type 0
     AllOk n [] = Unit {0}
@@ -204,33 +193,33 @@ module _ (incs : List Ty) where
     ways_ok n (k ∷ ks) v ways e h = ways_ok n ks v (way_to k v ways) e (way_ok n k v ways e h)
 
     -- commands keep the incarnations typed
-    hold_typed : (x : Var) (n : ℕ) (v : Env) → EnvTyped v → slice_get incs n ≡ Some (tys x) → EnvTyped (hold x n v)
+    hold_typed : (x : Var) (n : ℕ) (v : Env) → EnvTyped incs p ds v → slice_get incs n ≡ Some (tys x) → EnvTyped incs p ds (hold x n v)
     hold_typed (Global x) n v h e = (nums_set p.globals v.globals x n h.0 e, h.1)
     hold_typed (Local x) n v h e = (h.0, (nums_set ds v.frame x n h.1.0 e, h.1.1))
 
-    hold_all_typed : (xs : List Var) (js : List ℕ) (v : Env) → EnvTyped v → TypedNums js (map tys xs) → EnvTyped (hold_all xs js v)
+    hold_all_typed : (xs : List Var) (js : List ℕ) (v : Env) → EnvTyped incs p ds v → TypedNums incs js (map tys xs) → EnvTyped incs p ds (hold_all xs js v)
     hold_all_typed [] js v h e = h
     hold_all_typed (x ∷ xs) [] v h e = h
     hold_all_typed (x ∷ xs) (j ∷ js) v h e = hold_all_typed xs js (hold x j v) (hold_typed x j v h e.0) e.1
 
-    vars_ok : (xs : List Var) (n : ℕ) (v : Env) (rest : List Ty) → EnvTyped v → TypesFrom incs n (map tys xs ++ rest) → TypesFrom incs n (map tys xs) × (EnvTyped (hold_next xs n v) × TypesFrom incs (after_vars xs n) rest)
+    vars_ok : (xs : List Var) (n : ℕ) (v : Env) (rest : List Ty) → EnvTyped incs p ds v → TypesFrom incs n (map tys xs ++ rest) → TypesFrom incs n (map tys xs) × (EnvTyped incs p ds (hold_next xs n v) × TypesFrom incs (after_vars xs n) rest)
     vars_ok [] n v rest h f = (tt, (h, f))
     vars_ok (x ∷ xs) n v rest h f =
         let z = vars_ok xs (suc n) (hold x n v) rest (hold_typed x n v h f.0) f.1 in ((f.0, z.0), z.1)
 
-    exs_ok : (es : Exs) (n : ℕ) (ts rest : List Ty) → HaveTypes es g ts → TypesFrom incs n (ts ++ rest) → TypesFrom incs n ts × (TypedNums (each_ex n es) ts × TypesFrom incs (after_exs es n) rest)
+    exs_ok : (es : Exs) (n : ℕ) (ts rest : List Ty) → HaveTypes es g ts → TypesFrom incs n (ts ++ rest) → TypesFrom incs n ts × (TypedNums incs (each_ex n es) ts × TypesFrom incs (after_exs es n) rest)
     exs_ok NoMore n [] rest h f = (tt, (tt, f))
     exs_ok NoMore n (t ∷ ts) rest h f = absurd (let bad : ⊥ = cc in bad)
     exs_ok (More e es) n [] rest h f = absurd h
     exs_ok (More e es) n (t ∷ ts) rest h f =
         let z = exs_ok es (suc n) ts rest h.1 f.1 in ((f.0, z.0), ((f.0, z.1.0), z.1.1))
 
-    decls_ok : (qs : List Decl) (n : ℕ) (rest : List Ty) → TypesFrom incs n (types_of qs ++ rest) → TypesFrom incs n (types_of qs) × (TypedNums (each_decl n qs) (types_of qs) × TypesFrom incs (after_decls qs n) rest)
+    decls_ok : (qs : List Decl) (n : ℕ) (rest : List Ty) → TypesFrom incs n (types_of qs ++ rest) → TypesFrom incs n (types_of qs) × (TypedNums incs (each_decl n qs) (types_of qs) × TypesFrom incs (after_decls qs n) rest)
     decls_ok [] n rest f = (tt, (tt, f))
     decls_ok (q ∷ qs) n rest f =
         let z = decls_ok qs (suc n) rest f.1 in ((f.0, z.0), ((f.0, z.1.0), z.1.1))
 
-    cmd_ok : (k : Cmd) (v : Env) (n : ℕ) (rest : List Ty) → IsTypedCmd g tys k → EnvTyped v → TypesFrom incs n (cmd_types tys k ++ rest) → FitsCmd incs tys k n × (EnvTyped (pass k v n).env × TypesFrom incs (pass k v n).next rest)
+    cmd_ok : (k : Cmd) (v : Env) (n : ℕ) (rest : List Ty) → IsTypedCmd g tys k → EnvTyped incs p ds v → TypesFrom incs n (cmd_types tys k ++ rest) → FitsCmd incs tys k n × (EnvTyped incs p ds (pass k v n).env × TypesFrom incs (pass k v n).next rest)
     cmd_ok (Check qs) v n rest t h f = (tt, (h, f))
     cmd_ok (Suppose qs) v n rest t h f = (tt, (h, f))
     cmd_ok (Forget xs) v n rest t h f = vars_ok xs n v rest h f
@@ -243,7 +232,7 @@ module _ (incs : List Ty) where
         let b = vars_ok k.modifies (after_exs k.args n) v (types_of k.results ++ rest) h f2 in
         let n2 = after_vars k.modifies (after_exs k.args n) in
         let d = decls_ok k.results n2 rest b.1.1 in
-        ((a.0, b.0, d.0), (hold_all_typed k.takes (each_decl n2 k.results) (hold_next k.modifies (after_exs k.args n) v) b.1.0 (subst (TypedNums (each_decl n2 k.results)) (sym t.1) d.1.0), d.1.1))
+        ((a.0, b.0, d.0), (hold_all_typed k.takes (each_decl n2 k.results) (hold_next k.modifies (after_exs k.args n) v) b.1.0 (subst (TypedNums incs (each_decl n2 k.results)) (sym t.1) d.1.0), d.1.1))
     cmd_ok Finish v n rest t h f = (tt, (h, f))
 
     pass_more : (k : Cmd) (v : Env) (n : ℕ) → n ≤ (pass k v n).next
@@ -392,6 +381,22 @@ module _ (incs : List Ty) where
         let u = ways_fit (targets_of b.exit) d.env d.next (ways_on ways) rest.arrivals z.1 in
         ((x.0.0, y.0, u.0, z.0), fit_here ways n a rest.arrivals (all_fit vs n (cmds_types tys b.cmds ++ rest.made) ho.0 f) (ways_weaker (ways_on ways) n d.next rest.arrivals le u.1))
 
+    arrive_typed : (bs : List Block) (ways : Ways) (n : ℕ) → AreTypedBlocks g tys bs → WaysOk n ways → EnvOk n entry → TypesFrom incs n (arrive p ds bs ways n).made → ArrivalsTyped incs p ds (arrive p ds bs ways n).arrivals
+    arrive_typed [] ways n t h e f = tt
+    arrive_typed (b ∷ bs) ways n t h e f =
+        let vs = ways_here ways in
+        let a = arrive_at entry vs n in
+        let d = pass_all b.cmds a.env a.next in
+        let ways' = ways_to (targets_of b.exit) d.env (ways_on ways) in
+        let rest = arrive p ds bs ways' d.next in
+        let ho = here_ok n ways h in
+        let x = arrival_ok vs n (cmds_types tys b.cmds ++ rest.made) ho.0 e f in
+        let y = cmds_ok b.cmds a.env a.next rest.made t.0 x.0 x.1.0 in
+        let le1 : n ≤ a.next = x.1.1 in
+        let le2 : a.next ≤ d.next = y.1.1.1 in
+        let le : n ≤ d.next = omega arith in
+        (x.0.1, arrive_typed bs ways' d.next t.1 (ways_ok d.next (targets_of b.exit) d.env (ways_on ways) y.1.0 (ways_more n d.next (ways_on ways) le ho.1)) (env_on n d.next entry le e) y.1.1.0)
+
 -- the incarnations at first
 nums_shift : (incs : List Ty) (x : Ty) (k n : ℕ) (ts : List Ty) → TypedNums incs (count_from k n) ts → TypedNums (x ∷ incs) (count_from (suc k) n) ts
 nums_shift incs x k zero [] h = tt
@@ -426,17 +431,42 @@ count_below : (k n m : ℕ) → k + n ≤ m → Below m (count_from k n)
 count_below k zero m le = tt
 count_below k (suc n) m le = (omega arith, count_below (suc k) n m (omega arith))
 
-pub arrived_fit : (p : Prog) (set : ℕ → Bool) (i : Interp) (k : ℕ) (m : Impl) (q : Proc) (s : State) → IsTypedSt (context Turning p set i k m q s) m.body → MakesPassive p (frame_decls m q) (arrived p (frame_decls m q) (blocks_of (routine_of p k m q))).made (arrived p (frame_decls m q) (blocks_of (routine_of p k m q))).arrivals (blocks_of (routine_of p k m q))
-arrived_fit p set i k m q s typed =
-    let c = context Turning p set i k m q s in
-    let ds = frame_decls m q in
-    let bs = blocks_of (routine_of p k m q) in
-    let n0 = length p.globals + length ds in
-    let made = (arrived p ds bs).made in
-    let incs = incarnations p ds made in
-    let ty : EnvTyped incs p ds (sig_of c) (entry_env p ds) = (nums_first p.globals (types_of ds ++ made), (nums_behind p.globals (types_of ds ++ made) (length ds) (types_of ds) (nums_first ds made), refl)) in
-    let b : EnvBelow n0 (entry_env p ds) = (count_below 0 (length p.globals) n0 (omega arith), count_below 0 (length p.globals) n0 (omega arith), count_below (length p.globals) (length ds) n0 (omega arith)) in
-    let e : length ds + 0 ≡ length ds = omega arith in
-    let f : TypesFrom incs n0 made = from_behind p.globals (types_of ds ++ made) (length ds) made (subst (λ j. TypesFrom (types_of ds ++ made) j made) e (from_behind ds made 0 made (from_self made))) in
-    let z = arrive_fits incs p ds (sig_of c) bs [] n0 (blocks_typed c m q k refl typed) tt (b, ty) f in
-    (refl, z.0)
+module _ (p : Prog) (set : ℕ → Bool) (i : Interp) (k : ℕ) (m : Impl) (q : Proc) (s : State) (typed : IsTypedSt (context Turning p set i k m q s) m.body) where
+  abbrev c : Ctx
+  c = context Turning p set i k m q s
+
+  abbrev ds : List Decl
+  ds = frame_decls m q
+
+  abbrev bs : List Block
+  bs = blocks_of (routine_of p k m q)
+
+  abbrev n0 : ℕ
+  n0 = length p.globals + length ds
+
+  abbrev made : List Ty
+  made = (arrived p ds bs).made
+
+  abbrev incs : List Ty
+  incs = incarnations p ds made
+
+  first_typed : EnvTyped incs p ds (entry_env p ds)
+  first_typed =
+      (nums_first p.globals (types_of ds ++ made), (nums_behind p.globals (types_of ds ++ made) (length ds) (types_of ds) (nums_first ds made), refl))
+
+  first_below : EnvBelow n0 (entry_env p ds)
+  first_below =
+      (count_below 0 (length p.globals) n0 (omega arith), count_below 0 (length p.globals) n0 (omega arith), count_below (length p.globals) (length ds) n0 (omega arith))
+
+  made_from : TypesFrom incs n0 made
+  made_from =
+      let e : length ds + 0 ≡ length ds = omega arith in
+      from_behind p.globals (types_of ds ++ made) (length ds) made (subst (λ j. TypesFrom (types_of ds ++ made) j made) e (from_behind ds made 0 made (from_self made)))
+
+  pub arrived_fit : MakesPassive p ds made (arrived p ds bs).arrivals bs
+  arrived_fit =
+      (refl, (arrive_fits incs p ds (sig_of c) bs [] n0 (blocks_typed c m q k refl typed) tt (first_below, first_typed) made_from).0)
+
+  pub arrived_typed : ArrivalsTyped incs p ds (arrived p ds bs).arrivals
+  arrived_typed =
+      arrive_typed incs p ds (sig_of c) bs [] n0 (blocks_typed c m q k refl typed) tt (first_below, first_typed) made_from

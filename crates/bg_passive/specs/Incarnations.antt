@@ -266,6 +266,23 @@ entry_env p ds =
       frame = count_from (length p.globals) (length ds);
     }
 
+-- these incarnations have these types, one for each
+abbrev pub TypedNums : List Ty → List ℕ → List Ty → Type 0
+TypedNums incs [] [] = Unit {0}
+TypedNums incs [] (t ∷ ts) = ⊥
+TypedNums incs (j ∷ js) [] = ⊥
+TypedNums incs (j ∷ js) (t ∷ ts) = (slice_get incs j ≡ Some t) × TypedNums incs js ts
+
+-- each variable's incarnation has the type of the variable, and the globals at entry are the first incarnations
+abbrev pub EnvTyped : List Ty → Prog → List Decl → Env → Type 0
+EnvTyped incs p ds v =
+    TypedNums incs v.globals (types_of p.globals)
+    × (TypedNums incs v.frame (types_of ds) × (v.before ≡ (entry_env p ds).before))
+
+abbrev pub ArrivalsTyped : List Ty → Prog → List Decl → List Arrival → Type 0
+ArrivalsTyped incs p ds [] = Unit {0}
+ArrivalsTyped incs p ds (a ∷ later) = EnvTyped incs p ds a.env × ArrivalsTyped incs p ds later
+
 -- the types of all incarnations: those of the variables at first, and those of the others
 abbrev pub incarnations : Prog → List Decl → List Ty → List Ty
 incarnations p ds others = types_of p.globals ++ (types_of ds ++ others)

@@ -16,7 +16,7 @@ ghost use Rattle.bg_sense.specs.Claims.{Safe, IsState, EachAt};
 ghost use Rattle.bg_calls.specs.Core.{frame_decls, routine_of, still};
 ghost use Rattle.bg_flow.specs.Blocks.{blocks_of};
 ghost use Rattle.bg_passive.specs.Passive.{walk_at, walks, SomeWalk};
-ghost use Rattle.bg_passive.specs.Incarnations.{Arrival, passives, MakesPassive, passive_scope, ValuesFrom};
+ghost use Rattle.bg_passive.specs.Incarnations.{Arrival, passives, MakesPassive, passive_scope, ValuesFrom, incarnations, ArrivalsTyped};
 ghost use Rattle.bg_passive.specs.Arrivals.{arrived};
 ghost use Rattle.bg_passive.specs.ReadBack.{choices_at, walk_choices};
 
@@ -50,4 +50,12 @@ pub fn arrivals_fit()
         (arrived p (frame_decls m q) (blocks_of (routine_of p k m q))).made
         (arrived p (frame_decls m q) (blocks_of (routine_of p k m q))).arrivals
         (blocks_of (routine_of p k m q)) }
+{}
+
+/// At each arrival that is computed each variable's incarnation has the variable's type.
+pub fn arrivals_are_typed()
+    ensures { (p : Prog) (set : ℕ → Bool) (i : Interp) (k : ℕ) (m : Impl) (q : Proc) (s : State) →
+        IsTypedSt (context Turning p set i k m q s) m.body →
+        ArrivalsTyped (incarnations p (frame_decls m q) (arrived p (frame_decls m q) (blocks_of (routine_of p k m q))).made) p (frame_decls m q)
+        (arrived p (frame_decls m q) (blocks_of (routine_of p k m q))).arrivals }
 {}

@@ -1,0 +1,5 @@
+mod Renamed
+mod Commands
+mod Passing
+mod Bodies
+mod Whole

@@ -1,0 +1,4 @@
+pub mod Below
+mod Onward
+mod Alike
+mod Truths
