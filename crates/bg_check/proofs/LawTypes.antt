@@ -30,7 +30,8 @@ use Rattle.bg_formula.specs.Instances.{Instance, SignedAtom, atoms_of}
 use Rattle.bg_cert.specs.Certs.{NodeOf, Accepts, HasNoValuation, uses}
 use Rattle.bg_incarnate.specs.Even.{BlocksEven}
 use Rattle.bg_clause.specs.Fitting.{fit_blocks}
-use Rattle.bg_clause.specs.Whole.{clauses_of, truth_values, are_truths}
+use Rattle.bg_forms.specs.Worth.{truth_values, are_truths}
+use Rattle.bg_clause.specs.Whole.{clauses_of}
 use Rattle.bg_places.specs.Placed.{placed, place_in}
 use Rattle.bg_fits.specs.Truths.{is_over_truths}
 use Rattle.bg_truths.specs.Passives.{blocks_in, incarnations_in, passives_in, no_interp}

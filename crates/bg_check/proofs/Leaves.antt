@@ -13,7 +13,7 @@ use Rattle.bg_cert.specs.declared.cert.Decision.TheVariants.{Atom, AtMost}
 use Rattle.bg_cert.specs.Paths.{decides, clause_false}
 use Rattle.bg_cert.specs.Causes.{is_decided, any_false, all_decided, units_of}
 use Rattle.bg_tree.specs.Trees.{IsLeaf}
-use Rattle.bg_clause.specs.Whole.{truth_values}
+use Rattle.bg_forms.specs.Worth.{truth_values}
 use Rattle.bg_check.specs.Leaves.{marked}
 use Rattle.bg_check.proofs.Formulas.{IsPlainFormula, at_truth, less_true}
 

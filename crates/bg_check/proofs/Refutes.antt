@@ -28,8 +28,10 @@ use Rattle.bg_blocks.specs.Views.{block_of}
 use Rattle.bg_incarnate.specs.declared.blocks.PassiveBlock as code
 use Rattle.bg_incarnate.specs.Views.{passive_block_of}
 use Rattle.bg_incarnate.specs.Even.{BlocksEven}
-use Rattle.bg_clause.specs.Fitting.{fits_ex, fits_candidate, fits_cmds, fit_edges, fit_blocks}
-use Rattle.bg_clause.specs.Whole.{formula, clauses_of, truth_values, are_truths}
+use Rattle.bg_forms.specs.Fitting.{fits_ex}
+use Rattle.bg_clause.specs.Fitting.{fits_candidate, fits_cmds, fit_edges, fit_blocks}
+use Rattle.bg_forms.specs.Worth.{truth_values, are_truths}
+use Rattle.bg_clause.specs.Whole.{formula, clauses_of}
 use Rattle.bg_replay.specs.Views.{set_of}
 use Rattle.bg_replay.specs.Moments.{choice_of}
 use Rattle.bg_replay.specs.Endings.{state_of}

@@ -12,7 +12,8 @@ use Rattle.bg_formula.specs.Formulas.{Formula, is_whole}
 use Rattle.bg_formula.specs.Meaning.{Valuation, clauses_true}
 use Rattle.bg_clause.specs.Fitting.{fit_blocks}
 use Rattle.bg_clause.specs.Told.{entry_told}
-use Rattle.bg_clause.specs.Whole.{formula, clauses_of, truth_values, are_truths}
+use Rattle.bg_forms.specs.Worth.{truth_values, are_truths}
+use Rattle.bg_clause.specs.Whole.{formula, clauses_of}
 use Rattle.bg_clause.proofs.Clausal.{all_in}
 use Rattle.bg_clause.proofs.Below.{lower}
 use Rattle.bg_clause.proofs.Backward.{entry_denied}

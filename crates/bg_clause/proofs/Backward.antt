@@ -6,13 +6,13 @@ use Rattle.bg_ast.specs.Execution.{Spot}
 use Rattle.bg_sense.specs.Eval.{Scope, ev}
 use Rattle.bg_passive.specs.Passive.{PassiveCmd, Claims, Supposes, Edge, PassiveBlock, spot_eq, is_absent}
 use Rattle.bg_wp.specs.Equations.{equation_cmds, is_well, all_well, equations}
-use Rattle.bg_clause.specs.Forms.{Form, form_true, is_true}
+use Rattle.bg_forms.specs.Forms.{Form, form_true, is_true}
 use Rattle.bg_clause.specs.Fitting.{fits_cmds, fit_edges, fit_blocks}
 use Rattle.bg_clause.specs.Failing.{fail_block}
 use Rattle.bg_clause.specs.Emitted.{denies, emitted}
 use Rattle.bg_clause.specs.Told.{Told, nothing, is_short, told_by, told, entry_told}
-use Rattle.bg_clause.specs.Whole.{truth_values}
-use Rattle.bg_clause.proofs.Meaning.{same_true, and_left, and_right}
+use Rattle.bg_forms.specs.Worth.{truth_values}
+use Rattle.bg_forms.proofs.Meaning.{same_true, and_left, and_right}
 use Rattle.bg_clause.proofs.Failing.{wells, block_true}
 use Rattle.bg_clause.proofs.Clausal.{all_in}
 use Rattle.bg_clause.proofs.Defining.{all_first, all_second}

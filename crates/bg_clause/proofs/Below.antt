@@ -5,10 +5,11 @@ use Rattle.std.proofs.lemmas.Bool.Decides.{nat_tests}
 use Rattle.bg_ast.specs.Syntax.{Ex, Number, Fact, Constant, Read, Global, Local, Not, Negative, Binary, Apply, Select, Update, Old, Op, And, Or, Implies, Iff, Equal, Unequal, Less, AtMost, Greater, AtLeast, Plus, Minus, Times}
 use Rattle.bg_ast.specs.Execution.{Spot}
 use Rattle.bg_passive.specs.Passive.{PassiveCmd, Claims, Supposes, Edge, PassiveBlock, spot_eq}
-use Rattle.bg_clause.specs.Forms.{Form, Plain, Is, NotSo, Both, Same, is_literal, both_beside, both_behind, both_of, any_of, denied, same_behind, same_of, joined_by, form_of}
-use Rattle.bg_clause.specs.Fitting.{joins_truths, fits_ex, fits_candidate, fits_cmds, fit_edges}
+use Rattle.bg_forms.specs.Forms.{Form, Plain, Is, NotSo, Both, Same, is_literal, both_beside, both_behind, both_of, any_of, denied, same_behind, same_of, joined_by, form_of}
+use Rattle.bg_forms.specs.Fitting.{joins_truths, fits_ex}
+use Rattle.bg_clause.specs.Fitting.{fits_candidate, fits_cmds, fit_edges}
 use Rattle.bg_clause.specs.Failing.{is_there, is_not_there, fail_cmds, fail_later, fail_edges, fail_block}
-use Rattle.bg_clause.proofs.Meaning.{and_left, and_right}
+use Rattle.bg_forms.proofs.Meaning.{and_left, and_right}
 
 -- each atom of a form is one of the first n
 abbrev pub form_below : ℕ → Form → Bool

@@ -4,9 +4,9 @@ use Rattle.std.specs.Prelude.{not, ◌&&◌, ◌||◌, if◌then◌else◌, ◌=
 use Rattle.bg_formula.specs.declared.atom.Literal.{Literal}
 use Rattle.bg_formula.specs.Formulas.{literals_below, clauses_below}
 use Rattle.bg_formula.specs.Meaning.{same}
-use Rattle.bg_clause.specs.Forms.{literal_in, opposite}
+use Rattle.bg_forms.specs.Forms.{literal_in, opposite}
 use Rattle.bg_clause.specs.Emitted.{literal_eq, is_among, clashes, distinct, clause_of}
-use Rattle.bg_clause.proofs.Meaning.{same_not, and_left, and_right}
+use Rattle.bg_forms.proofs.Meaning.{same_not, and_left, and_right}
 use Rattle.bg_clause.proofs.Below.{and_both}
 
 abbrev pub any_in : (ℕ → Bool) → List Literal → Bool

@@ -3,9 +3,9 @@ use Rattle.std.proofs.Common.{◌≡◌, ℕ, suc, Bool, true, false, List, [], 
 use Rattle.std.specs.Prelude.{not, ◌&&◌, ◌||◌}
 use Rattle.bg_formula.specs.declared.atom.Literal.{Literal}
 use Rattle.bg_formula.specs.Meaning.{same}
-use Rattle.bg_clause.specs.Forms.{Form, Plain, Is, NotSo, Both, Same, literal_in, form_true, opposite}
+use Rattle.bg_forms.specs.Forms.{Form, Plain, Is, NotSo, Both, Same, literal_in, form_true, opposite}
 use Rattle.bg_clause.specs.Emitted.{name_of, next_of, after_defined, clause_of, signed_as, equal_clauses, both_clauses, same_clauses, defined}
-use Rattle.bg_clause.proofs.Meaning.{same_not, not_not, and_left, and_right}
+use Rattle.bg_forms.proofs.Meaning.{same_not, not_not, and_left, and_right}
 use Rattle.bg_clause.proofs.Clausal.{any_in, all_in, clause_true, same_signs}
 
 -- the atoms from n on have the values of these forms

@@ -3,9 +3,9 @@ use Rattle.std.proofs.Common.{◌≡◌, ℕ, Bool, true, false, List, [], ◌�
 use Rattle.std.specs.Prelude.{not, ◌&&◌, ◌||◌, if◌then◌else◌}
 use Rattle.bg_formula.specs.declared.atom.Literal.{Literal}
 use Rattle.bg_formula.specs.Meaning.{same}
-use Rattle.bg_clause.specs.Forms.{Form, Plain, Is, NotSo, Both, Same, literal_in, form_true, opposite}
+use Rattle.bg_forms.specs.Forms.{Form, Plain, Is, NotSo, Both, Same, literal_in, form_true, opposite}
 use Rattle.bg_clause.specs.Emitted.{denies, name_of, next_of, after_defined, after_as, clause_of, signed_as, equal_clauses, defined, emitted_as, emitted}
-use Rattle.bg_clause.proofs.Meaning.{same_not, same_true}
+use Rattle.bg_forms.proofs.Meaning.{same_not, same_true}
 use Rattle.bg_clause.proofs.Clausal.{any_in, all_in, clause_true}
 use Rattle.bg_clause.proofs.Defining.{all_append, all_first, all_second, any_last, equal_true, sides, Named, past, past_append, named_append, own, named_own, own_past, deep, two_past, deep_named, defined_sound, defined_complete}
 

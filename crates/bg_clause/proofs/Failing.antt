@@ -7,11 +7,12 @@ use Rattle.bg_ast.specs.Execution.{Spot}
 use Rattle.bg_sense.specs.Eval.{Scope, ev}
 use Rattle.bg_passive.specs.Passive.{PassiveCmd, Claims, Supposes, Edge, PassiveBlock, spot_eq, is_absent}
 use Rattle.bg_wp.specs.Equations.{equation_cmds, is_well, all_well}
-use Rattle.bg_clause.specs.Forms.{Form, form_true, both_of, any_of, denied, form_of}
-use Rattle.bg_clause.specs.Fitting.{fits_ex, fits_candidate, fits_cmds, fit_edges}
+use Rattle.bg_forms.specs.Forms.{Form, form_true, both_of, any_of, denied, form_of}
+use Rattle.bg_forms.specs.Fitting.{fits_ex}
+use Rattle.bg_clause.specs.Fitting.{fits_candidate, fits_cmds, fit_edges}
 use Rattle.bg_clause.specs.Failing.{is_there, is_not_there, fail_cmds, fail_later, fail_edges, fail_block}
-use Rattle.bg_clause.specs.Whole.{truth_values}
-use Rattle.bg_clause.proofs.Meaning.{not_not, same_true, both_true, any_true, denied_true, form_means, and_left, and_right}
+use Rattle.bg_forms.specs.Worth.{truth_values}
+use Rattle.bg_forms.proofs.Meaning.{not_not, same_true, both_true, any_true, denied_true, form_means, and_left, and_right}
 
 suppose_bools : (x w : Bool) → (x && not w) ≡ not (not x || w)
 suppose_bools true w = refl

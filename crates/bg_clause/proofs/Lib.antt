@@ -1,4 +1,3 @@
-pub mod Meaning
 pub mod Failing
 pub mod Clausal
 pub mod Defining
@@ -11,7 +10,5 @@ pub mod Forward
 pub mod Wholes
 pub mod Alike
 pub mod Emits
-pub mod Chains
-pub mod ChainForms
 pub mod Onward
 pub mod Counted

@@ -4,9 +4,9 @@ use Rattle.std.specs.Prelude.{not, nat_lt}
 use Rattle.bg_formula.specs.declared.atom.Literal.{Literal}
 use Rattle.bg_formula.specs.Formulas.{literals_below, clauses_below}
 use Rattle.bg_formula.specs.Meaning.{same}
-use Rattle.bg_clause.specs.Forms.{Form, Plain, Is, NotSo, Both, Same, form_true}
-use Rattle.bg_clause.specs.Whole.{truth_values}
-use Rattle.bg_clause.proofs.Meaning.{zero_below, below_suc, and_left, and_right}
+use Rattle.bg_forms.specs.Forms.{Form, Plain, Is, NotSo, Both, Same, form_true}
+use Rattle.bg_forms.specs.Worth.{truth_values}
+use Rattle.bg_forms.proofs.Meaning.{zero_below, below_suc, and_left, and_right}
 use Rattle.bg_clause.proofs.Clausal.{any_in, all_in}
 use Rattle.bg_clause.proofs.Defining.{Named, own, deep}
 use Rattle.bg_clause.proofs.Emitting.{parts, parts_as}

@@ -7,7 +7,7 @@ use Rattle.bg_incarnate.specs.declared.blocks.PassiveCmd as code
 use Rattle.bg_incarnate.specs.declared.blocks.Edge as way
 use Rattle.bg_incarnate.specs.declared.blocks.PassiveBlock as whole
 use Rattle.bg_incarnate.specs.Views.{passive_cmd_of, cmds_of, edge_of, passive_block_of}
-use Rattle.bg_clause.specs.Forms.{Form, Plain, both_of, any_of, denied, form_of}
+use Rattle.bg_forms.specs.Forms.{Form, Plain, both_of, any_of, denied, form_of}
 use Rattle.bg_clause.specs.Failing.{is_there, is_not_there, fail_cmds, fail_later, fail_edges, fail_block}
 use Rattle.bg_clause.specs.Told.{Told, is_short, told_by, told}
 

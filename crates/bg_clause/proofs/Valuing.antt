@@ -3,8 +3,8 @@ use Rattle.std.proofs.Common.{◌≡◌, ℕ, zero, suc, ◌+◌, Bool, true, Li
 use Rattle.std.specs.Prelude.{nat_lt}
 use Rattle.bg_ast.specs.Values.{Val, Num, Truth, Element, Default, Entry, truth_of}
 use Rattle.bg_sense.specs.Eval.{value_at}
-use Rattle.bg_clause.specs.Whole.{truth_values, are_truths}
-use Rattle.bg_clause.proofs.Meaning.{none_below, below_suc}
+use Rattle.bg_forms.specs.Worth.{truth_values, are_truths}
+use Rattle.bg_forms.proofs.Meaning.{none_below, below_suc}
 
 abbrev pub behind : ℕ → (ℕ → Bool) → (ℕ → Bool) → ℕ → Bool
 behind zero f g j = g j

@@ -9,13 +9,13 @@ use Rattle.bg_formula.specs.declared.atom.Literal.{Literal}
 use Rattle.bg_formula.specs.Atoms.{IsTruth, at}
 use Rattle.bg_formula.specs.Formulas.{literals_below, clauses_below, units_below, is_whole}
 use Rattle.bg_formula.specs.Meaning.{Valuation, same, signed, literal_true, clause_true, clauses_true}
-use Rattle.bg_clause.specs.Forms.{Form, Plain, Is, NotSo, Both, Same, literal_in, opposite}
+use Rattle.bg_forms.specs.Forms.{Form, Plain, Is, NotSo, Both, Same, literal_in, opposite}
 use Rattle.bg_clause.specs.Fitting.{fits_cmds, fit_edges, fit_blocks}
 use Rattle.bg_clause.specs.Failing.{fail_block}
 use Rattle.bg_clause.specs.Emitted.{denies, name_of, next_of, after_defined, after_as, after, clause_of, signed_as, equal_clauses, both_clauses, same_clauses, defined, emitted_as, emitted}
 use Rattle.bg_clause.specs.Told.{Told, nothing, is_short, told_by, told, with_entry, entry_told}
 use Rattle.bg_clause.specs.Whole.{formula}
-use Rattle.bg_clause.proofs.Meaning.{none_below, below_suc, and_left, and_right}
+use Rattle.bg_forms.proofs.Meaning.{none_below, below_suc, and_left, and_right}
 use Rattle.bg_clause.proofs.Clausal.{any_in, all_in, clause_below}
 use Rattle.bg_clause.proofs.Below.{form_below, forms_below, and_both, block_below}
 

@@ -2,7 +2,7 @@
 use Rattle.std.specs.Prelude.{ℕ, suc, Bool, true, false, not, ◌==◌, ◌&&◌, ◌||◌, if◌then◌else◌, List, [], ◌∷◌, ◌++◌}
 use Rattle.bg_formula.specs.declared.atom.Literal.{Literal}
 use Rattle.bg_formula.specs.Meaning.{same}
-use Rattle.bg_clause.specs.Forms.{Form, Plain, Is, NotSo, Both, Same, opposite}
+use Rattle.bg_forms.specs.Forms.{Form, Plain, Is, NotSo, Both, Same, opposite}
 
 abbrev pub names : ℕ → Literal
 names n = record { atom = n; sign = true }

@@ -2,7 +2,7 @@
 use Rattle.std.specs.Prelude.{ℕ, ◌+◌, true, false, if◌then◌else◌, List, [], ◌∷◌, Option, Some, None, slice_get, unwrap_or}
 use Rattle.bg_ast.specs.Execution.{Spot}
 use Rattle.bg_passive.specs.Passive.{PassiveCmd, Claims, Supposes, Edge, PassiveBlock, spot_eq}
-use Rattle.bg_clause.specs.Forms.{Form, Plain, is_true, denied, both_of, any_of, form_of}
+use Rattle.bg_forms.specs.Forms.{Form, Plain, is_true, denied, both_of, any_of, form_of}
 
 -- the candidate is there: candidate b is atom n + b
 abbrev pub is_there : ℕ → Option ℕ → Form

@@ -1,4 +1,3 @@
-pub mod Forms
 pub mod Views
 pub mod Fitting
 pub mod Failing
@@ -7,6 +6,3 @@ pub mod Told
 pub mod Waiting
 pub mod Telling
 pub mod Whole
-pub mod Chains
-pub mod ChainForms
-pub mod Worth

@@ -3,7 +3,7 @@ use Rattle.std.specs.Prelude.{ℕ, suc, Bool, true, false, List, [], ◌∷◌, 
 use Rattle.bg_ast.specs.Execution.{Spot}
 use Rattle.bg_passive.specs.Passive.{PassiveBlock}
 use Rattle.bg_formula.specs.declared.atom.Literal.{Literal}
-use Rattle.bg_clause.specs.Forms.{Form, Plain, Is, is_true}
+use Rattle.bg_forms.specs.Forms.{Form, Plain, Is, is_true}
 use Rattle.bg_clause.specs.Failing.{fail_block}
 use Rattle.bg_clause.specs.Emitted.{denies, after, emitted}
 

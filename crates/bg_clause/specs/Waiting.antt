@@ -3,9 +3,9 @@ use Rattle.std.specs.Prelude.{ℕ, zero, suc, ◌+◌, Bool, List, [], ◌∷◌
 use Rattle.bg_formula.specs.declared.atom.Literal.{Literal}
 use Rattle.bg_clause.specs.declared.waiting.Waiting as code
 use Rattle.bg_clause.specs.declared.waiting.Waiting.TheVariants as waiting
-use Rattle.bg_clause.specs.Forms.{Form, Plain, Is, NotSo, Both, Same}
+use Rattle.bg_forms.specs.Forms.{Form, Plain, Is, NotSo, Both, Same}
 use Rattle.bg_clause.specs.Emitted.{after_as, after_defined, emitted_as, defined}
-use Rattle.bg_clause.specs.Views.{form_in}
+use Rattle.bg_forms.specs.Views.{form_in}
 
 -- one of the literals is to be true or the form to be worth this; or the literal is to be worth what the form is
 pub data Waits : Type 0 where

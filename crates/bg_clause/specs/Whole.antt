@@ -1,7 +1,6 @@
 -- The clauses of blocks: the entry block isn't well for the target.
-use Rattle.std.specs.Prelude.{ℕ, zero, suc, ◌+◌, Bool, true, false, if◌then◌else◌, List, [], ◌∷◌, map, Option, Some, None}
+use Rattle.std.specs.Prelude.{ℕ, ◌+◌, if◌then◌else◌, List, map, Option, Some, None}
 use Rattle.bg_ast.specs.Execution.{Spot}
-use Rattle.bg_ast.specs.Values.{Val, Truth}
 use Rattle.bg_sense.specs.Variables.{count_from}
 use Rattle.bg_passive.specs.Passive.{PassiveBlock}
 use Rattle.bg_formula.specs.Atoms.{IsTruth}
@@ -23,14 +22,3 @@ formula n m t bs =
 -- the clauses, where the blocks hold formulas over truth values alone
 abbrev pub clauses_of : ℕ → ℕ → Spot → List PassiveBlock → Option Formula
 clauses_of n m t bs = if fit_blocks n m bs then Some (formula n m t bs) else None
-
--- the values of so many truth variables, from the first one on
-abbrev pub truth_values : (ℕ → Bool) → ℕ → List Val
-truth_values t zero = []
-truth_values t (suc n) = Truth (t zero) ∷ truth_values (λ j. t (suc j)) n
-
--- so many values, each a truth value
-abbrev pub are_truths : ℕ → List Val → Bool
-are_truths zero [] = true
-are_truths (suc n) (Truth b ∷ vs) = are_truths n vs
-are_truths n vs = false

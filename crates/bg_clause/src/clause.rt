@@ -1,10 +1,10 @@
 //! Clauses with each literal once.
 ghost use Rattle.std.specs.Prelude.{◌≡◌, ◌++◌, IfOk, OnOk};
-ghost use Rattle.bg_clause.specs.Forms.{opposite};
+ghost use Rattle.bg_forms.specs.Forms.{opposite};
 ghost use Rattle.bg_clause.specs.Emitted.{is_among, clashes, distinct, clause_of};
 ghost use Rattle.bg_clause.specs.Views.{clauses_in};
 
-use crate::form::opposite;
+use bg_forms::opposite;
 use bg_formula::Literal;
 use std::alloc::{AllocError, Global};
 

@@ -1,14 +1,15 @@
 //! Clauses of forms.
 ghost use Rattle.std.specs.Prelude.{◌≡◌, ◌<◌, ◌∷◌, ◌++◌, map, IfOk, OnOk};
 ghost use Rattle.bg_clause.specs.Emitted.{after, emitted};
-ghost use Rattle.bg_clause.specs.Views.{form_in, clauses_in};
+ghost use Rattle.bg_forms.specs.Views.{form_in};
+ghost use Rattle.bg_clause.specs.Views.{clauses_in};
 ghost use Rattle.bg_clause.specs.Waiting.{Says, Defines, waits_of, emitted_all, after_all, size_of, size_all};
 
 use crate::clause::add;
-use crate::form::{Form, Parts, opposite};
 use crate::naming::{name_for, signed_as};
 use crate::pairs::{add_both, add_equal, add_same};
 use crate::waiting::{Waiting, define, define_both, say, say_both, say_not_both};
+use bg_forms::{Form, Parts, opposite};
 use bg_formula::Literal;
 use std::alloc::{AllocError, Global};
 use std::collections::VecDeque;

@@ -6,14 +6,13 @@ ghost use Rattle.bg_ast.specs.Views.{ex_of, candidate_of};
 ghost use Rattle.bg_places.specs.Views.{spot_of};
 ghost use Rattle.bg_passive.specs.Passive.{spot_eq};
 ghost use Rattle.bg_incarnate.specs.Views.{passive_cmd_of, cmds_of};
-ghost use Rattle.bg_clause.specs.Forms.{both_of, any_of, denied, form_of};
+ghost use Rattle.bg_forms.specs.Forms.{both_of, any_of, denied, form_of};
 ghost use Rattle.bg_clause.specs.Failing.{is_there, is_not_there, fail_cmds};
-ghost use Rattle.bg_clause.specs.Views.{form_in};
+ghost use Rattle.bg_forms.specs.Views.{form_in};
 
-use crate::form::{Form, any_of, both_of, denied, is_true};
-use crate::formed::form_ex;
 use bg_ast::resolved::Expr;
 use bg_base::CandId;
+use bg_forms::{Form, any_of, both_of, denied, form_ex, is_true};
 use bg_incarnate::PassiveCmd;
 use bg_places::Spot;
 use std::alloc::{AllocError, Global};

@@ -5,8 +5,8 @@ ghost use Rattle.bg_ast.specs.Views.{candidate_of};
 ghost use Rattle.bg_incarnate.specs.Views.{cmds_of, edge_of, passive_block_of};
 ghost use Rattle.bg_clause.specs.Fitting.{fits_candidate, fits_cmds, fit_edges, fit_blocks};
 
-use crate::fits::fits_ex;
 use bg_base::CandId;
+use bg_forms::fits_ex;
 use bg_incarnate::{Edge, PassiveBlock, PassiveCmd};
 
 fn fits_candidate(candidates: usize, b: Option<CandId>) -> bool

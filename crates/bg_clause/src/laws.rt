@@ -1,22 +1,15 @@
 //! Laws of clauses, which are proved of the definitions alone.
 ghost use Rattle.std.specs.Prelude.{◌≡◌, ℕ, ◌+◌, ◌<◌, Bool, true, false, List, Some, slice_get};
-ghost use Rattle.bg_ast.specs.Values.{Val, Truth};
-ghost use Rattle.bg_ast.specs.Syntax.{Ex, Prog};
+ghost use Rattle.bg_ast.specs.Values.{Val};
+ghost use Rattle.bg_ast.specs.Syntax.{Prog};
 ghost use Rattle.bg_ast.specs.Execution.{Interp, Spot};
-ghost use Rattle.bg_sense.specs.Eval.{Scope, ev};
 ghost use Rattle.bg_passive.specs.Passive.{PassiveBlock};
 ghost use Rattle.bg_passive.specs.Incarnations.{passive_scope};
 ghost use Rattle.bg_wp.specs.Equations.{is_well, equations};
 ghost use Rattle.bg_formula.specs.Formulas.{Formula, is_whole};
 ghost use Rattle.bg_formula.specs.Meaning.{Valuation, clauses_true};
-ghost use Rattle.bg_clause.specs.Forms.{form_true, form_of};
-ghost use Rattle.bg_clause.specs.Fitting.{fits_ex};
-ghost use Rattle.bg_clause.specs.Whole.{clauses_of, truth_values, are_truths};
-
-/// An expression over truth values is worth what its form is worth.
-pub fn forms_mean_expressions()
-    ensures { (t : ℕ → Bool) (n : ℕ) (c : Scope) → c.frame ≡ truth_values t n → (e : Ex) → fits_ex n e ≡ true → ev e c ≡ Truth (form_true t (form_of e)) }
-{}
+ghost use Rattle.bg_forms.specs.Worth.{truth_values, are_truths};
+ghost use Rattle.bg_clause.specs.Whole.{clauses_of};
 
 /// Where the equations deny the entry under truth values of the incarnations and of the candidates, there is a valuation that
 /// agrees with them and makes the clauses true; and under a valuation that makes the clauses true the equations deny the entry.

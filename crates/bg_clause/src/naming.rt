@@ -1,9 +1,9 @@
 //! Names of forms.
 ghost use Rattle.std.specs.Prelude.{◌≡◌, suc, [], ◌∷◌, IfOk, OnOk};
 ghost use Rattle.bg_clause.specs.Emitted.{names, denies, name_of, next_of, signed_as};
-ghost use Rattle.bg_clause.specs.Views.{form_in};
+ghost use Rattle.bg_forms.specs.Views.{form_in};
 
-use crate::form::{Form, opposite};
+use bg_forms::{Form, opposite};
 use bg_formula::Literal;
 use std::alloc::{AllocError, Global};
 

@@ -1,12 +1,12 @@
 //! Clauses that say what a literal is worth by others.
 ghost use Rattle.std.specs.Prelude.{◌≡◌, [], ◌∷◌, ◌++◌, OnOk};
-ghost use Rattle.bg_clause.specs.Forms.{opposite};
+ghost use Rattle.bg_forms.specs.Forms.{opposite};
 ghost use Rattle.bg_clause.specs.Emitted.{clause_of, equal_clauses, both_clauses, same_clauses};
 ghost use Rattle.bg_clause.specs.Views.{clauses_in};
 
 use crate::clause::add;
-use crate::form::opposite;
 use crate::naming::alone;
+use bg_forms::opposite;
 use bg_formula::Literal;
 use std::alloc::{AllocError, Global};
 

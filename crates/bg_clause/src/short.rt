@@ -1,9 +1,10 @@
 //! What stands in a form in a block's place.
 ghost use Rattle.std.specs.Prelude.{◌≡◌, true, false, MatchOption};
 ghost use Rattle.bg_clause.specs.Told.{is_short};
-ghost use Rattle.bg_clause.specs.Views.{form_in, short_in};
+ghost use Rattle.bg_forms.specs.Views.{form_in};
+ghost use Rattle.bg_clause.specs.Views.{short_in};
 
-use crate::form::Form;
+use bg_forms::Form;
 use bg_formula::Literal;
 
 /// A form that needs no atom in its place.

@@ -3,14 +3,15 @@ ghost use Rattle.std.specs.Prelude.{◌≡◌, false, [], ◌∷◌, map, IfOk, 
 ghost use Rattle.bg_places.specs.Views.{spot_of};
 ghost use Rattle.bg_incarnate.specs.Views.{passive_block_of};
 ghost use Rattle.bg_clause.specs.Told.{nothing, is_short, told_by, told, with_entry, entry_told};
-ghost use Rattle.bg_clause.specs.Views.{form_in, short_in};
+ghost use Rattle.bg_forms.specs.Views.{form_in};
+ghost use Rattle.bg_clause.specs.Views.{short_in};
 ghost use Rattle.bg_clause.specs.Telling.{telling_of};
 
 use crate::emit::emit;
-use crate::form::Form;
 use crate::naming::{alone, denies, names, take_next};
 use crate::short::{Short, short_of};
 use crate::ways::fail_block;
+use bg_forms::Form;
 use bg_formula::Literal;
 use bg_incarnate::PassiveBlock;
 use bg_places::Spot;

@@ -1,5 +1,5 @@
 //! Clauses of a few blocks, by hand.
-use crate::{clauses, form_ex, is_worth};
+use crate::clauses;
 use bg_ast::resolved::{Expr, Link, Variable};
 use bg_base::{CandId, Pos};
 use bg_formula::Literal;
@@ -114,17 +114,5 @@ fn clauses_of_long_chains(rt: HostRuntime) -> Result<(), Fail> {
         assert_eq!(rt; found.clauses.len(), clauses_wanted);
         assert_eq!(rt; found.atoms.len(), atoms_wanted);
     }
-    Ok(())
-}
-
-#[test]
-fn the_worth_of_long_chains(rt: HostRuntime) -> Result<(), Fail> {
-    let alloc = rt.alloc();
-    let and = form_ex(alloc, &chain(alloc, InfixSign::And, 50000)?)?;
-    let iff = form_ex(alloc, &chain(alloc, InfixSign::Iff, 50001)?)?;
-    assert!(rt; !is_worth(&[true, true], &and));
-    // An even number of false operands.
-    assert!(rt; is_worth(&[true], &iff));
-    assert!(rt; !is_worth(&[true, true], &iff));
     Ok(())
 }

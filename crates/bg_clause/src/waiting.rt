@@ -1,11 +1,11 @@
 //! Forms that wait for their clauses.
 ghost use Rattle.std.specs.Prelude.{◌≡◌, true, false, [], ◌∷◌, ◌++◌, map, OnOk};
-ghost use Rattle.bg_clause.specs.Forms.{opposite};
-ghost use Rattle.bg_clause.specs.Views.{form_in};
+ghost use Rattle.bg_forms.specs.Forms.{opposite};
+ghost use Rattle.bg_forms.specs.Views.{form_in};
 ghost use Rattle.bg_clause.specs.Waiting.{Says, Defines, waits_of};
 
-use crate::form::{Form, opposite};
 use crate::naming::alone;
+use bg_forms::{Form, opposite};
 use bg_formula::Literal;
 use std::alloc::{AllocError, Global};
 use std::collections::VecDeque;

@@ -2,13 +2,14 @@
 ghost use Rattle.std.specs.Prelude.{◌≡◌, map, IfOk};
 ghost use Rattle.bg_places.specs.Views.{spot_of};
 ghost use Rattle.bg_incarnate.specs.Views.{cmds_of, edge_of, passive_block_of};
-ghost use Rattle.bg_clause.specs.Forms.{any_of};
+ghost use Rattle.bg_forms.specs.Forms.{any_of};
 ghost use Rattle.bg_clause.specs.Failing.{fail_cmds, fail_later, fail_edges, fail_block};
-ghost use Rattle.bg_clause.specs.Views.{form_in, short_in};
+ghost use Rattle.bg_forms.specs.Views.{form_in};
+ghost use Rattle.bg_clause.specs.Views.{short_in};
 
 use crate::fails::fail_cmds;
-use crate::form::{Form, any_of};
 use crate::short::{Short, form_at};
+use bg_forms::{Form, any_of};
 use bg_incarnate::{Edge, PassiveBlock};
 use bg_places::Spot;
 use std::alloc::{AllocError, Global};

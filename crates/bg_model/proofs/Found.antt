@@ -15,8 +15,8 @@ use Rattle.bg_flow.specs.Blocks.{Block, blocks_of}
 use Rattle.bg_passive.specs.Passive.{PassiveCmd, PassiveBlock, Walked, walk_cmds}
 use Rattle.bg_passive.specs.Incarnations.{Arrival, passives, MakesPassive, ValuesFrom, incarnations, passive_scope}
 use Rattle.bg_clause.specs.Fitting.{fits_cmds, fit_blocks}
-use Rattle.bg_clause.specs.Whole.{truth_values}
-use Rattle.bg_clause.proofs.Meaning.{value_of_truth}
+use Rattle.bg_forms.specs.Worth.{truth_values}
+use Rattle.bg_forms.proofs.Meaning.{value_of_truth}
 use Rattle.bg_incarnate.specs.Walked.{next_in}
 use Rattle.bg_replay.specs.Endings.{state_of}
 use Rattle.bg_sense.proofs.Bools.{and_right}

@@ -17,7 +17,7 @@ use Rattle.bg_passive.specs.Passive.{PassiveCmd, Walked, On, Stopped, Hit, is_ab
 use Rattle.bg_passive.specs.Incarnations.{Env, rename, hold_next, after_vars, after_exs, each_ex, each_decl, claims_in, supposes_in, set_to, pass_call, pass, pass_all, Arrival, edges, passives, FitsCmd, FitsCmds, FitsBlocks, MakesPassive, ValuesFrom, first_state, entry_env, ty_of, incarnations, passive_scope}
 use Rattle.bg_passive.specs.ReadBack.{cmd_choices, choices_at, follow_choices}
 use Rattle.bg_clause.specs.Fitting.{fits_cmds, fit_edges, fit_blocks}
-use Rattle.bg_clause.specs.Whole.{truth_values}
+use Rattle.bg_forms.specs.Worth.{truth_values}
 use Rattle.bg_calls.proofs.CoreRuns.{then_assoc}
 use Rattle.bg_flow.proofs.BlockRuns.{blocks_same}
 use Rattle.bg_sense.proofs.Bools.{and_left, and_right}

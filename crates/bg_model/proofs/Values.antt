@@ -10,10 +10,11 @@ use Rattle.bg_calls.specs.Core.{Cmd, Check, Suppose, Forget, Put, Perform, Finis
 use Rattle.bg_passive.specs.Passive.{PassiveCmd, Claims, Supposes, walk_cmds}
 use Rattle.bg_passive.specs.Incarnations.{after_vars, after_exs, TypesFrom, FitsCmd}
 use Rattle.bg_passive.specs.ReadBack.{vars_choices, decls_choices, cmd_choices}
-use Rattle.bg_clause.specs.Fitting.{fits_ex, fits_candidate, fits_cmds}
-use Rattle.bg_clause.specs.Whole.{truth_values}
+use Rattle.bg_forms.specs.Fitting.{fits_ex}
+use Rattle.bg_clause.specs.Fitting.{fits_candidate, fits_cmds}
+use Rattle.bg_forms.specs.Worth.{truth_values}
 use Rattle.bg_sense.proofs.Bools.{and_left, and_right, both}
-use Rattle.bg_clause.proofs.Meaning.{form_means}
+use Rattle.bg_forms.proofs.Meaning.{form_means}
 use Rattle.bg_model.specs.Fronts.{chosen_from, cmd_truths}
 use Rattle.bg_model.specs.Over.{walk_over}
 

@@ -12,7 +12,7 @@ use Rattle.bg_passive.specs.Passive.{PassiveBlock}
 use Rattle.bg_passive.specs.Incarnations.{Arrival, passives, MakesPassive, ValuesFrom, passive_scope}
 use Rattle.bg_wp.specs.Equations.{is_well, equations}
 use Rattle.bg_clause.specs.Fitting.{fit_blocks}
-use Rattle.bg_clause.specs.Whole.{truth_values}
+use Rattle.bg_forms.specs.Worth.{truth_values}
 use Rattle.bg_incarnate.specs.Views.{passive_block_of}
 use Rattle.bg_incarnate.specs.Walked.{next_in}
 use Rattle.bg_incarnate.specs.declared.blocks.Passive.{Passive}

@@ -3,7 +3,7 @@ use Rattle.std.specs.Prelude.{ℕ, Bool, ◌||◌, if◌then◌else◌, List, []
 use Rattle.bg_ast.specs.Syntax.{Ex}
 use Rattle.bg_ast.specs.Execution.{Spot}
 use Rattle.bg_passive.specs.Passive.{PassiveCmd, Claims, Supposes, spot_eq, is_absent, Walked, On, Stopped, Hit}
-use Rattle.bg_clause.specs.Forms.{form_true, form_of}
+use Rattle.bg_forms.specs.Forms.{form_true, form_of}
 
 -- a clause is absent or holds
 abbrev pub is_met : (ℕ → Bool) → (ℕ → Bool) → Option ℕ → Ex → Bool

@@ -5,7 +5,7 @@ use Rattle.bg_places.specs.Views.{spot_of}
 use Rattle.bg_calls.specs.Core.{Cmd}
 use Rattle.bg_passive.specs.Passive.{PassiveCmd, Walked, On, Stopped, Hit}
 use Rattle.bg_incarnate.specs.Views.{cmds_of}
-use Rattle.bg_clause.specs.Worth.{bools_at}
+use Rattle.bg_forms.specs.Worth.{bools_at}
 use Rattle.bg_replay.specs.Moments.{choice_of}
 use Rattle.bg_replay.specs.Views.{set_of}
 use Rattle.bg_model.specs.declared.front.Front.{Front}

@@ -1,7 +1,7 @@
 //! The values of incarnations.
 ghost use Rattle.std.specs.Prelude.{◌≡◌, ◌++◌, map, IfOk, OnOk};
 ghost use Rattle.bg_sense.specs.Variables.{count_from};
-ghost use Rattle.bg_clause.specs.Worth.{bools_at};
+ghost use Rattle.bg_forms.specs.Worth.{bools_at};
 ghost use Rattle.bg_replay.specs.Moments.{choice_of};
 ghost use Rattle.bg_model.specs.Fronts.{chosen_from};
 

@@ -4,7 +4,7 @@ ghost use Rattle.bg_ast.specs.Execution.{Interp};
 ghost use Rattle.bg_ast.specs.Meaning.{meaning_of};
 ghost use Rattle.bg_ast.specs.Views.{program_of};
 ghost use Rattle.bg_blocks.specs.Views.{block_of};
-ghost use Rattle.bg_clause.specs.Worth.{bools_at};
+ghost use Rattle.bg_forms.specs.Worth.{bools_at};
 ghost use Rattle.bg_places.specs.Views.{spot_of};
 ghost use Rattle.bg_replay.specs.Views.{set_of};
 ghost use Rattle.bg_model.specs.Counterexamples.{blocks_in, is_denied, Fit, IsCounterexample, IsTold};

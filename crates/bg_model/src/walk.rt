@@ -5,7 +5,7 @@ ghost use Rattle.bg_ast.specs.Meaning as m;
 ghost use Rattle.bg_ast.specs.Views.{ex_of, candidate_of};
 ghost use Rattle.bg_passive.specs.Passive.{is_absent};
 ghost use Rattle.bg_incarnate.specs.Views.{passive_cmd_of, cmds_of};
-ghost use Rattle.bg_clause.specs.Worth.{bools_at};
+ghost use Rattle.bg_forms.specs.Worth.{bools_at};
 ghost use Rattle.bg_replay.specs.Views.{set_of};
 ghost use Rattle.bg_model.specs.Over as spec;
 ghost use Rattle.bg_model.specs.Views.{walked_of, walk_in};
@@ -14,7 +14,7 @@ use crate::spot::is_spot;
 use crate::trial::Trial;
 use bg_ast::resolved::Expr;
 use bg_base::CandId;
-use bg_clause::{form_ex, is_worth};
+use bg_forms::{form_ex, is_worth};
 use bg_incarnate::PassiveCmd;
 use std::alloc::AllocError;
 

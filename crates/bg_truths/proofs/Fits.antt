@@ -14,7 +14,8 @@ use Rattle.bg_passive.proofs.Renaming.{below_set, below_append}
 use Rattle.bg_passive.proofs.PassiveForward.{after_vars_more, after_exs_more, after_decls_more}
 use Rattle.bg_incarnate.specs.Walked.{ways_after, walk_after}
 use Rattle.bg_incarnate.specs.Even.{how_many}
-use Rattle.bg_clause.specs.Fitting.{fits_ex, fits_candidate, fits_cmds, fit_edges, fit_blocks}
+use Rattle.bg_forms.specs.Fitting.{fits_ex}
+use Rattle.bg_clause.specs.Fitting.{fits_candidate, fits_cmds, fit_edges, fit_blocks}
 use Rattle.bg_truths.proofs.Plain.{OverEx, OverExs}
 use Rattle.bg_truths.proofs.Cmds.{OverDemands, OverSayings, OverPlan, OverCmd, OverCmds, OverExit, OverBlocks}
 

@@ -8,7 +8,7 @@ use Rattle.bg_calls.specs.Core.{Cmd, Check, Suppose, Forget, Put, Perform, Finis
 use Rattle.bg_flow.specs.Blocks.{Block}
 use Rattle.bg_passive.specs.Incarnations.{Env, pass_all, entry_env, ty_of, targets_of}
 use Rattle.bg_passive.specs.Arrivals.{all_begin, tails, merge_types, globals_in, frames_in, arrive_at, arrive_types, Ways, ways_here, ways_on, ways_to, cmd_types, cmds_types, arrive}
-use Rattle.bg_clause.specs.Whole.{are_truths}
+use Rattle.bg_forms.specs.Worth.{are_truths}
 use Rattle.bg_truths.proofs.Cmds.{AreBools, bools_append, OverCmd, OverCmds, OverBlocks}
 
 merged_bools : (js : List ℕ) (os : List (List ℕ)) (ts : List Ty) → AreBools ts → AreBools (merge_types js os ts)

@@ -5,7 +5,7 @@ use Rattle.bg_ast.specs.Values.{Ty, BoolTy}
 use Rattle.bg_ast.specs.Syntax.{Global, Local, Op, And, Or, Implies, Iff, Equal, Unequal, Ex, Exs, Number, Fact, Constant, Read, Not, Negative, Binary, Apply, Select, Update, Old, NoMore, More}
 use Rattle.bg_sense.specs.Typing.{Sig, OpHasType, HasType, HaveTypes}
 use Rattle.bg_sense.proofs.Bools.{and_left, and_right}
-use Rattle.bg_clause.specs.Fitting.{joins_truths}
+use Rattle.bg_forms.specs.Fitting.{joins_truths}
 use Rattle.bg_incarnate.specs.Even.{how_many}
 use Rattle.bg_fits.specs.Truths.{is_truth_op, is_plain, are_plain}
 

@@ -13,7 +13,7 @@ use Rattle.bg_sense.specs.Claims.{frame_of, frame_with, IsState}
 use Rattle.bg_sense.proofs.Bools.{and_left, and_right}
 use Rattle.bg_calls.specs.Core.{frame_decls}
 use Rattle.bg_passive.specs.Incarnations.{first_state}
-use Rattle.bg_clause.specs.Whole.{truth_values}
+use Rattle.bg_forms.specs.Worth.{truth_values}
 use Rattle.bg_fits.specs.Truths.{is_empty, are_truth_decls, is_over_truths}
 use Rattle.bg_truths.specs.Passives.{arrivals_in, incarnations_in, no_interp}
 use Rattle.bg_truths.proofs.Cmds.{AreBools}

@@ -17,7 +17,7 @@ use Rattle.bg_passive.specs.Arrivals.{arrived}
 use Rattle.bg_incarnate.specs.Walked.{walk_after}
 use Rattle.bg_incarnate.specs.Even.{BlocksEven}
 use Rattle.bg_clause.specs.Fitting.{fit_blocks}
-use Rattle.bg_clause.specs.Whole.{truth_values, are_truths}
+use Rattle.bg_forms.specs.Worth.{truth_values, are_truths}
 use Rattle.bg_fits.specs.Truths.{is_empty, are_truth_decls, is_plain_st, is_truth_impl, are_truth_impls, are_truth_procs, is_over_truths}
 use Rattle.bg_truths.specs.Passives.{blocks_in, incarnations_in, passives_in}
 use Rattle.bg_truths.proofs.Cmds.{AreBools, bools_append, clauses_wider, over_demands, over_sayings, over_plain, OverBlocks, blocks_even}

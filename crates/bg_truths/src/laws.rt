@@ -11,7 +11,7 @@ ghost use Rattle.bg_sense.specs.Typed.{IsTyped};
 ghost use Rattle.bg_sense.specs.Variables.{procedure_of};
 ghost use Rattle.bg_incarnate.specs.Even.{BlocksEven};
 ghost use Rattle.bg_clause.specs.Fitting.{fit_blocks};
-ghost use Rattle.bg_clause.specs.Whole.{truth_values, are_truths};
+ghost use Rattle.bg_forms.specs.Worth.{truth_values, are_truths};
 ghost use Rattle.bg_fits.specs.Truths.{is_over_truths};
 ghost use Rattle.bg_truths.specs.Passives.{blocks_in, incarnations_in, passives_in, no_interp};
 

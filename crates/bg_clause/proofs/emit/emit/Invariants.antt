@@ -1,6 +1,7 @@
 use Rattle.std.proofs.Common.{◌≡◌, ◌++◌, map}
 use Rattle.bg_clause.specs.Emitted.{after, emitted}
-use Rattle.bg_clause.specs.Views.{form_in, clauses_in}
+use Rattle.bg_forms.specs.Views.{form_in}
+use Rattle.bg_clause.specs.Views.{clauses_in}
 use Rattle.bg_clause.specs.Waiting.{waits_of, emitted_all, after_all, size_all}
 use Rattle.bg_clause.proofs.emit.emit.Given as goal
 

@@ -2,7 +2,7 @@ use Rattle.std.proofs.Common.{◌≡◌, length}
 use Rattle.bg_places.specs.Views.{spot_of}
 use Rattle.bg_incarnate.specs.Views.{cmds_of}
 use Rattle.bg_clause.specs.Failing.{fail_cmds}
-use Rattle.bg_clause.specs.Views.{form_in}
+use Rattle.bg_forms.specs.Views.{form_in}
 use Rattle.bg_clause.proofs.fails.fail_cmds.Given as goal
 
 abbrev pub invariant-loop-last : goal.invariant-loop-last

@@ -2,7 +2,8 @@ use Rattle.std.proofs.Common.{◌≡◌, length, map}
 use Rattle.bg_places.specs.Views.{spot_of}
 use Rattle.bg_incarnate.specs.Views.{edge_of}
 use Rattle.bg_clause.specs.Failing.{fail_edges}
-use Rattle.bg_clause.specs.Views.{form_in, short_in}
+use Rattle.bg_forms.specs.Views.{form_in}
+use Rattle.bg_clause.specs.Views.{short_in}
 use Rattle.bg_clause.proofs.Onward.{edges_on}
 use Rattle.bg_clause.proofs.ways.fail_edges.Given as goal
 

@@ -1,7 +1,7 @@
 use Rattle.std.proofs.Common.{ap}
 use Rattle.bg_ast.specs.Values.{Truth}
 use Rattle.bg_ast.specs.Execution.{Chosen}
-use Rattle.bg_clause.specs.Worth.{bools_at}
+use Rattle.bg_forms.specs.Worth.{bools_at}
 use Rattle.bg_replay.specs.declared.choice.Choice.TheVariants as choice
 use Rattle.bg_model.proofs.Steps.{chosen_more}
 use Rattle.bg_model.proofs.choose.choose.Goals as goal

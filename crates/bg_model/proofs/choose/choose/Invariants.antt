@@ -1,5 +1,5 @@
 use Rattle.std.proofs.Common.{◌≡◌, ◌++◌, map}
-use Rattle.bg_clause.specs.Worth.{bools_at}
+use Rattle.bg_forms.specs.Worth.{bools_at}
 use Rattle.bg_replay.specs.Moments.{choice_of}
 use Rattle.bg_model.specs.Fronts.{chosen_from}
 use Rattle.bg_model.proofs.choose.choose.Given as goal

@@ -1,4 +1,4 @@
-use Rattle.bg_clause.specs.Worth.{bools_at}
+use Rattle.bg_forms.specs.Worth.{bools_at}
 use Rattle.bg_model.proofs.Steps.{values_more}
 use Rattle.bg_model.proofs.choose.values_from.Goals as goal
 

@@ -1,6 +1,6 @@
 use Rattle.std.proofs.Common.{◌≡◌, ◌++◌, map}
 use Rattle.bg_sense.specs.Variables.{count_from}
-use Rattle.bg_clause.specs.Worth.{bools_at}
+use Rattle.bg_forms.specs.Worth.{bools_at}
 use Rattle.bg_model.proofs.choose.values_from.Given as goal
 
 abbrev pub invariant-loop-left : goal.invariant-loop-left

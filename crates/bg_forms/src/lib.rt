@@ -1,0 +1,15 @@
+//! Formulas over truth values as forms: conjunctions, denials, and pairs that are worth the same.
+#![tactic(auto)]
+
+mod fits;
+mod form;
+mod formed;
+pub mod laws;
+#[cfg(test)]
+mod tests;
+mod worth;
+
+pub use fits::fits_ex;
+pub use form::{Form, Parts, any_of, both_of, denied, is_true, opposite, same_of};
+pub use formed::form_ex;
+pub use worth::is_worth;
