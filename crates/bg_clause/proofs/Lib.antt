@@ -12,3 +12,4 @@ pub mod Alike
 pub mod Emits
 pub mod Onward
 pub mod Counted
+pub mod Once

@@ -6,3 +6,4 @@ pub mod Told
 pub mod Waiting
 pub mod Telling
 pub mod Whole
+pub mod Signs

@@ -9,6 +9,7 @@ pub mod laws;
 mod naming;
 mod pairs;
 mod short;
+mod signs;
 mod tell;
 #[cfg(test)]
 mod tests;

@@ -99,6 +99,7 @@ fn clauses_of_long_chains(rt: HostRuntime) -> Result<(), Fail> {
     // Two clauses for a chain of pairs, and four for the name of each pair behind them.
     let table = [
         (InfixSign::And, 50000, 50000, 50000),
+        (InfixSign::Or, 100000, 1, 100000),
         (InfixSign::Iff, 2000, 2 + 4 * 1998, 2000 + 1998),
         (InfixSign::Unequal, 2000, 2 + 4 * 1998, 2000 + 1998),
     ];

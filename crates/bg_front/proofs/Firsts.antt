@@ -2,8 +2,7 @@
 use Rattle.std.proofs.Common.{◌≡◌, ℕ, List, [], ◌∷◌, ◌++◌, Bool, true, false, Option, Some, None, if◌then◌else◌, MatchOption, option_map, refl, sym, ap, ◌∙◌}
 use Rattle.bg_base.specs.declared.pos.Pos.{Pos}
 use Rattle.bg_text.specs.Tokens.{Tok}
-use Rattle.bg_front.specs.declared.later.Spot.{Spot}
-use Rattle.bg_front.specs.Later.{word_of, behind, is_refused, spot_from, first_from, AreJudgedFrom, IsUnjudgedFrom}
+use Rattle.bg_front.specs.Later.{Spot, word_of, behind, is_refused, spot_from, first_from, AreJudgedFrom, IsUnjudgedFrom}
 
 -- one judged token in front
 judged_more : (s : Spot) (t : Tok) (ts : List Tok) → is_refused s t.kind ≡ false → AreJudgedFrom (behind s t.kind) ts → AreJudgedFrom s (t ∷ ts)

@@ -4,7 +4,7 @@ use Rattle.bg_base.specs.declared.pos.Pos.{Pos}
 use Rattle.bg_text.specs.declared.token.Kind.{Kind}
 use Rattle.bg_text.specs.declared.token.Kind.TheVariants as kinds
 use Rattle.bg_text.specs.Tokens.{Tok}
-use Rattle.bg_front.specs.declared.later.Spot.{Spot}
+use Rattle.bg_front.specs.declared.later.Spot as code
 
 -- the tokens that aren't judged yet, wherever they stand; a line goes when its construct is judged
 abbrev pub is_unjudged : Kind → Bool
@@ -21,6 +21,14 @@ is_unjudged _ = false
 abbrev pub word_of : Kind → List ℕ → List ℕ
 word_of (kinds.Number z) text = codes "number"
 word_of _ text = text
+
+-- where a token stands: whether the token before it opened a brace, and whether it stands in an attribute
+pub record Spot : Type 0 where
+  pub opened : Bool
+  pub inside : Bool
+
+abbrev pub spot_of : code.Spot → Spot
+spot_of s = record { opened = s.opened; inside = s.inside }
 
 -- outside of all attributes
 abbrev pub outside : Spot

@@ -1,7 +1,7 @@
 //! What isn't judged yet: one list of tokens that no program may have.
 ghost use Rattle.std.specs.Prelude.{◌≡◌, MatchOption, option_map};
 ghost use Rattle.bg_text.specs.Tokens.{views};
-ghost use Rattle.bg_front.specs.Later.{is_unjudged, word_of, behind, is_refused, outside, first_from, AreJudged, IsUnjudged};
+ghost use Rattle.bg_front.specs.Later.{is_unjudged, spot_of, word_of, behind, is_refused, outside, first_from, AreJudged, IsUnjudged};
 
 use bg_base::Pos;
 use bg_text::{Kind, Token};
@@ -43,7 +43,7 @@ fn word_of<'a>(kind: Kind, text: &'a [u8]) -> &'a [u8]
 }
 
 fn behind(spot: Spot, kind: Kind) -> Spot
-    ensures { result ≡ behind spot kind }
+    ensures { spot_of result ≡ behind (spot_of spot) kind }
 {
     match kind {
         Kind::OpenBrace => Spot {
@@ -66,7 +66,7 @@ fn behind(spot: Spot, kind: Kind) -> Spot
 }
 
 fn is_refused(spot: Spot, kind: Kind) -> bool
-    ensures { result ≡ is_refused spot kind }
+    ensures { result ≡ is_refused (spot_of spot) kind }
 {
     !spot.inside && is_unjudged(kind)
 }

@@ -1,9 +1,10 @@
-use Rattle.std.proofs.Common.{◌≡◌, ◌++◌, length}
-use Rattle.bg_clause.specs.Emitted.{distinct}
+use Rattle.std.proofs.Common.{◌≡◌, ◌++◌, List, length}
+use Rattle.bg_formula.specs.declared.atom.Literal.{Literal}
+use Rattle.bg_clause.specs.Signs.{IsOnce}
 use Rattle.bg_clause.proofs.clause.distinct.Given as goal
 
-abbrev pub invariant-loop-first : goal.invariant-loop-first
-invariant-loop-first l = l.made.items ++ distinct l.left ≡ distinct l.ls
+abbrev pub invariant-loop-last : goal.invariant-loop-last
+invariant-loop-last l = (done : List Literal) × (l.left ++ done ≡ l.ls) × IsOnce l.once done
 
-abbrev pub decreases-loop-first : goal.decreases-loop-first
-decreases-loop-first l = length l.left
+abbrev pub decreases-loop-last : goal.decreases-loop-last
+decreases-loop-last l = length l.left

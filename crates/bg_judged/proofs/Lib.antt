@@ -1,0 +1,12 @@
+pub mod Marks
+pub mod Exprs
+pub mod Groups
+pub mod Clauses
+pub mod Stmts
+pub mod Decls
+pub mod Spaces
+pub mod Programs
+pub mod Typed
+pub mod Turns
+pub mod Same
+pub mod Judging
