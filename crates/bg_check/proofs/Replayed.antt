@@ -1,35 +1,33 @@
 -- A replay over truth values tells how the run ends, and that of a counterexample fails at its check.
-use Rattle.std.proofs.Common.{◌≡◌, ℕ, zero, suc, ◌+◌, Bool, true, List, [], ◌∷◌, ◌++◌, length, map, Option, Some, refl, sym, ap, ◌∙◌, subst, arith}
+use Rattle.std.proofs.Common.{◌≡◌, ℕ, zero, suc, Bool, true, List, [], ◌∷◌, ◌++◌, length, map, Some, refl, sym, ap, ◌∙◌, subst}
 use Rattle.std.specs.Prelude.{◌&&◌, ◌==◌, slice_get, option_map}
 use Rattle.std.proofs.lemmas.Option.{slice_get-map}
 use Rattle.std.proofs.lemmas.List.{length-append, length-map}
-use Rattle.bg_ast.specs.Values.{Ty, Val, Truth, is_of, is_bool}
+use Rattle.bg_ast.specs.Values.{Ty, Truth, is_of, is_bool}
 use Rattle.bg_ast.specs.Syntax as s
 use Rattle.bg_ast.specs.Resolved as r
 use Rattle.bg_ast.specs.Meaning.{meaning_of, named_of, decl_of, impl_of, proc_of}
 use Rattle.bg_ast.specs.Execution.{Place}
 use Rattle.bg_sense.specs.Flow.{Answer, Ended, Blocked, Failed, BadChoice}
 use Rattle.bg_sense.specs.Types.{are_of, types_of}
-use Rattle.bg_sense.specs.Variables.{procedure_of}
 use Rattle.bg_sense.specs.Run.{induction_run}
 use Rattle.bg_sense.specs.Claims.{IsState, frame_of, frame_with}
 use Rattle.bg_sense.specs.Typed.{IsTyped}
 use Rattle.bg_sense.proofs.Bools.{and_left, and_right, both}
 use Rattle.bg_calls.specs.Core.{frame_decls}
-use Rattle.bg_flow.specs.Blocks as flow
 use Rattle.bg_cert.specs.Walks.{has}
 use Rattle.bg_blocks.specs.Views.{block_of}
 use Rattle.bg_blocks.specs.Whole.{AreBlocks}
 use Rattle.bg_blocks.specs.declared.block.Block.{Block}
 use Rattle.bg_places.specs.Views.{spot_of}
-use Rattle.bg_fits.specs.Truths.{is_empty, is_truth_decl, are_plain_wheres, are_truth_decls, are_plain_clauses, is_plain_st, is_truth_proc, is_truth_impl, are_truth_impls, are_truth_procs, is_over_truths}
+use Rattle.bg_fits.specs.Truths.{is_empty, is_truth_decl, are_plain_wheres, are_truth_decls, is_plain_st, is_truth_impl, are_truth_impls, are_truth_procs, is_over_truths}
 use Rattle.bg_truths.proofs.Decls.{proc_at, types_count}
 use Rattle.bg_truths.proofs.Whole.{over}
 use Rattle.bg_truths.specs.Passives.{blocks_in}
-use Rattle.bg_replay.specs.Bools.{are_bools, decls_in}
+use Rattle.bg_replay.specs.Bools.{are_bools}
 use Rattle.bg_replay.specs.Moments.{choice_of}
 use Rattle.bg_replay.specs.Over.{over_blocks}
-use Rattle.bg_replay.specs.Said.{Said, Fine, Stops, Unsaid}
+use Rattle.bg_replay.specs.Said.{Stops}
 use Rattle.bg_replay.specs.Views.{set_of, said_by}
 use Rattle.bg_replay.specs.Endings as endings
 use Rattle.bg_replay.specs.Endings.{state_of, Tells, IsOver, IsReplay, are_declared}

@@ -1,0 +1,8 @@
+//! What verdicts rest on, looked at again: certificates by the checker that knows no search, counterexamples by the replay.
+#![tactic(auto)]
+
+#[cfg(test)]
+mod tests;
+mod text;
+
+pub use text::typed_program;
