@@ -13,10 +13,10 @@ use Rattle.clap.specs.Faults.{turn_fault, walk_fault, settle_fault, fault_of, le
 use Rattle.clap.specs.ValueTests.{accepts, is_numeral, fits_i64}
 use Rattle.clap.proofs.FaultLemmas.{stopped_fault}
 use Rattle.clap.proofs.OnLiterals.{clap_on_literals}
-use Rattle.bg_cli.specs.Cli.{cli, nodes, files, verify, IsTaken, Plain, AllPlain, IsBudget, rows_in, files_in, nodes_in, files_of, nodes_of, number_or}
+use Rattle.bg_cli.specs.Cli.{cli, nodes, most_rows, files, verify, IsTaken, Plain, AllPlain, IsBudget, rows_in, files_in, nodes_in, rows_kept_in, files_of, nodes_of, rows_kept_of, number_or}
 
 abbrev rules : List Rule
-rules = filled_from 1 (nodes ∷ files ∷ help_rule ∷ [])
+rules = filled_from 1 (nodes ∷ most_rows ∷ files ∷ help_rule ∷ [])
 
 -- files are being read
 abbrev reading : List Row → List Text → Walk
@@ -134,6 +134,9 @@ plain_files own f fs h = ap files_of (plain_rows own f fs h)
 
 pub plain_nodes : (own f : Text) (fs : List Text) → AllPlain (f ∷ fs) → nodes_in (own ∷ codes "verify" ∷ f ∷ fs) ≡ 20000
 plain_nodes own f fs h = ap nodes_of (plain_rows own f fs h)
+
+pub plain_rows_kept : (own f : Text) (fs : List Text) → AllPlain (f ∷ fs) → rows_kept_in (own ∷ codes "verify" ∷ f ∷ fs) ≡ 20000
+plain_rows_kept own f fs h = ap rows_kept_of (plain_rows own f fs h)
 
 -- the number was read, and no file yet
 abbrev numbered : Text → Walk

@@ -21,6 +21,16 @@ nodes =
       defaults = codes "20000" ∷ [];
     }
 
+-- `--rows N`, with the same numbers
+abbrev pub most_rows : Rule
+most_rows =
+    record (new_rule (codes "rows")) {
+      long = Some (codes "rows");
+      parser = Some (parser.Signed (pos 1) (pos 1000000));
+      action = Some Set;
+      defaults = codes "20000" ∷ [];
+    }
+
 -- one file or more
 abbrev pub files : Rule
 files =
@@ -31,12 +41,12 @@ files =
     }
 
 abbrev pub verify : App
-verify = with_rule (with_rule (new_app (codes "verify")) nodes) files
+verify = with_rule (with_rule (with_rule (new_app (codes "verify")) nodes) most_rows) files
 
 abbrev pub required : App → App
 required a = record a { top = record a.top { subcommand_required = true } }
 
--- the command: `bg verify [--nodes N] FILE..`
+-- the command: `bg verify [--nodes N] [--rows N] FILE..`
 unfoldable pub cli : App
 cli = with_subcommand (required (new_app (codes "bg"))) verify.top
 
@@ -70,11 +80,18 @@ number_or other (Some text) =
 abbrev pub nodes_of : List Row → ℕ
 nodes_of rows = number_or 20000 (one_of (codes "nodes") rows)
 
+-- the most different rows that an elimination keeps
+abbrev pub rows_kept_of : List Row → ℕ
+rows_kept_of rows = number_or 20000 (one_of (codes "rows") rows)
+
 abbrev pub files_in : List Text → List Text
 files_in words = files_of (rows_in words)
 
 abbrev pub nodes_in : List Text → ℕ
 nodes_in words = nodes_of (rows_in words)
+
+abbrev pub rows_kept_in : List Text → ℕ
+rows_kept_in words = rows_kept_of (rows_in words)
 
 -- a word that isn't empty and doesn't begin with a dash
 abbrev pub Plain : Text → Type 0
@@ -86,7 +103,7 @@ abbrev pub AllPlain : List Text → Type 0
 AllPlain [] = Unit {0}
 AllPlain (w ∷ ws) = Plain w × AllPlain ws
 
--- a number that `--nodes` takes, without a sign
+-- a number that `--nodes` and `--rows` take, without a sign
 pub record IsBudget (n : Text) : Type 0 where
   pub is_plain : Plain n
   pub passes : accepts false (parser.Signed (pos 1) (pos 1000000)) n ≡ true

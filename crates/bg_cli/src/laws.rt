@@ -1,13 +1,14 @@
 //! Plain words are taken, and ask what they say.
 ghost use Rattle.std.specs.Prelude.{◌≡◌, ◌≤◌, ◌^◌, ◌-◌, List, ℕ, ◌∷◌, length, codes};
 ghost use Rattle.std.specs.Str.Parse.{digits_value, without_leading_plus};
-ghost use Rattle.bg_cli.specs.Cli.{AllPlain, IsBudget, IsTaken, files_in, nodes_in};
+ghost use Rattle.bg_cli.specs.Cli.{AllPlain, IsBudget, IsTaken, files_in, nodes_in, rows_kept_in};
 
-/// `verify` and plain words: these are the files, and the number of nodes is the usual one.
+/// `verify` and plain words: these are the files, and the numbers of nodes and rows are the usual ones.
 pub fn plain_words_are_taken()
     ensures taken { (own f : List ℕ) (fs : List (List ℕ)) → AllPlain (f ∷ fs) → length (f ∷ fs) ≤ 2 ^ 64 - 1 → IsTaken (own ∷ codes "verify" ∷ f ∷ fs) }
     ensures files { (own f : List ℕ) (fs : List (List ℕ)) → AllPlain (f ∷ fs) → files_in (own ∷ codes "verify" ∷ f ∷ fs) ≡ f ∷ fs }
     ensures nodes { (own f : List ℕ) (fs : List (List ℕ)) → AllPlain (f ∷ fs) → nodes_in (own ∷ codes "verify" ∷ f ∷ fs) ≡ 20000 }
+    ensures rows { (own f : List ℕ) (fs : List (List ℕ)) → AllPlain (f ∷ fs) → rows_kept_in (own ∷ codes "verify" ∷ f ∷ fs) ≡ 20000 }
 {}
 
 /// `verify --nodes` with a number, and plain words.

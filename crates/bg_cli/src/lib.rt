@@ -5,7 +5,7 @@ mod laws;
 mod line;
 
 pub use laws::{plain_words_are_taken, plain_words_with_a_number_are_taken};
-pub use line::{Line, LineError, NODES, cli, read_line};
+pub use line::{Line, LineError, NODES, ROWS, cli, read_line};
 
 #[cfg(test)]
 mod tests;

@@ -2,7 +2,7 @@
 ghost use Rattle.std.specs.Prelude.{◌≡◌, ◌≢◌, IfOk, IsErrOf, map, codes};
 ghost use Rattle.clap.specs.Words.{app_of, found_of, kind_of, rows_of};
 ghost use Rattle.bg_cli.specs.declared.line.LineError.TheVariants.{Memory};
-ghost use Rattle.bg_cli.specs.Cli.{cli, texts_of, IsTaken, files_in, nodes_in, files_of, nodes_of, rows_for};
+ghost use Rattle.bg_cli.specs.Cli.{cli, texts_of, IsTaken, files_in, nodes_in, rows_kept_in, files_of, nodes_of, rows_kept_of, rows_for};
 
 use clap::error::ErrorKind;
 use clap::{Arg, ArgAction, ArgMatches, Command, Error, value_parser};
@@ -11,11 +11,16 @@ use std::alloc::{AllocError, Global};
 /// The most inner nodes of a certificate's tree, where the words say nothing of it.
 pub const NODES: u32 = 20_000;
 
-/// What a command line asks: the files in order, and the most inner nodes of a certificate's tree.
+/// The most different rows that an elimination keeps, where the words say nothing of it.
+pub const ROWS: u32 = 20_000;
+
+/// What a command line asks: the files in order, the most inner nodes of a certificate's tree, and
+/// the most different rows that an elimination keeps.
 #[derive(Drop)]
 pub struct Line<'a> {
     pub files: Vec<&'a str>,
     pub nodes: u32,
+    pub rows: u32,
 }
 
 /// Why nothing is asked.
@@ -27,7 +32,7 @@ pub enum LineError {
     Memory,
 }
 
-/// The command `bg verify [--nodes N] FILE..`.
+/// The command `bg verify [--nodes N] [--rows N] FILE..`.
 pub fn cli<'a>(alloc: Global) -> Result<Command<'a>, AllocError>
     ensures { IfOk result (λ c. app_of c ≡ cli) }
 {
@@ -36,11 +41,16 @@ pub fn cli<'a>(alloc: Global) -> Result<Command<'a>, AllocError>
         .value_parser(value_parser!(u32).range(1..=1_000_000))
         .action(ArgAction::Set)
         .default_value("20000");
+    let rows = Arg::new(alloc, "rows")
+        .long("rows")
+        .value_parser(value_parser!(u32).range(1..=1_000_000))
+        .action(ArgAction::Set)
+        .default_value("20000");
     let files = Arg::new(alloc, "FILE")
         .required(true)
         .num_args(1..)
         .action(ArgAction::Append);
-    let verify = Command::new(alloc, "verify").arg(nodes)?.arg(files)?;
+    let verify = Command::new(alloc, "verify").arg(nodes)?.arg(rows)?.arg(files)?;
     Command::new(alloc, "bg")
         .subcommand_required(true)
         .subcommand(verify)
@@ -74,20 +84,30 @@ fn nodes_of(verify: &ArgMatches<'_>) -> u32
     verify.get_one::<u32>("nodes").unwrap_or(NODES)
 }
 
+/// The number of rows that the matches of `verify` hold.
+fn rows_kept_of(verify: &ArgMatches<'_>) -> u32
+    ensures { result ≡ rows_kept_of (rows_of (found_of verify.now)) }
+{
+    verify.get_one::<u32>("rows").unwrap_or(ROWS)
+}
+
 /// What the matches ask.
 fn line_of<'a>(alloc: Global, matches: &ArgMatches<'a>) -> Result<Line<'a>, AllocError>
     ensures files { IfOk result (λ line. map (λ file. file.now) line.files.items ≡ files_of (rows_for matches.now)) }
     ensures nodes { IfOk result (λ line. line.nodes ≡ nodes_of (rows_for matches.now)) }
+    ensures rows { IfOk result (λ line. line.rows ≡ rows_kept_of (rows_for matches.now)) }
 {
     let Some((_, verify)) = matches.subcommand() else {
         return Ok(Line {
             files: Vec::new(alloc),
             nodes: NODES,
+            rows: ROWS,
         });
     };
     Ok(Line {
         files: files_of(alloc, verify)?,
         nodes: nodes_of(verify),
+        rows: rows_kept_of(verify),
     })
 }
 
@@ -99,6 +119,7 @@ pub fn read_line<'a>(alloc: Global, words: &'a [String]) -> Result<Line<'a>, Lin
     ensures taken { IfOk result (λ line. IsTaken (texts_of words.now)) }
     ensures files { IfOk result (λ line. map (λ file. file.now) line.files.items ≡ files_in (texts_of words.now)) }
     ensures nodes { IfOk result (λ line. line.nodes ≡ nodes_in (texts_of words.now)) }
+    ensures rows { IfOk result (λ line. line.rows ≡ rows_kept_in (texts_of words.now)) }
     ensures refused { IsErrOf result LineError.Usage → IsTaken (texts_of words.now) → ⊥ }
 {
     let matches = match cli(alloc)?.try_get_matches_from(words) {

@@ -1,5 +1,5 @@
-use Rattle.bg_cli.proofs.Plain.{plain_taken, plain_files, plain_nodes}
+use Rattle.bg_cli.proofs.Plain.{plain_taken, plain_files, plain_nodes, plain_rows_kept}
 use Rattle.bg_cli.proofs.laws.plain_words_are_taken.Goals as goal
 
 pub returns : goal.returns
-returns c = record { taken = plain_taken; files = plain_files; nodes = plain_nodes }
+returns c = record { taken = plain_taken; files = plain_files; nodes = plain_nodes; rows = plain_rows_kept }

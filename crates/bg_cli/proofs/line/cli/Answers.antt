@@ -7,7 +7,7 @@ use Rattle.clap.specs.Simple.{App, app_of, app_of_fields, new_app, with_rule, wi
 use Rattle.clap.specs.declared.builder.value_parser.ValueParser.TheVariants as parser
 use Rattle.clap.specs.Words.{NarrowsTo, signed_between}
 use Rattle.clap.specs.declared.builder.value_parser.ValueParser.{ValueParser}
-use Rattle.bg_cli.specs.Cli.{nodes, files, verify, required, cli}
+use Rattle.bg_cli.specs.Cli.{nodes, most_rows, files, verify, required, cli}
 use Rattle.bg_cli.proofs.line.cli.Goals as goal
 
 some_is : {A : Type 0} (o : Option A) (v : A) → IsSomeAnd o (λ x. x ≡ v) → o ≡ Some v

@@ -1,6 +1,6 @@
 use Rattle.std.proofs.Common.{rules, ap}
 use Rattle.clap.specs.Words.{app_of, subcommand_rows_of}
-use Rattle.bg_cli.specs.Cli.{texts_of, files_of, nodes_of}
+use Rattle.bg_cli.specs.Cli.{texts_of, files_of, nodes_of, rows_kept_of}
 use Rattle.bg_cli.proofs.Finds.{taken, not_taken, rows_are}
 use Rattle.bg_cli.proofs.line.read_line.Goals as goal
 
@@ -19,3 +19,8 @@ pub returns-clause-nodes : goal.returns-clause-nodes
 returns-clause-nodes c =
     let rows = rows_are (app_of c.in_ok-cli.field-0) (texts_of c.args.words.now) (subcommand_rows_of c.in-Ok.matches) c.in_ok-cli.ensures (λ s. (c.in-Ok.ensures.matches s).1) in
     search (rules, ap nodes_of rows)
+
+pub returns-clause-rows : goal.returns-clause-rows
+returns-clause-rows c =
+    let rows = rows_are (app_of c.in_ok-cli.field-0) (texts_of c.args.words.now) (subcommand_rows_of c.in-Ok.matches) c.in_ok-cli.ensures (λ s. (c.in-Ok.ensures.matches s).1) in
+    search (rules, ap rows_kept_of rows)
