@@ -11,25 +11,21 @@ use Rattle.clap.specs.Lexer.{usize_max}
 use Rattle.clap.specs.declared.builder.action.ArgAction.TheVariants.{Set, Append}
 use Rattle.clap.specs.declared.builder.value_parser.ValueParser.TheVariants as parser
 
--- `--nodes N`, 1 to 1,000,000; 20,000 where it isn't given
-abbrev pub nodes : Rule
-nodes =
-    record (new_rule (codes "nodes")) {
-      long = Some (codes "nodes");
+-- `--NAME N`, 1 to 1,000,000; 20,000 where it isn't given
+abbrev pub number_rule : Text → Rule
+number_rule name =
+    record (new_rule name) {
+      long = Some name;
       parser = Some (parser.Signed (pos 1) (pos 1000000));
       action = Some Set;
       defaults = codes "20000" ∷ [];
     }
 
--- `--rows N`, with the same numbers
+abbrev pub nodes : Rule
+nodes = number_rule (codes "nodes")
+
 abbrev pub most_rows : Rule
-most_rows =
-    record (new_rule (codes "rows")) {
-      long = Some (codes "rows");
-      parser = Some (parser.Signed (pos 1) (pos 1000000));
-      action = Some Set;
-      defaults = codes "20000" ∷ [];
-    }
+most_rows = number_rule (codes "rows")
 
 -- one file or more
 abbrev pub files : Rule

@@ -1,8 +1,9 @@
 //! From the words of a command line to what is asked.
-ghost use Rattle.std.specs.Prelude.{◌≡◌, ◌≢◌, IfOk, IsErrOf, map, codes};
+ghost use Rattle.std.specs.Prelude.{◌≡◌, ◌≢◌, IfOk, IsErrOf, map, codes, false};
 ghost use Rattle.clap.specs.Words.{app_of, found_of, kind_of, rows_of};
 ghost use Rattle.bg_cli.specs.declared.line.LineError.TheVariants.{Memory};
-ghost use Rattle.bg_cli.specs.Cli.{cli, texts_of, IsTaken, files_in, nodes_in, rows_kept_in, files_of, nodes_of, rows_kept_of, rows_for};
+ghost use Rattle.clap.specs.Walk.{rule_of};
+ghost use Rattle.bg_cli.specs.Cli.{number_rule, cli, texts_of, IsTaken, files_in, nodes_in, rows_kept_in, files_of, nodes_of, rows_kept_of, rows_for};
 
 use clap::error::ErrorKind;
 use clap::{Arg, ArgAction, ArgMatches, Command, Error, value_parser};
@@ -32,25 +33,32 @@ pub enum LineError {
     Memory,
 }
 
+/// `--NAME N`, from 1 to 1,000,000, and 20,000 where it isn't given.
+fn number_arg<'a>(alloc: Global, name: &'a str) -> Arg<'a>
+    ensures rule { rule_of result ≡ number_rule name.now }
+    ensures here { result.global ≡ false }
+{
+    Arg::new(alloc, name)
+        .long(name)
+        .value_parser(value_parser!(u32).range(1..=1_000_000))
+        .action(ArgAction::Set)
+        .default_value("20000")
+}
+
 /// The command `bg verify [--nodes N] [--rows N] FILE..`.
 pub fn cli<'a>(alloc: Global) -> Result<Command<'a>, AllocError>
     ensures { IfOk result (λ c. app_of c ≡ cli) }
 {
-    let nodes = Arg::new(alloc, "nodes")
-        .long("nodes")
-        .value_parser(value_parser!(u32).range(1..=1_000_000))
-        .action(ArgAction::Set)
-        .default_value("20000");
-    let rows = Arg::new(alloc, "rows")
-        .long("rows")
-        .value_parser(value_parser!(u32).range(1..=1_000_000))
-        .action(ArgAction::Set)
-        .default_value("20000");
+    let nodes = number_arg(alloc, "nodes");
+    let rows = number_arg(alloc, "rows");
     let files = Arg::new(alloc, "FILE")
         .required(true)
         .num_args(1..)
         .action(ArgAction::Append);
-    let verify = Command::new(alloc, "verify").arg(nodes)?.arg(rows)?.arg(files)?;
+    let verify = Command::new(alloc, "verify")
+        .arg(nodes)?
+        .arg(rows)?
+        .arg(files)?;
     Command::new(alloc, "bg")
         .subcommand_required(true)
         .subcommand(verify)

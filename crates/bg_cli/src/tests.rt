@@ -6,19 +6,39 @@ fn words_are_taken_or_not(rt: HostRuntime) -> Result<(), Fail> {
     let alloc = rt.alloc();
     let table: [(&[&str], &str, (u32, u32)); 21] = [
         (&["bg", "verify", "a.bpl"], "a.bpl", (20_000, 20_000)),
-        (&["bg", "verify", "a", "b", "help"], "a b help", (20_000, 20_000)),
+        (
+            &["bg", "verify", "a", "b", "help"],
+            "a b help",
+            (20_000, 20_000),
+        ),
         (&["bg", "verify", "--nodes", "7", "a"], "a", (7, 20_000)),
-        (&["bg", "verify", "a", "--nodes", "1000000"], "a", (1_000_000, 20_000)),
-        (&["bg", "verify", "--nodes=1", "--", "-a"], "-a", (1, 20_000)),
+        (
+            &["bg", "verify", "a", "--nodes", "1000000"],
+            "a",
+            (1_000_000, 20_000),
+        ),
+        (
+            &["bg", "verify", "--nodes=1", "--", "-a"],
+            "-a",
+            (1, 20_000),
+        ),
         (&["bg", "verify", "--rows", "1", "a"], "a", (20_000, 1)),
         (
             &["bg", "verify", "--rows", "1000000", "--nodes", "2", "a"],
             "a",
             (2, 1_000_000),
         ),
-        (&["bg", "verify", "--rows", "1000001", "a"], "refused", (0, 0)),
+        (
+            &["bg", "verify", "--rows", "1000001", "a"],
+            "refused",
+            (0, 0),
+        ),
         (&["bg", "verify", "--rows", "0", "a"], "refused", (0, 0)),
-        (&["bg", "verify", "--nodes", "1000001", "a"], "refused", (0, 0)),
+        (
+            &["bg", "verify", "--nodes", "1000001", "a"],
+            "refused",
+            (0, 0),
+        ),
         (&["bg", "verify", "--nodes", "0", "a"], "refused", (0, 0)),
         (&["bg", "verify", "--nodes", "x", "a"], "refused", (0, 0)),
         (
