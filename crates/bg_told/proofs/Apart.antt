@@ -1,7 +1,7 @@
-use Rattle.std.proofs.Common.{◌≡◌, ◌≢◌, ℕ, Bool, true, false, List, [], ◌∷◌, ◌++◌, Option, codes, count_by, flat_map, map, sym, ap, ◌∙◌, append_assoc, if◌then◌else◌, arith, refl}
+use Rattle.std.proofs.Common.{◌≡◌, ◌≢◌, ℕ, Bool, true, false, List, [], ◌∷◌, ◌++◌, codes, flat_map, map, sym, ap, ◌∙◌, append_assoc, if◌then◌else◌, arith, refl}
 use Rattle.std.proofs.lemmas.List.{append_cancel_left}
-use Rattle.std.specs.Fmt.{decimal}
-use Rattle.bg_cert.specs.declared.cert.Node.{Node}
+use Rattle.bg_tree.specs.declared.outcome.Why.{Why}
+use Rattle.bg_told.specs.Kept.{kept_text}
 use Rattle.bg_places.specs.declared.place.Place.{Place}
 use Rattle.bg_replay.specs.declared.choice.Choice.{Choice}
 use Rattle.bg_check.specs.declared.verdict.Verdict.{Verdict}
@@ -9,8 +9,8 @@ use Rattle.bg_check.specs.declared.verdict.Verdict.TheVariants as verdict
 use Rattle.bg_check.specs.declared.verdict.Judged.{Judged}
 use Rattle.bg_told.specs.Words.{is_ordinary}
 use Rattle.bg_told.specs.Lines.{line, texts, truth_text}
-use Rattle.bg_told.specs.Places.{place_text, value_text, chosen_text, choice_text, refuted_text, is_inner, unknown_text, verdict_text, judged_text}
-use Rattle.bg_told.proofs.Cuts.{cut, decimal_is_flat, place_is_flat, chosen_is_flat, behind_is_flat}
+use Rattle.bg_told.specs.Places.{place_text, value_text, chosen_text, choice_text, refuted_text, unknown_text, verdict_text, judged_text}
+use Rattle.bg_told.proofs.Cuts.{IsFlat, is_flat, cut, place_is_flat, chosen_is_flat, behind_is_flat, cause_parts}
 
 abbrev pub first : List ℕ → ℕ
 first [] = 0
@@ -84,11 +84,11 @@ no_value_behind (c ∷ cs) x h = λ e. let f : 99 ≡ 118 = e in omega (arith, f
 refuted_cells : (a t u x : List ℕ) → (line (codes "  refuted " ++ a) ++ (t ++ u)) ++ x ≡ codes "  refuted " ++ (a ++ (10 ∷ (t ++ (u ++ x))))
 refuted_cells a t u x = append_assoc (line (codes "  refuted " ++ a)) (t ++ u) x ∙ append_assoc (codes "  refuted " ++ a) (10 ∷ []) ((t ++ u) ++ x) ∙ ap (λ z. codes "  refuted " ++ (a ++ (10 ∷ z))) (append_assoc t u x)
 
-two_lines : (c a m k d x : List ℕ) → (line ((c ++ a) ++ m) ++ line (k ++ d)) ++ x ≡ c ++ ((a ++ m) ++ (10 ∷ (k ++ (d ++ (10 ∷ x)))))
-two_lines c a m k d x = simp append_assoc
-
-unknown_cells : (a d x : List ℕ) → (line ((codes "  unknown " ++ a) ++ codes " nodes") ++ line (codes "    kept " ++ d)) ++ x ≡ codes "  unknown " ++ ((a ++ codes " nodes") ++ (10 ∷ (codes "    kept " ++ (d ++ (10 ∷ x)))))
-unknown_cells a d x = two_lines (codes "  unknown ") a (codes " nodes") (codes "    kept ") d x
+unknown_cells : (a w d x : List ℕ) → ((codes "  unknown " ++ a) ++ kept_text w d) ++ x ≡ codes "  unknown " ++ ((a ++ (codes " " ++ w)) ++ (10 ∷ (codes "    kept " ++ (d ++ (10 ∷ x)))))
+unknown_cells a w d x = two_lines (codes "  unknown ") a (codes " " ++ w) (codes "    kept ") d x
+  where
+    two_lines : (c a m k d x : List ℕ) → ((c ++ a) ++ (line m ++ line (k ++ d))) ++ x ≡ c ++ ((a ++ m) ++ (10 ∷ (k ++ (d ++ (10 ∷ x)))))
+    two_lines c a m k d x = simp append_assoc
 
 refuted_apart : (names : List (List ℕ)) (p q : Place) (vs ws : List Bool) (cs ds : List Choice) (x y : List ℕ) → IsPast x → IsPast y → refuted_text names p vs cs ++ x ≡ refuted_text names q ws ds ++ y → x ≡ y
 refuted_apart names p q vs ws cs ds x y hx hy h =
@@ -97,20 +97,27 @@ refuted_apart names p q vs ws cs ds x y hx hy h =
     (cut (place_text p) (place_text q) _ _ (place_is_flat p) (place_is_flat q)
     (append_cancel_left (codes "  refuted ") _ _ (sym (refuted_cells (place_text p) (texts value_text names vs) (flat_map choice_text cs) x) ∙ h ∙ refuted_cells (place_text q) (texts value_text names ws) (flat_map choice_text ds) y))))
 
-unknown_apart : (p q : Place) (ns ms : List (Option Node)) (x y : List ℕ) → unknown_text p ns ++ x ≡ unknown_text q ms ++ y → x ≡ y
-unknown_apart p q ns ms x y h =
-    let a = decimal (count_by is_inner ns) in
-    let b = decimal (count_by is_inner ms) in
-    cut a b x y (decimal_is_flat (count_by is_inner ns)) (decimal_is_flat (count_by is_inner ms))
+unknown_apart : (p q : Place) (v w : Why) (x y : List ℕ) → unknown_text p v ++ x ≡ unknown_text q w ++ y → x ≡ y
+unknown_apart p q v w x y h =
+    let a = cause_parts v in
+    let b = cause_parts w in
+    let left : unknown_text p v ++ x ≡ codes "  unknown " ++ ((place_text p ++ (codes " " ++ a.word)) ++ (10 ∷ (codes "    kept " ++ (a.kept ++ (10 ∷ x))))) = ap (λ (t : List ℕ). ((codes "  unknown " ++ place_text p) ++ t) ++ x) a.is ∙ unknown_cells (place_text p) a.word a.kept x in
+    let right : unknown_text q w ++ y ≡ codes "  unknown " ++ ((place_text q ++ (codes " " ++ b.word)) ++ (10 ∷ (codes "    kept " ++ (b.kept ++ (10 ∷ y))))) = ap (λ (t : List ℕ). ((codes "  unknown " ++ place_text q) ++ t) ++ y) b.is ∙ unknown_cells (place_text q) b.word b.kept y in
+    let flat_left = flat_front p a.word a.word_flat in
+    let flat_right = flat_front q b.word b.word_flat in
+    cut a.kept b.kept x y a.kept_flat b.kept_flat
     (append_cancel_left (codes "    kept ") _ _
-    (cut (place_text p ++ codes " nodes") (place_text q ++ codes " nodes") _ _ (behind_is_flat (place_text p) (codes " nodes") (place_is_flat p) refl) (behind_is_flat (place_text q) (codes " nodes") (place_is_flat q) refl)
-    (append_cancel_left (codes "  unknown ") _ _ (sym (unknown_cells (place_text p) a x) ∙ h ∙ unknown_cells (place_text q) b y))))
+    (cut (place_text p ++ (codes " " ++ a.word)) (place_text q ++ (codes " " ++ b.word)) _ _ flat_left flat_right
+    (append_cancel_left (codes "  unknown ") _ _ (sym left ∙ h ∙ right))))
+  where
+    flat_front : (p : Place) (w : List ℕ) → is_flat (codes " " ++ w) ≡ true → IsFlat (place_text p ++ (codes " " ++ w))
+    flat_front p w e = behind_is_flat (place_text p) (codes " " ++ w) (place_is_flat p) e
 
 -- a place's part of a report: nothing, or that of a refuted or an unknown place
 data Shape : Type 0 where
   Nothing : Shape
   Shown : Place → List Bool → List Choice → Shape
-  Spent : Place → List (Option Node) → Shape
+  Spent : Place → Why → Shape
 
 abbrev shape_text : List (List ℕ) → Shape → List ℕ
 shape_text names Nothing = []
@@ -121,7 +128,7 @@ abbrev shape_if : Bool → Place → Verdict → Shape
 shape_if false p v = Nothing
 shape_if true p (verdict.Proved nodes) = Nothing
 shape_if true p (verdict.Refuted cex) = Shown p (cex.globals.items ++ cex.frame.items) cex.choices.items
-shape_if true p (verdict.Unknown nodes) = Spent p nodes.items
+shape_if true p (verdict.Unknown why) = Spent p why
 
 abbrev shape_of : Judged → Shape
 shape_of j = shape_if (is_ordinary j.place) j.place j.verdict
@@ -130,7 +137,7 @@ shaped : (names : List (List ℕ)) (o : Bool) (p : Place) (v : Verdict) → (if 
 shaped names false p v = refl
 shaped names true p (verdict.Proved nodes) = refl
 shaped names true p (verdict.Refuted cex) = refl
-shaped names true p (verdict.Unknown nodes) = refl
+shaped names true p (verdict.Unknown why) = refl
 
 abbrev shapes_text : List (List ℕ) → List Shape → List ℕ
 shapes_text names = flat_map (shape_text names)
@@ -163,7 +170,7 @@ refuted_first names q ws ds (Shown p vs cs ∷ ss) t x y ht hy ih h =
 refuted_first names q ws ds (Spent p ns ∷ ss) t x y ht hy ih h = let e : 114 ≡ 117 = ap third h in absurd (omega (arith, e))
 
 -- an unknown place, and then a text t that is read in one way
-unknown_first : (names : List (List ℕ)) (q : Place) (ms : List (Option Node)) (ss : List Shape) (t x y : List ℕ) → IsHead y → ((rest : List Shape) → t ≡ shapes_text names rest ++ y → x ≡ y) → unknown_text q ms ++ t ≡ shapes_text names ss ++ y → x ≡ y
+unknown_first : (names : List (List ℕ)) (q : Place) (ms : Why) (ss : List Shape) (t x y : List ℕ) → IsHead y → ((rest : List Shape) → t ≡ shapes_text names rest ++ y → x ≡ y) → unknown_text q ms ++ t ≡ shapes_text names ss ++ y → x ≡ y
 unknown_first names q ms [] t x y hy ih h = absurd (hy.no_place (sym (ap first h)))
 unknown_first names q ms (Nothing ∷ ss) t x y hy ih h = unknown_first names q ms ss t x y hy ih h
 unknown_first names q ms (Shown p vs cs ∷ ss) t x y hy ih h = let e : 117 ≡ 114 = ap third h in absurd (omega (arith, e))

@@ -1,6 +1,14 @@
-use Rattle.std.proofs.Common.{◌≡◌, ℕ, zero, suc, ◌+◌, ◌/◌, ◌%◌, ◌≤◌, ◌==◌, ◌&&◌, Bool, true, false, List, [], ◌∷◌, ◌++◌, Option, Some, None, if◌then◌else◌, nat_lt, nat_le, codes, arith, refl}
+use Rattle.std.proofs.Common.{◌≡◌, ℕ, zero, suc, ◌+◌, ◌/◌, ◌%◌, ◌≤◌, ◌==◌, ◌&&◌, Bool, true, false, List, [], ◌∷◌, ◌++◌, Option, Some, None, if◌then◌else◌, nat_lt, nat_le, codes, count_by, length, ℤ, pos, negsuc, arith, refl}
 use Rattle.std.proofs.lemmas.Bool.{and_parts, leb-true}
-use Rattle.std.specs.Fmt.{decimal, digits, digits_onto, digit_glyph}
+use Rattle.std.specs.Fmt.{decimal, signed_decimal, digits, digits_onto, digit_glyph}
+use Rattle.bg_base.specs.declared.exact.Op.{Op}
+use Rattle.bg_base.specs.declared.exact.Op.TheVariants.{Plus, Minus, Times, Negate}
+use Rattle.bg_base.specs.declared.exact.OutOfRange.{OutOfRange}
+use Rattle.bg_tree.specs.declared.outcome.Beyond.{Beyond}
+use Rattle.bg_tree.specs.declared.outcome.Beyond.TheVariants.{Elimination, Value}
+use Rattle.bg_tree.specs.declared.outcome.Why.{Why}
+use Rattle.bg_tree.specs.declared.outcome.Why.TheVariants.{Nodes, Rows, Range}
+use Rattle.bg_told.specs.Kept.{is_inner, operator_text, operation_text, beyond_text, kept_text, cause_text}
 use Rattle.bg_base.specs.declared.pos.Pos.{Pos}
 use Rattle.bg_places.specs.declared.place.Spot.{Spot}
 use Rattle.bg_places.specs.declared.place.Spot.TheVariants.{Assert, Entry, Turn, Call, Return}
@@ -57,7 +65,7 @@ position_is_flat : (p : Pos) → IsFlat (position_text p)
 position_is_flat p =
     append_is_flat (decimal p.line ++ 58 ∷ []) (decimal p.column) (append_is_flat (decimal p.line) (58 ∷ []) (decimal_is_flat p.line) (with_byte 58 [] (omega arith) no_byte)) (decimal_is_flat p.column)
 
-abbrev is_flat : List ℕ → Bool
+abbrev pub is_flat : List ℕ → Bool
 is_flat [] = true
 is_flat (b ∷ bs) = nat_le 32 b && is_flat bs
 
@@ -92,3 +100,54 @@ chosen_is_flat (Chosen false) = word_is_flat (codes "false") refl
 -- a word behind a text
 pub behind_is_flat : (a w : List ℕ) → IsFlat a → is_flat w ≡ true → IsFlat (a ++ w)
 behind_is_flat a w h e = append_is_flat a w h (word_is_flat w e)
+
+-- ---- what is kept of an unknown place
+
+signed_is_flat : (z : ℤ) → IsFlat (signed_decimal z)
+signed_is_flat (pos n) = decimal_is_flat n
+signed_is_flat (negsuc n) = with_byte 45 (decimal (suc n)) (omega arith) (decimal_is_flat (suc n))
+
+operator_is_flat : (o : Op) → IsFlat (operator_text o)
+operator_is_flat Plus = word_is_flat (codes "+") refl
+operator_is_flat Minus = word_is_flat (codes "-") refl
+operator_is_flat Times = word_is_flat (codes "*") refl
+operator_is_flat Negate = word_is_flat (codes "neg") refl
+
+operation_is_flat : (o : OutOfRange) → IsFlat (operation_text o)
+operation_is_flat o =
+    append_is_flat (((operator_text o.op ++ codes " ") ++ signed_decimal o.a) ++ codes " ") (signed_decimal o.b)
+    (behind_is_flat ((operator_text o.op ++ codes " ") ++ signed_decimal o.a) (codes " ")
+    (append_is_flat (operator_text o.op ++ codes " ") (signed_decimal o.a) (behind_is_flat (operator_text o.op) (codes " ") (operator_is_flat o.op) refl) (signed_is_flat o.a)) refl)
+    (signed_is_flat o.b)
+
+beyond_is_flat : (b : Beyond) → IsFlat (beyond_text b)
+beyond_is_flat (Elimination o further) = operation_is_flat further.operation
+beyond_is_flat (Value o spots far) = operation_is_flat far.operation
+
+-- a cause's word, and what is kept, each without a newline
+pub record IsCauseText (why : Why) : Type 0 where
+  pub word : List ℕ
+  pub kept : List ℕ
+  pub is : cause_text why ≡ kept_text word kept
+  pub word_flat : is_flat (codes " " ++ word) ≡ true
+  pub kept_flat : IsFlat kept
+
+pub cause_parts : (why : Why) → IsCauseText why
+cause_parts (Nodes parts) =
+    record {
+      word = codes "nodes";
+      kept = decimal (count_by is_inner parts.items);
+      is = refl;
+      word_flat = refl;
+      kept_flat = decimal_is_flat (count_by is_inner parts.items);
+    }
+cause_parts (Rows path o) =
+    record {
+      word = codes "rows";
+      kept = decimal (length o.reasons.items);
+      is = refl;
+      word_flat = refl;
+      kept_flat = decimal_is_flat (length o.reasons.items);
+    }
+cause_parts (Range path beyond) =
+    record { word = codes "range"; kept = beyond_text beyond; is = refl; word_flat = refl; kept_flat = beyond_is_flat beyond }

@@ -1,5 +1,6 @@
 pub mod Words
 pub mod Lines
+pub mod Kept
 pub mod Places
 pub mod Report
 pub mod Entries

@@ -1,20 +1,20 @@
 -- What is told of a place.
-use Rattle.std.specs.Prelude.{ℕ, Bool, true, false, List, [], ◌++◌, codes, count_by, flat_map, Option, Some, None, if◌then◌else◌}
+use Rattle.std.specs.Prelude.{ℕ, Bool, true, false, List, [], ◌++◌, codes, flat_map, Option, Some, None, if◌then◌else◌}
 use Rattle.std.specs.Fmt.{decimal}
 use Rattle.bg_base.specs.declared.pos.Pos.{Pos}
-use Rattle.bg_cert.specs.declared.cert.Node.{Node}
-use Rattle.bg_cert.specs.declared.cert.Node.TheVariants.{Split, Bound}
 use Rattle.bg_places.specs.declared.place.Spot.{Spot}
 use Rattle.bg_places.specs.declared.place.Spot.TheVariants.{Assert, Entry, Turn, Call, Return}
 use Rattle.bg_places.specs.declared.place.Place.{Place}
 use Rattle.bg_replay.specs.declared.choice.Choice.{Choice}
 use Rattle.bg_replay.specs.declared.choice.Choice.TheVariants.{Branch, Chosen}
+use Rattle.bg_tree.specs.declared.outcome.Why.{Why}
 use Rattle.bg_check.specs.declared.verdict.Verdict.{Verdict}
 use Rattle.bg_check.specs.declared.verdict.Verdict.TheVariants as verdict
 use Rattle.bg_check.specs.declared.verdict.Judged.{Judged}
 use Rattle.bg_told.specs.declared.word.Word.{Word}
 use Rattle.bg_told.specs.declared.word.Word.TheVariants.{Refuted, Unknown}
 use Rattle.bg_told.specs.Words.{is_ordinary}
+use Rattle.bg_told.specs.Kept.{cause_text}
 use Rattle.bg_told.specs.Lines.{line, texts, position_text, truth_text, word_text}
 
 -- what is checked
@@ -55,21 +55,15 @@ abbrev pub refuted_text : List (List ℕ) → Place → List Bool → List Choic
 refuted_text names p values choices =
     line (told_text Refuted p) ++ (texts value_text names values ++ flat_map choice_text choices)
 
--- whether a node of a partial tree has children
-abbrev pub is_inner : Option Node → Bool
-is_inner (Some (Split a)) = true
-is_inner (Some (Bound x k)) = true
-is_inner _ = false
-
--- an unknown place, with the number of inner nodes of its partial tree
-abbrev pub unknown_text : Place → List (Option Node) → List ℕ
-unknown_text p nodes = line (told_text Unknown p ++ codes " nodes") ++ line (codes "    kept " ++ decimal (count_by is_inner nodes))
+-- an unknown place, with its cause
+abbrev pub unknown_text : Place → Why → List ℕ
+unknown_text p why = told_text Unknown p ++ cause_text why
 
 -- what is told of a place: nothing where it is proved; of a counterexample the values of the globals, then those of the frame
 abbrev pub verdict_text : List (List ℕ) → Place → Verdict → List ℕ
 verdict_text names p (verdict.Proved nodes) = []
 verdict_text names p (verdict.Refuted cex) = refuted_text names p (cex.globals.items ++ cex.frame.items) cex.choices.items
-verdict_text names p (verdict.Unknown nodes) = unknown_text p nodes.items
+verdict_text names p (verdict.Unknown why) = unknown_text p why
 
 -- only ordinary places are told of
 abbrev pub judged_text : List (List ℕ) → Judged → List ℕ

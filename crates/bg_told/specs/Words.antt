@@ -20,7 +20,7 @@ ordinary = filter (λ j. is_ordinary j.place)
 abbrev pub word_in : Verdict → Word
 word_in (verdict.Proved nodes) = Verified
 word_in (verdict.Refuted cex) = Refuted
-word_in (verdict.Unknown nodes) = Unknown
+word_in (verdict.Unknown why) = Unknown
 
 abbrev pub is_word : Word → Word → Bool
 is_word Verified Verified = true

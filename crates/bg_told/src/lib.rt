@@ -2,6 +2,7 @@
 #![tactic(auto)]
 
 mod choices;
+mod kept;
 mod laws;
 mod place;
 mod places;

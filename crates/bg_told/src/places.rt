@@ -1,19 +1,19 @@
 //! The ordinary places of an implementation that aren't proved.
-ghost use Rattle.std.specs.Prelude.{◌≡◌, ◌++◌, OnOk, map, flat_map, count_by};
+ghost use Rattle.std.specs.Prelude.{◌≡◌, ◌++◌, OnOk, map, flat_map};
 ghost use Rattle.bg_ast.specs.Views.{declared_of, impl_of};
-ghost use Rattle.bg_told.specs.Places.{refuted_text, is_inner, unknown_text, verdict_text, judged_text};
+ghost use Rattle.bg_told.specs.Places.{refuted_text, unknown_text, verdict_text, judged_text};
 ghost use Rattle.bg_told.specs.Report.{names_of};
 
 use crate::choices::put_choices;
+use crate::kept::put_cause;
 use crate::place::put_told;
-use crate::put::put_number;
 use crate::values::{Values, put_entry};
 use crate::word::{Word, is_ordinary};
 use bg_ast::resolved::{Declared, Implementation};
-use bg_cert::Node;
 use bg_check::{Judged, Verdict};
 use bg_model::Counterexample;
 use bg_places::Place;
+use bg_tree::Why;
 use std::alloc::AllocError;
 
 /// A refuted place.
@@ -37,25 +37,12 @@ fn put_refuted(
     Ok(())
 }
 
-/// How many inner nodes a partial tree has.
-fn inner(nodes: &[Option<Node>]) -> usize
-    ensures { result ≡ count_by is_inner nodes.now }
-{
-    nodes
-        .iter()
-        .filter(|node| matches!(node, Some(Node::Split(_)) | Some(Node::Bound(_, _))))
-        .count()
-}
-
 /// An unknown place.
-fn put_unknown(out: &mut Vec<u8>, place: &Place, nodes: &[Option<Node>]) -> Result<(), AllocError>
-    ensures { OnOk result (out.new.items ≡ out.old.items ++ unknown_text place.now nodes.now) }
+fn put_unknown(out: &mut Vec<u8>, place: &Place, why: &Why) -> Result<(), AllocError>
+    ensures { OnOk result (out.new.items ≡ out.old.items ++ unknown_text place.now why.now) }
 {
     put_told(out, Word::Unknown, place)?;
-    out.extend_from_slice(b" nodes\n    kept ")?;
-    put_number(out, inner(nodes))?;
-    out.push(b'\n')?;
-    Ok(())
+    put_cause(out, why)
 }
 
 fn put_verdict(
@@ -70,7 +57,7 @@ fn put_verdict(
     match verdict {
         Verdict::Proved(_) => Ok(()),
         Verdict::Refuted(cex) => put_refuted(out, globals, implementation, place, cex),
-        Verdict::Unknown(nodes) => put_unknown(out, place, nodes),
+        Verdict::Unknown(why) => put_unknown(out, place, why),
     }
 }
 

@@ -1,12 +1,15 @@
 use super::*;
 use bg_ast::resolved::{Declared, Implementation, Resolved, WrittenType};
-use bg_base::{CandId, Pos};
+use bg_base::{CandId, Op, OutOfRange, Pos};
 use bg_cert::Node;
 use bg_check::{Judged, Verdict};
+use bg_elim::{Further, Order, Reason};
 use bg_model::Counterexample;
 use bg_places::{Place, Spot};
+use bg_point::{Far, Gap};
 use bg_replay::Choice;
 use bg_text::Name;
+use bg_tree::{Beyond, Kept, Part, Why};
 use std::alloc::{AllocError, Global};
 use std::test::Fail;
 
@@ -23,12 +26,15 @@ type Case<'a> = (
 /// A place: what is checked, the candidate that guards it, the clause's position, that of the call, and what is known of it.
 type Told<'a> = (Spot, Option<u32>, (u32, u32), Option<(u32, u32)>, Known<'a>);
 
-/// What is known of a place: of a refuted one the values of globals and frame, and the choices.
+/// What is known of a place: of a refuted one the values of globals and frame, and the choices; of
+/// an unknown one a tree, the reasons of rows, or an operation and whether it makes a value.
 #[derive(Clone, Copy)]
 enum Known<'a> {
     Proved,
     Refuted(&'a [bool], &'a [bool], &'a [Choice]),
     Unknown(&'a [Kind]),
+    Filled(&'a [Reason]),
+    Beyond(OutOfRange, bool),
 }
 
 /// What stands at a place of a partial tree.
@@ -65,23 +71,66 @@ fn declared(alloc: Global, texts: &[&str]) -> Result<Vec<Declared>, AllocError> 
     Ok(all)
 }
 
-fn node(alloc: Global, kind: Kind) -> Option<Node> {
+fn order(alloc: Global, reasons: &[Reason]) -> Result<Order, AllocError> {
+    Ok(Order {
+        variables: Vec::new(alloc),
+        reasons: reasons.to_vec(alloc)?,
+        rows: Vec::new(alloc),
+    })
+}
+
+/// A bound node; only that it is one is told.
+fn kept(alloc: Global) -> Result<Kept, AllocError> {
+    Ok(Kept {
+        order: order(alloc, &[])?,
+        spots: Vec::new(alloc),
+        gap: Gap {
+            variable: 0,
+            below: -1,
+            low: 0,
+            up: 1,
+        },
+    })
+}
+
+fn part(alloc: Global, kind: Kind) -> Result<Part, AllocError> {
     match kind {
-        Kind::Open => None,
-        Kind::Split => Some(Node::Split(3)),
-        Kind::Bound => Some(Node::Bound(0, -1)),
-        Kind::Clause => Some(Node::Clause(0)),
-        Kind::Unit => Some(Node::Unit(0)),
-        Kind::Rows => Some(Node::Rows(Vec::new(alloc))),
+        Kind::Open => Ok(Part::Open),
+        Kind::Split => Ok(Part::Plain(Node::Split(3))),
+        Kind::Bound => Ok(Part::Bound(kept(alloc)?)),
+        Kind::Clause => Ok(Part::Plain(Node::Clause(0))),
+        Kind::Unit => Ok(Part::Plain(Node::Unit(0))),
+        Kind::Rows => Ok(Part::Plain(Node::Rows(Vec::new(alloc)))),
     }
 }
 
-fn nodes(alloc: Global, kinds: &[Kind]) -> Result<Vec<Option<Node>>, AllocError> {
+fn parts(alloc: Global, kinds: &[Kind]) -> Result<Vec<Part>, AllocError> {
     let mut all = Vec::new(alloc);
     for kind in kinds {
-        all.push(node(alloc, *kind))?;
+        all.push(part(alloc, *kind)?)?;
     }
     Ok(all)
+}
+
+/// An operation of an elimination, or of a value.
+fn beyond(alloc: Global, operation: OutOfRange, is_value: bool) -> Result<Beyond, AllocError> {
+    let order = order(alloc, &[])?;
+    if is_value {
+        let far = Far {
+            variable: 0,
+            row: 0,
+            operation,
+        };
+        Ok(Beyond::Value(order, Vec::new(alloc), far))
+    } else {
+        let further = Further {
+            first: 0,
+            second: 1,
+            variable: 0,
+            operation,
+        };
+        Ok(Beyond::Elimination(order, further))
+    }
 }
 
 fn verdict(alloc: Global, known: Known) -> Result<Verdict, AllocError> {
@@ -92,7 +141,15 @@ fn verdict(alloc: Global, known: Known) -> Result<Verdict, AllocError> {
             frame: frame.to_vec(alloc)?,
             choices: choices.to_vec(alloc)?,
         })),
-        Known::Unknown(kinds) => Ok(Verdict::Unknown(nodes(alloc, kinds)?)),
+        Known::Unknown(kinds) => Ok(Verdict::Unknown(Why::Nodes(parts(alloc, kinds)?))),
+        Known::Filled(reasons) => {
+            let order = order(alloc, reasons)?;
+            Ok(Verdict::Unknown(Why::Rows(Vec::new(alloc), order)))
+        }
+        Known::Beyond(operation, is_value) => {
+            let beyond = beyond(alloc, operation, is_value)?;
+            Ok(Verdict::Unknown(Why::Range(Vec::new(alloc), beyond)))
+        }
     }
 }
 
@@ -169,6 +226,51 @@ const BRIEF: Case = (
         None,
         Known::Refuted(&[false, true], &[], &[]),
     )],
+);
+
+const STOPPED: Case = (
+    "S",
+    (4, 1),
+    &[],
+    &[],
+    &[],
+    &[
+        (
+            Spot::Assert(0),
+            None,
+            (4, 3),
+            None,
+            Known::Filled(&[Reason::Given(0), Reason::Tightened(0)]),
+        ),
+        (
+            Spot::Assert(1),
+            None,
+            (4, 5),
+            None,
+            Known::Beyond(
+                OutOfRange {
+                    op: Op::Plus,
+                    a: 170141183460469231731687303715884105727,
+                    b: 1,
+                },
+                false,
+            ),
+        ),
+        (
+            Spot::Assert(2),
+            None,
+            (4, 7),
+            None,
+            Known::Beyond(
+                OutOfRange {
+                    op: Op::Negate,
+                    a: -170141183460469231731687303715884105728,
+                    b: 0,
+                },
+                true,
+            ),
+        ),
+    ],
 );
 
 const SPENT: Case = (
@@ -302,6 +404,18 @@ fn a_line_for_each_implementation_and_each_place_that_is_not_proved(
     assert!(rt;
         shows(alloc, &[SPENT], Word::Unknown, lines)?,
         "one inner node"
+    );
+    let lines = "implementation S 4:1 unknown\n\
+                 \x20 unknown assert 4:3 rows\n\
+                 \x20   kept 2\n\
+                 \x20 unknown assert 4:5 range\n\
+                 \x20   kept + 170141183460469231731687303715884105727 1\n\
+                 \x20 unknown assert 4:7 range\n\
+                 \x20   kept neg -170141183460469231731687303715884105728 0\n\
+                 summary: 0 retained, 0 dropped; 0 verified, 0 refuted, 1 unknown\n";
+    assert!(rt;
+        shows(alloc, &[STOPPED], Word::Unknown, lines)?,
+        "rows and range"
     );
     let lines = "implementation R 3:1 verified\n\
                  summary: 0 retained, 0 dropped; 1 verified, 0 refuted, 0 unknown\n";

@@ -6,6 +6,7 @@ use Rattle.bg_io.specs.Causes.{joined_text, IsTextOf, IsTextOver}
 use Rattle.bg_ast.specs.Resolved.{Program}
 use Rattle.bg_front.specs.Programs.{IsProgramOf, IsRefusedBy, without_name}
 use Rattle.bg_front.specs.Refusals.{Refusal, TooLong, Bytes, Syntax, Nesting, Names, Types, Later, Implementations, Places, Expanded, is_limit}
+use Rattle.bg_tree.specs.declared.outcome.Budget.{Budget}
 use Rattle.bg_tool.specs.declared.status.Status.{Status}
 use Rattle.bg_tool.specs.declared.status.Status.TheVariants as status
 use Rattle.bg_tool.specs.Statuses.{refusal_status, is_report, is_refused}
@@ -64,7 +65,7 @@ long_text None names n h =
     (replicate (suc n) byte, (tt, omega (arith, e)))
 long_text (Some held) names n h = (joined_text held names, (refl, h))
 
-pub wrote_some : (budget : ℕ) (contents : Option (List ℕ → List ℕ)) (names : List (List ℕ)) (bytes : List ℕ) (before now : Option (List ℕ)) → IsTextOf contents names bytes → ReportedSome budget bytes before now → WroteSome budget contents names before now
+pub wrote_some : (budget : Budget) (contents : Option (List ℕ → List ℕ)) (names : List (List ℕ)) (bytes : List ℕ) (before now : Option (List ℕ)) → IsTextOf contents names bytes → ReportedSome budget bytes before now → WroteSome budget contents names before now
 wrote_some budget contents names bytes before now r (inl e) = inl e
 wrote_some budget contents names bytes before now r (inr f) =
     inr (record { ends = f.ends; text = f.text; may = record { bytes = bytes; read = r; report = f.report }; count = f.count; written = f.written })
@@ -100,7 +101,7 @@ judges k contents names bytes ends read s = record {
   none = λ held told n. said_none bytes ends s (λ p t. n p (subst (λ bs. IsProgramOf bs p) (held_is contents held names bytes told read) t));
 }
 
-module _ {A B : Type 0} (budget : ℕ) (bytes : List ℕ) (before now lines line : Option (List ℕ)) where
+module _ {A B : Type 0} (budget : Budget) (bytes : List ℕ) (before now lines line : Option (List ℕ)) where
   -- what the answer over a text within the limit says of it
   pub said : (ends : Status) → (IsTrue (is_report ends) → Reported budget bytes ends before now) → (IsTrue (is_refused ends) → RefusedFor bytes ends lines line) → (ends ≡ status.Write → A ⊎ B) → (A → ⊥) → (B → ⊥) → (ends ≢ status.Usage) × (ends ≢ status.Read) → Said bytes ends
   said status.Verified r f w a b o = let q = r refl in Spelled q.report.program q.report.spelled refl

@@ -13,11 +13,16 @@ use Rattle.bg_tool.specs.Safety.{VerifiedAreSafe}
 use Rattle.bg_tool.specs.declared.status.Status.{Status}
 use Rattle.bg_tool.specs.declared.status.Status.TheVariants as status
 use Rattle.bg_tool.specs.Statuses.{status_for, refusal_status, is_report, is_refused}
-use Rattle.bg_cli.specs.Cli.{IsTaken, files_in}
+use Rattle.bg_cli.specs.Cli.{IsTaken, files_in, nodes_in, most_rows_in}
+use Rattle.bg_tree.specs.declared.outcome.Budget.{Budget}
+
+-- what a search may use up, as the words say
+abbrev pub budget_in : List (List ℕ) → Budget
+budget_in words = record { nodes = nodes_in words; rows = most_rows_in words }
 
 -- the text is the report of the program that the bytes spell, with verdicts that are right; each implementation that it
 -- calls verified is safe; and the status is the one that the verdicts give
-pub record IsReport (budget : ℕ) (bytes : List ℕ) (ends : Status) (text : List ℕ) : Type 0 where
+pub record IsReport (budget : Budget) (bytes : List ℕ) (ends : Status) (text : List ℕ) : Type 0 where
   pub program : Program
   pub spelled : IsProgramOf bytes program
   pub outcome : List (List Judged)
@@ -27,20 +32,20 @@ pub record IsReport (budget : ℕ) (bytes : List ℕ) (ends : Status) (text : Li
   pub gives : ends ≡ status_for (word_for outcome)
 
 -- a report was written, whole
-pub record Reported (budget : ℕ) (bytes : List ℕ) (ends : Status) (before now : Option (List ℕ)) : Type 0 where
+pub record Reported (budget : Budget) (bytes : List ℕ) (ends : Status) (before now : Option (List ℕ)) : Type 0 where
   pub text : List ℕ
   pub report : IsReport budget bytes ends text
   pub written : now ≡ joined before text
 
 -- nothing was written, or the first bytes of a report
-pub record ReportedFront (budget : ℕ) (bytes : List ℕ) (before now : Option (List ℕ)) : Type 0 where
+pub record ReportedFront (budget : Budget) (bytes : List ℕ) (before now : Option (List ℕ)) : Type 0 where
   pub ends : Status
   pub text : List ℕ
   pub report : IsReport budget bytes ends text
   pub count : ℕ
   pub written : now ≡ joined before (take count text)
 
-abbrev pub ReportedSome : ℕ → List ℕ → Option (List ℕ) → Option (List ℕ) → Type 0
+abbrev pub ReportedSome : Budget → List ℕ → Option (List ℕ) → Option (List ℕ) → Type 0
 ReportedSome budget bytes before now = (now ≡ before) ⊎ ReportedFront budget bytes before now
 
 -- the bytes are refused for a reason that gives the status, and its line was written, whole
@@ -51,26 +56,26 @@ pub record RefusedFor (bytes : List ℕ) (ends : Status) (before now : Option (L
   pub written : now ≡ joined before (line_of reason)
 
 -- a text that the call may write when it ends so
-pub record MayWrite (budget : ℕ) (contents : Option (List ℕ → List ℕ)) (names : List (List ℕ)) (ends : Status) (text : List ℕ) : Type 0 where
+pub record MayWrite (budget : Budget) (contents : Option (List ℕ → List ℕ)) (names : List (List ℕ)) (ends : Status) (text : List ℕ) : Type 0 where
   pub bytes : List ℕ
   pub read : IsTextOf contents names bytes
   pub report : IsReport budget bytes ends text
 
 -- such a text was written, whole
-pub record Wrote (budget : ℕ) (contents : Option (List ℕ → List ℕ)) (names : List (List ℕ)) (ends : Status) (before now : Option (List ℕ)) : Type 0 where
+pub record Wrote (budget : Budget) (contents : Option (List ℕ → List ℕ)) (names : List (List ℕ)) (ends : Status) (before now : Option (List ℕ)) : Type 0 where
   pub text : List ℕ
   pub may : MayWrite budget contents names ends text
   pub written : now ≡ joined before text
 
 -- nothing was written, or the first bytes of a text that the call may write when it ends with a report
-pub record WroteFrontOf (budget : ℕ) (contents : Option (List ℕ → List ℕ)) (names : List (List ℕ)) (before now : Option (List ℕ)) : Type 0 where
+pub record WroteFrontOf (budget : Budget) (contents : Option (List ℕ → List ℕ)) (names : List (List ℕ)) (before now : Option (List ℕ)) : Type 0 where
   pub ends : Status
   pub text : List ℕ
   pub may : MayWrite budget contents names ends text
   pub count : ℕ
   pub written : now ≡ joined before (take count text)
 
-abbrev pub WroteSome : ℕ → Option (List ℕ → List ℕ) → List (List ℕ) → Option (List ℕ) → Option (List ℕ) → Type 0
+abbrev pub WroteSome : Budget → Option (List ℕ → List ℕ) → List (List ℕ) → Option (List ℕ) → Option (List ℕ) → Type 0
 WroteSome budget contents names before now = (now ≡ before) ⊎ WroteFrontOf budget contents names before now
 
 -- the text of these files is refused for a reason that gives the status, and its line was written, whole

@@ -1,7 +1,7 @@
 //! The top call.
 ghost use Rattle.std.specs.Prelude.{◌≡◌, ◌⊎◌, ◌<◌, ◌≤◌, ℕ, List, ◌++◌, IsTrue, IfOk, map, string_bytes, codes, length, ◌≢◌};
 ghost use Rattle.bg_io.specs.Causes.{Rose, joined, IsTextOf, IsTextOver};
-ghost use Rattle.bg_cli.specs.Cli.{IsTaken, texts_of, files_in, nodes_in};
+ghost use Rattle.bg_cli.specs.Cli.{IsTaken, texts_of, files_in};
 ghost use Rattle.bg_ast.specs.Views.{program_of};
 ghost use Rattle.bg_ast.specs.Meaning.{meaning_of};
 ghost use Rattle.bg_sense.specs.Typed.{IsTyped};
@@ -9,19 +9,20 @@ ghost use Rattle.bg_front.specs.Programs.{IsProgramOf, IsRefusedBy};
 ghost use Rattle.bg_front.specs.Refusals.{refusal_of};
 ghost use Rattle.bg_front.specs.Lines.{line_of};
 ghost use Rattle.bg_tool.specs.Statuses.{status_for, refusal_status, is_report, is_refused, is_refusal};
-ghost use Rattle.bg_tool.specs.Answers.{Reported, ReportedSome, RefusedFor, IsReport, Wrote, WroteSome, Refuses, usage_line, NamesFile, Judges, Completes};
+ghost use Rattle.bg_tool.specs.Answers.{budget_in, Reported, ReportedSome, RefusedFor, IsReport, Wrote, WroteSome, Refuses, usage_line, NamesFile, Judges, Completes};
 
 use crate::status::Status;
 use bg_ast::resolved::Resolved;
 use bg_check::check_program;
 use bg_check::laws::proved_is_safe;
 use bg_claims::Gate;
-use bg_cli::{LineError, read_line};
+use bg_cli::{Line, LineError, read_line};
 use bg_fits::is_over_truths;
 use bg_front::laws::{a_text_has_one_program_or_one_refusal, programs_are_typed};
 use bg_front::{MOST_BYTES, ReadError as TextError, Refusal, read_program};
 use bg_io::{Files, ReadError, Sink, read_all, write_all};
 use bg_told::{Word, result_text, verified_is_all_proved, word_of};
+use bg_tree::Budget;
 use std::alloc::{AllocError, Global};
 
 /// The status that verdicts give.
@@ -38,15 +39,15 @@ fn status_of(word: Word) -> Status
 
 /// The report of a typed program, and the status that its verdicts give. A program that isn't one over truth values has none: its
 /// text is refused before, and here it is want of memory.
-fn report_of(alloc: Global, program: &Resolved, nodes: u32) -> Result<(Status, Vec<u8>), AllocError>
+fn report_of(alloc: Global, program: &Resolved, budget: Budget) -> Result<(Status, Vec<u8>), AllocError>
     requires typed { IsTyped (meaning_of (program_of program.now)) }
-    ensures report { IfOk result (λ r. (bytes : List ℕ) → IsProgramOf bytes (program_of program.now) → IsReport nodes bytes r.0 r.1.items) }
+    ensures report { IfOk result (λ r. (bytes : List ℕ) → IsProgramOf bytes (program_of program.now) → IsReport budget bytes r.0 r.1.items) }
     ensures ends { IfOk result (λ r. IsTrue (is_report r.0)) }
 {
     if !is_over_truths(program) {
         return Err(AllocError);
     }
-    let outcome = check_program(alloc, program, nodes)?;
+    let outcome = check_program(alloc, program, budget)?;
     proved_is_safe();
     verified_is_all_proved();
     let text = result_text(alloc, program, &outcome)?;
@@ -123,15 +124,15 @@ fn refuse_bytes<E: Sink>(alloc: Global, refusal: &Refusal<'_>, err: &mut E) -> S
 fn verify<S: Sink, E: Sink>(
     alloc: Global,
     bytes: &[u8],
-    nodes: u32,
+    budget: Budget,
     out: &mut S,
     err: &mut E,
 ) -> Status
-    ensures report { IsTrue (is_report result) → Reported nodes bytes.now result (S.written out.old) (S.written out.new) }
+    ensures report { IsTrue (is_report result) → Reported budget bytes.now result (S.written out.old) (S.written out.new) }
     ensures quiet { (IsTrue (is_report result) ⊎ (result ≡ Status.Memory)) → E.written err.new ≡ E.written err.old }
     ensures refused { IsTrue (is_refused result) → RefusedFor bytes.now result (E.written err.old) (E.written err.new) }
     ensures still { IsTrue (is_refused result) → S.written out.new ≡ S.written out.old }
-    ensures part { ((result ≡ Status.Write) ⊎ (result ≡ Status.Memory)) → ReportedSome nodes bytes.now (S.written out.old) (S.written out.new) }
+    ensures part { ((result ≡ Status.Write) ⊎ (result ≡ Status.Memory)) → ReportedSome budget bytes.now (S.written out.old) (S.written out.new) }
     ensures cause { result ≡ Status.Write → Rose (S.faults out.old) (S.faults out.new) ⊎ Rose (E.faults err.old) (E.faults err.new) }
     ensures others { (result ≢ Status.Usage) × (result ≢ Status.Read) }
 {
@@ -141,7 +142,7 @@ fn verify<S: Sink, E: Sink>(
         Err(TextError::Refused(refusal)) => return refuse_bytes(alloc, &refusal, err),
     };
     programs_are_typed();
-    let Ok((ends, text)) = report_of(alloc, &typed.program, nodes) else {
+    let Ok((ends, text)) = report_of(alloc, &typed.program, budget) else {
         return Status::Memory;
     };
     match write_all(out, &text) {
@@ -154,19 +155,19 @@ fn verify<S: Sink, E: Sink>(
 fn judge<F: Files, S: Sink, E: Sink>(
     alloc: Global,
     names: &[String],
-    nodes: u32,
+    budget: Budget,
     files: &mut F,
     out: &mut S,
     err: &mut E,
 ) -> Status
-    ensures report { IsTrue (is_report result) → Wrote nodes (F.contents files.old) (map string_bytes names.now) result (S.written out.old) (S.written out.new) }
+    ensures report { IsTrue (is_report result) → Wrote budget (F.contents files.old) (map string_bytes names.now) result (S.written out.old) (S.written out.new) }
     ensures quiet { (IsTrue (is_report result) ⊎ (result ≡ Status.Memory)) → E.written err.new ≡ E.written err.old }
     ensures refused { IsTrue (is_refused result) → Refuses (F.contents files.old) (map string_bytes names.now) result (E.written err.old) (E.written err.new) }
     ensures read { result ≡ Status.Read → Rose (F.faults files.old) (F.faults files.new) }
     ensures write { result ≡ Status.Write → Rose (S.faults out.old) (S.faults out.new) ⊎ Rose (E.faults err.old) (E.faults err.new) }
     ensures file { result ≡ Status.Read → NamesFile (map string_bytes names.now) (F.starts files.old) (F.starts files.new) (E.written err.old) (E.written err.new) }
     ensures still { IsTrue (is_refusal result) → S.written out.new ≡ S.written out.old }
-    ensures prefix { ((result ≡ Status.Write) ⊎ (result ≡ Status.Memory)) → WroteSome nodes (F.contents files.old) (map string_bytes names.now) (S.written out.old) (S.written out.new) }
+    ensures prefix { ((result ≡ Status.Write) ⊎ (result ≡ Status.Memory)) → WroteSome budget (F.contents files.old) (map string_bytes names.now) (S.written out.old) (S.written out.new) }
     ensures complete { (Rose (F.faults files.old) (F.faults files.new) → ⊥) → (Rose (S.faults out.old) (S.faults out.new) → ⊥) → (Rose (E.faults err.old) (E.faults err.new) → ⊥) → Judges (F.contents files.old) (map string_bytes names.now) result }
     ensures words { result ≢ Status.Usage }
 {
@@ -175,7 +176,17 @@ fn judge<F: Files, S: Sink, E: Sink>(
         Err(ReadError::ReadFault { file }) => refuse_file(err, names[file].as_str()),
         Err(ReadError::TooLong { .. }) => refuse_bytes(alloc, &Refusal::TooLong, err),
         Err(ReadError::Memory) => Status::Memory,
-        Ok(bytes) => verify(alloc, &bytes, nodes, out, err),
+        Ok(bytes) => verify(alloc, &bytes, budget, out, err),
+    }
+}
+
+/// What a search may use up, as the words say.
+fn budget_of(line: &Line<'_>) -> Budget
+    ensures { result ≡ record { nodes = line.now.nodes; rows = line.now.rows } }
+{
+    Budget {
+        nodes: line.nodes,
+        rows: line.rows,
     }
 }
 
@@ -201,7 +212,7 @@ pub fn run<R: AllocGlobal, F: Files, S: Sink, E: Sink, G: Gate>(
     _gate: &G,
 ) -> Status
     ensures taken { (IsTrue (is_report result) ⊎ (IsTrue (is_refused result) ⊎ (result ≡ Status.Read))) → IsTaken (texts_of words.now) }
-    ensures report { IsTrue (is_report result) → Wrote (nodes_in (texts_of words.now)) (F.contents files.old) (files_in (texts_of words.now)) result (S.written out.old) (S.written out.new) }
+    ensures report { IsTrue (is_report result) → Wrote (budget_in (texts_of words.now)) (F.contents files.old) (files_in (texts_of words.now)) result (S.written out.old) (S.written out.new) }
     ensures quiet { (IsTrue (is_report result) ⊎ (result ≡ Status.Memory)) → E.written err.new ≡ E.written err.old }
     ensures text { IsTrue (is_refused result) → Refuses (F.contents files.old) (files_in (texts_of words.now)) result (E.written err.old) (E.written err.new) }
     ensures usage { result ≡ Status.Usage → IsTaken (texts_of words.now) → ⊥ }
@@ -210,7 +221,7 @@ pub fn run<R: AllocGlobal, F: Files, S: Sink, E: Sink, G: Gate>(
     ensures line { result ≡ Status.Usage → E.written err.new ≡ joined (E.written err.old) usage_line }
     ensures file { result ≡ Status.Read → NamesFile (files_in (texts_of words.now)) (F.starts files.old) (F.starts files.new) (E.written err.old) (E.written err.new) }
     ensures still { IsTrue (is_refusal result) → S.written out.new ≡ S.written out.old }
-    ensures prefix { ((result ≡ Status.Write) ⊎ (result ≡ Status.Memory)) → WroteSome (nodes_in (texts_of words.now)) (F.contents files.old) (files_in (texts_of words.now)) (S.written out.old) (S.written out.new) }
+    ensures prefix { ((result ≡ Status.Write) ⊎ (result ≡ Status.Memory)) → WroteSome (budget_in (texts_of words.now)) (F.contents files.old) (files_in (texts_of words.now)) (S.written out.old) (S.written out.new) }
     ensures complete { (Rose (F.faults files.old) (F.faults files.new) → ⊥) → (Rose (S.faults out.old) (S.faults out.new) → ⊥) → (Rose (E.faults err.old) (E.faults err.new) → ⊥) → Completes (F.contents files.old) (texts_of words.now) result }
 {
     let line = match read_line(rt.alloc(), words) {
@@ -227,5 +238,5 @@ pub fn run<R: AllocGlobal, F: Files, S: Sink, E: Sink, G: Gate>(
     let Ok(names) = names_of(rt.alloc(), &line.files) else {
         return Status::Memory;
     };
-    judge(rt.alloc(), &names, line.nodes, files, out, err)
+    judge(rt.alloc(), &names, budget_of(&line), files, out, err)
 }

@@ -1,0 +1,43 @@
+-- What is told of a place that is left unknown.
+use Rattle.std.specs.Prelude.{ℕ, Bool, true, false, List, [], ◌++◌, codes, count_by, length}
+use Rattle.std.specs.Fmt.{decimal, signed_decimal}
+use Rattle.bg_base.specs.declared.exact.Op.{Op}
+use Rattle.bg_base.specs.declared.exact.Op.TheVariants.{Plus, Minus, Times, Negate}
+use Rattle.bg_base.specs.declared.exact.OutOfRange.{OutOfRange}
+use Rattle.bg_cert.specs.declared.cert.Node.TheVariants.{Split}
+use Rattle.bg_tree.specs.declared.part.Part.{Part}
+use Rattle.bg_tree.specs.declared.part.Part.TheVariants.{Plain, Bound}
+use Rattle.bg_tree.specs.declared.outcome.Beyond.{Beyond}
+use Rattle.bg_tree.specs.declared.outcome.Beyond.TheVariants.{Elimination, Value}
+use Rattle.bg_tree.specs.declared.outcome.Why.{Why}
+use Rattle.bg_tree.specs.declared.outcome.Why.TheVariants.{Nodes, Rows, Range}
+use Rattle.bg_told.specs.Lines.{line}
+
+-- whether a part of a tree has children
+abbrev pub is_inner : Part → Bool
+is_inner (Plain (Split a)) = true
+is_inner (Bound k) = true
+is_inner _ = false
+
+abbrev pub operator_text : Op → List ℕ
+operator_text Plus = codes "+"
+operator_text Minus = codes "-"
+operator_text Times = codes "*"
+operator_text Negate = codes "neg"
+
+-- an operation that leaves the range, with its operands
+abbrev pub operation_text : OutOfRange → List ℕ
+operation_text o = operator_text o.op ++ codes " " ++ signed_decimal o.a ++ codes " " ++ signed_decimal o.b
+
+abbrev pub beyond_text : Beyond → List ℕ
+beyond_text (Elimination o further) = operation_text further.operation
+beyond_text (Value o spots far) = operation_text far.operation
+
+-- a cause in the place's line, and what is kept: the number of inner nodes, or of rows, or the operation
+abbrev pub kept_text : List ℕ → List ℕ → List ℕ
+kept_text word kept = line (codes " " ++ word) ++ line (codes "    kept " ++ kept)
+
+abbrev pub cause_text : Why → List ℕ
+cause_text (Nodes parts) = kept_text (codes "nodes") (decimal (count_by is_inner parts.items))
+cause_text (Rows path o) = kept_text (codes "rows") (decimal (length o.reasons.items))
+cause_text (Range path beyond) = kept_text (codes "range") (beyond_text beyond)
