@@ -1,10 +1,11 @@
 //! The top call.
-ghost use Rattle.std.specs.Prelude.{◌≡◌, ◌⊎◌, ◌<◌, ◌≤◌, ℕ, List, ◌++◌, IsTrue, IfOk, map, string_bytes, codes, length, ◌≢◌};
+ghost use Rattle.std.specs.Prelude.{◌≡◌, ◌⊎◌, ◌<◌, ◌≤◌, ℕ, true, List, ◌++◌, IsTrue, IfOk, map, string_bytes, codes, length, ◌≢◌};
 ghost use Rattle.bg_io.specs.Causes.{Rose, joined, IsTextOf, IsTextOver};
 ghost use Rattle.bg_cli.specs.Cli.{IsTaken, texts_of, files_in};
 ghost use Rattle.bg_ast.specs.Views.{program_of};
 ghost use Rattle.bg_ast.specs.Meaning.{meaning_of};
 ghost use Rattle.bg_sense.specs.Typed.{IsTyped};
+ghost use Rattle.bg_fits.specs.Truths.{is_over_truths};
 ghost use Rattle.bg_front.specs.Programs.{IsProgramOf, IsRefusedBy};
 ghost use Rattle.bg_front.specs.Refusals.{refusal_of};
 ghost use Rattle.bg_front.specs.Lines.{line_of};
@@ -17,10 +18,10 @@ use bg_check::check_program;
 use bg_check::laws::proved_is_safe;
 use bg_claims::Gate;
 use bg_cli::{Line, LineError, read_line};
-use bg_fits::is_over_truths;
 use bg_front::laws::{a_text_has_one_program_or_one_refusal, programs_are_typed};
 use bg_front::{MOST_BYTES, ReadError as TextError, Refusal, read_program};
 use bg_io::{Files, ReadError, Sink, read_all, write_all};
+use bg_judged::laws::judged_programs_are_over_truths;
 use bg_told::{Word, result_text, verified_is_all_proved, word_of};
 use bg_tree::Budget;
 use std::alloc::{AllocError, Global};
@@ -37,16 +38,13 @@ fn status_of(word: Word) -> Status
     }
 }
 
-/// The report of a typed program, and the status that its verdicts give. A program that isn't one over truth values has none: its
-/// text is refused before, and here it is want of memory.
+/// The report of a typed program over truth values, and the status that its verdicts give.
 fn report_of(alloc: Global, program: &Resolved, budget: Budget) -> Result<(Status, Vec<u8>), AllocError>
     requires typed { IsTyped (meaning_of (program_of program.now)) }
+    requires truths { is_over_truths (meaning_of (program_of program.now)) ≡ true }
     ensures report { IfOk result (λ r. (bytes : List ℕ) → IsProgramOf bytes (program_of program.now) → IsReport budget bytes r.0 r.1.items) }
     ensures ends { IfOk result (λ r. IsTrue (is_report r.0)) }
 {
-    if !is_over_truths(program) {
-        return Err(AllocError);
-    }
     let outcome = check_program(alloc, program, budget)?;
     proved_is_safe();
     verified_is_all_proved();
@@ -142,6 +140,7 @@ fn verify<S: Sink, E: Sink>(
         Err(TextError::Refused(refusal)) => return refuse_bytes(alloc, &refusal, err),
     };
     programs_are_typed();
+    judged_programs_are_over_truths();
     let Ok((ends, text)) = report_of(alloc, &typed.program, budget) else {
         return Status::Memory;
     };
