@@ -1,3 +1,4 @@
 pub mod Chains
 pub mod Agreeing
+pub mod Listing
 pub mod Typing

@@ -1,5 +1,6 @@
 pub mod Worths
 pub mod Along
+pub mod Lists
 pub mod Values
 pub mod Typed
 pub mod Views

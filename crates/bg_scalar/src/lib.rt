@@ -4,9 +4,11 @@
 mod eval;
 mod joined;
 pub mod laws;
+mod lists;
 mod scalar;
 #[cfg(test)]
 mod tests;
 
 pub use eval::{Sight, worth};
+pub use lists::{Scalars, worths};
 pub use scalar::{Scalar, Worth};
