@@ -39,7 +39,11 @@ fn status_of(word: Word) -> Status
 }
 
 /// The report of a typed program over truth values, and the status that its verdicts give.
-fn report_of(alloc: Global, program: &Resolved, budget: Budget) -> Result<(Status, Vec<u8>), AllocError>
+fn report_of(
+    alloc: Global,
+    program: &Resolved,
+    budget: Budget,
+) -> Result<(Status, Vec<u8>), AllocError>
     requires typed { IsTyped (meaning_of (program_of program.now)) }
     requires truths { is_over_truths (meaning_of (program_of program.now)) ≡ true }
     ensures report { IfOk result (λ r. (bytes : List ℕ) → IsProgramOf bytes (program_of program.now) → IsReport budget bytes r.0 r.1.items) }
