@@ -1,5 +1,14 @@
 use super::*;
+use std::alloc::{AllocError, Global};
 use std::test::Fail;
+
+fn words_of(alloc: Global, words: &[&str]) -> Result<Vec<String>, AllocError> {
+    let mut all = Vec::new(alloc);
+    for word in words {
+        all.push(String::from_str(alloc, word)?)?;
+    }
+    Ok(all)
+}
 
 #[test]
 fn words_are_taken_or_not(rt: HostRuntime) -> Result<(), Fail> {
@@ -52,10 +61,7 @@ fn words_are_taken_or_not(rt: HostRuntime) -> Result<(), Fail> {
         (&["bg", "verify", "--help"], "refused", 0, 0),
     ];
     for (words, files, nodes, rows) in table {
-        let mut all = Vec::new(alloc);
-        for word in words {
-            all.push(String::from_str(alloc, word)?)?;
-        }
+        let all = words_of(alloc, words)?;
         let (said, number, most) = match read_line(alloc, &all) {
             Ok(line) => (line.files.join(alloc, " ")?, line.nodes, line.rows),
             Err(LineError::Usage) => (String::from_str(alloc, "refused")?, 0, 0),

@@ -181,7 +181,8 @@ fn rows_formula(alloc: Global, terms: u32, rows: &[Asked], free: u32) -> Result<
         let row = make(entries, asked.bound).ok_or("no row")?;
         let linear = deny_row(alloc, row).map_err(|_| "no denial")?;
         f.atoms.push(Atom::Holds(linear))?;
-        push(alloc, &mut f, &[(a as u32, asked.sign)])?;
+        let a = u32::try_from(a).map_err(|_| "too many rows")?;
+        push(alloc, &mut f, &[(a, asked.sign)])?;
     }
     for x in 0..free {
         f.atoms.push(Atom::Truth(x))?;

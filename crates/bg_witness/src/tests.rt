@@ -12,8 +12,14 @@ use bg_clause::clauses;
 use bg_fits::is_over_truths;
 use bg_model::Counterexample;
 use bg_replay::{Ending, replay};
+use bg_tree::Budget;
 use std::alloc::{AllocError, Global};
 use std::test::Fail;
+
+const BUDGET: Budget = Budget {
+    nodes: 1000,
+    rows: 1000,
+};
 
 const LOOP: &str =
     "procedure P() { var x: bool; x := true; while (*) invariant x; { havoc x; } assert x; }";
@@ -105,7 +111,7 @@ fn letters(alloc: Global, program: &Resolved) -> Result<String, Fail>
     if !is_over_truths(program) {
         return Err("a program of another kind".into());
     }
-    let outcome = check_program(alloc, program, 1000)?;
+    let outcome = check_program(alloc, program, BUDGET)?;
     let callees = callees_of(alloc, program)?;
     let mut found = String::new(alloc);
     for number in 0..program.implementations.len() {
