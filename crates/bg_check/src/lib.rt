@@ -1,5 +1,5 @@
 //! What is known of each place of a program over truth values: proved with a certificate, refuted with a counterexample, or unknown
-//! with a partial tree.
+//! with what is kept of a budget, or an operation that leaves 128 bits.
 #![tactic(auto)]
 
 pub mod laws;

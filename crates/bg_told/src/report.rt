@@ -88,7 +88,7 @@ fn put_summary(
 
 /// The report of a program, of whose places this is known by implementation: a line for each implementation, with the position of its
 /// keyword and its word, and below it its ordinary places that aren't proved, with the entry values and choices with which one fails or the
-/// number of inner nodes of its partial tree; then how many implementations have each word.
+/// cause and what is kept of it; then how many implementations have each word.
 pub fn result_text(
     alloc: Global,
     program: &Resolved,
