@@ -1,6 +1,7 @@
 #!/usr/bin/env python3
 """Times of programs of doubling size, as ratios: bodies of assignments, of checks and of conditionals, lists of procedures, chains of
-calls, loops, and reading alone; and how many inner nodes the certificates of some take."""
+calls, loops, all over truth values; chains of relations between numbers, nests of loops that count, small procedures over numbers; and
+reading alone. And the least numbers of inner nodes (`--nodes`) and of rows (`--rows`) with which some are judged as with many."""
 import argparse
 import os
 import subprocess
@@ -43,6 +44,39 @@ def loops(n):
     lines = ["procedure P(a: bool) { var x: bool; x := a;"]
     lines += ["while (*) invariant x == a; { x := !x; x := !x; }"] * n
     return "\n".join(lines + ["assert x == a;", "}", ""])
+
+
+def relations(n):
+    names = [f"x{i}" for i in range(n + 1)]
+    lines = ["procedure P(" + ", ".join(f"{x}: int" for x in names) + ") {"]
+    return lines + [f"assume {a} <= {b};" for a, b in zip(names, names[1:])]
+
+
+def ordered(n):
+    return "\n".join([*relations(n), f"assert x0 <= x{n};", "}", ""])
+
+
+def unordered(n):
+    return "\n".join([*relations(n), f"assert x{n} <= x0;", "}", ""])
+
+
+def nest(n):
+    """Loops within loops, each of which counts to the same limit and keeps what the outer ones count."""
+    lines = ["procedure P(limit: int) requires 0 <= limit; {", "var " + ", ".join(f"i{k}" for k in range(n)) + ": int;"]
+    for k in range(n):
+        lines += [f"i{k} := 0;", f"while (i{k} < limit)"]
+        lines += [f"  invariant 0 <= i{j} && i{j} {'<=' if j == k else '<'} limit;" for j in range(k + 1)] + ["{"]
+    for k in reversed(range(n)):
+        lines += [f"i{k} := i{k} + 1;", "}"]
+    return "\n".join([*lines, "assert i0 == limit;", "}", ""])
+
+
+def larger(n):
+    return "".join(
+        f"procedure P{i}(a: int, b: int) returns (m: int)\n  ensures a <= m && b <= m && (m == a || m == b);\n"
+        "{ if (a <= b) { m := b; } else { m := a; } }\n"
+        for i in range(n)
+    )
 
 
 PART = """procedure P{0}(a: bool, b: bool, n: int) returns (r: bool)
@@ -93,20 +127,21 @@ def measure(bg, text, folder):
     return best, ran.returncode, (ran.stdout + ran.stderr).decode().splitlines()[-1]
 
 
-def nodes(bg, text, folder):
-    """Returns the least number of inner nodes with which a program is verified, or None."""
+def least(bg, text, folder, word):
+    """Returns the least number behind a word with which a program is judged as with 1,000,000, or None where that is unknown."""
     path = os.path.join(folder, "a.bpl")
     with open(path, "w") as file:
         file.write(text)
-    passes = lambda n: subprocess.run([bg, "verify", "--nodes", str(n), path], capture_output=True).returncode == 0
+    judged = lambda n: subprocess.run([bg, "verify", word, str(n), path], capture_output=True).stdout
+    wanted = judged(1_000_000)
+    if not wanted.endswith(b" 0 unknown\n"):
+        return None
     low, high = 0, 1
-    while not passes(high):
+    while judged(high) != wanted:
         low, high = high, 2 * high
-        if high > 1_000_000:
-            return None
     while high - low > 1:
         middle = (low + high) // 2
-        low, high = (low, middle) if passes(middle) else (middle, high)
+        low, high = (low, middle) if judged(middle) == wanted else (middle, high)
     return high
 
 
@@ -121,6 +156,10 @@ def main():
         ("loops", loops, [50, 100, 200]),
         ("procedures", procedures, [1_000, 2_000, 4_000]),
         ("calls in a chain", chain, [1_000, 2_000, 4_000]),
+        ("relations in order", ordered, [20, 40, 80]),
+        ("relations against their order", unordered, [20, 40, 80]),
+        ("loops in a nest", nest, [2, 4, 8]),
+        ("procedures over numbers", larger, [200, 400, 800]),
         ("bytes into tokens", tokens, [1_000_000, 2_000_000, 4_000_000]),
         ("bytes into a tree", tree, [1_000_000, 2_000_000, 4_000_000]),
         ("bytes through types", parts, [1_000_000, 2_000_000, 4_000_000]),
@@ -133,8 +172,18 @@ def main():
                 ratio = "" if before is None else f" ratio {took / before:.2f}"
                 print(f"{n:7} {what}: {took:.3f} s{ratio}; status {status}; {last}")
                 before = took
-        for what, make, sizes in (("assignments", body, [10, 100]), ("conditionals", diamonds, [5, 10, 20]), ("loops", loops, [5, 10])):
-            print(f"inner nodes: {what}: " + ", ".join(f"{nodes(bg, make(n), folder)} for {n}" for n in sizes))
+        for what, make, sizes in (
+            ("assignments", body, [10, 100]),
+            ("conditionals", diamonds, [5, 10, 20]),
+            ("loops", loops, [5, 10]),
+            ("relations in order", ordered, [20, 40, 80]),
+            ("relations against their order", unordered, [20, 40, 80]),
+            ("loops in a nest", nest, [2, 4]),
+            ("procedures over numbers", larger, [1]),
+        ):
+            for n in sizes:
+                text = make(n)
+                print(f"{n:7} {what}: nodes {least(bg, text, folder, '--nodes')}, rows {least(bg, text, folder, '--rows')}")
 
 
 if __name__ == "__main__":

@@ -171,7 +171,8 @@ def trials(t):
     t.text("a row of signs", b"procedure P() { assert " + b"!" * 100_000 + b"true; }", 0, one, b"")
     t.text("a chain", b"procedure P() { assert true" + b" && true" * 100_000 + b"; }", 0, one, b"")
     sums = b"procedure P() { assert 0 == 1" + b" + 1" * 100_000 + b"; }"
-    t.text("a chain of sums", sums, 3, b"", b"error: 1:24 unsupported number\n")
+    false = FRONT + b"implementation P 1:1 refuted\n  refuted assert 1:17\n" + ONE.replace(b"1 verified, 0 refuted", b"0 verified, 1 refuted")
+    t.text("a chain of sums", sums, 1, false, b"")
     t.text("many procedures", procedures(10_000), 0, FRONT + many(10_000), b"")
     t.text("too many procedures", procedures(10_001), 8, b"", b"error: limit implementations 10001\n")
     t.text("each construct", PROGRAM, 3, b"", b"error: 1:1 unsupported type\n")

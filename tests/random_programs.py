@@ -1,10 +1,10 @@
 #!/usr/bin/env python3
-"""Makes random programs over truth values with the whole statement language, and has their reports judged.
+"""Makes random programs over truth values and whole numbers with the whole statement language, and has their reports judged.
 
-usage: random_programs.py --bg COMMAND [--judge COMMAND] [--count N] [--seed K] [--keep FOLDER]
+usage: random_programs.py --bg COMMAND [--judge COMMAND] [--count N] [--seed K] [--truths] [--keep FOLDER]
 
 COMMAND of --bg is the program, as `./bg`. COMMAND of --judge is an evaluator that gets the names of a program and of its report,
-and ends with 0 where it agrees. The last line is `N passed, M failed`.
+and ends with 0 where it agrees. With --truths there are no whole numbers. The last line is `N passed, M failed`.
 """
 import argparse
 import collections
@@ -17,15 +17,31 @@ import sys
 import tempfile
 
 SIGNS = ["&&", "||", "==>", "<==", "<==>", "==", "!="]
+RELATIONS = ["<", "<=", ">", ">=", "==", "!="]
+NUMBERS = [0, 0, 1, 1, 1, 2, 2, 3, 5, 7, 60, 2**63, 2**126]
+
+
+def is_number(name):
+    """Whether a variable of this name is a whole number."""
+    return name.rstrip("'").endswith("n")
+
+
+def type_of(name):
+    return "int" if is_number(name) else "bool"
+
+
+def some_names(rng, letter, most, numbers):
+    """Fewer than so many names, some of whole numbers if there are any."""
+    return [f"{letter}{k}{'n' if numbers and rng.random() < 0.6 else ''}" for k in range(rng.randrange(most))]
 
 
 class Procedure:
     """A procedure's names, and which globals it modifies."""
 
-    def __init__(self, rng, number, names):
+    def __init__(self, rng, number, names, numbers):
         self.name = f"P{number}"
-        self.params = [f"p{k}" for k in range(rng.randrange(3))]
-        self.results = [f"r{k}" for k in range(rng.randrange(3))]
+        self.params = some_names(rng, "p", 3, numbers)
+        self.results = some_names(rng, "r", 3, numbers)
         self.modifies = [g for g in names if rng.random() < 0.5]
 
 
@@ -34,7 +50,7 @@ class Body:
 
     def __init__(self, rng, program, procedure, params, results):
         self.rng, self.program, self.procedure = rng, program, procedure
-        self.locals = [f"x{k}" for k in range(rng.randrange(4))]
+        self.locals = some_names(rng, "x", 4, program.numbers)
         self.reads = program.names + params + results + self.locals
         self.writes = procedure.modifies + results + self.locals
         self.labels = 0
@@ -46,18 +62,33 @@ class Body:
     def formula(self, depth=2):
         return self.program.formula(self.rng, self.reads, depth, old=True)
 
+    def value(self, name, depth=2):
+        if is_number(name):
+            return self.program.number(self.rng, self.reads, depth, old=True)
+        return self.formula(depth)
+
     def sides(self, most=2):
         names = self.rng.sample(self.writes, min(len(self.writes), self.rng.randint(1, most)))
-        return names, [self.formula() for _ in names]
+        return names, [self.value(name) for name in names]
+
+    def takes(self, q):
+        """Variables that may take the results of a call, or None."""
+        free, taken = list(self.writes), []
+        for result in q.results:
+            fits = [name for name in free if is_number(name) == is_number(result)]
+            if not fits:
+                return None
+            taken.append(self.rng.choice(fits))
+            free.remove(taken[-1])
+        return taken
 
     def call(self, indent):
-        fits = [q for q in self.program.procedures
-                if set(q.modifies) <= set(self.procedure.modifies) and len(q.results) <= len(self.writes)]
-        if not fits:
+        fits = [q for q in self.program.procedures if set(q.modifies) <= set(self.procedure.modifies)]
+        q = self.rng.choice(fits) if fits else None
+        takes = self.takes(q) if q else None
+        if takes is None:
             return [f"{indent}assume {self.formula()};"]
-        q = self.rng.choice(fits)
-        takes = self.rng.sample(self.writes, len(q.results))
-        args = ", ".join(self.formula(1) for _ in q.params)
+        args = ", ".join(self.value(name, 1) for name in q.params)
         front = f"{', '.join(takes)} := " if takes else ""
         return [f"{indent}call {front}{q.name}({args});"]
 
@@ -124,24 +155,29 @@ class Body:
         return lines + ([f"{indent}{marks[count]}:"] if count in marks else [])
 
     def lines(self):
-        declared = [f"  var {name}: bool;" for name in self.locals]
+        declared = [f"  var {name}: {type_of(name)};" for name in self.locals]
         return ["{"] + declared + self.statements("  ", 3, [], []) + ["}"]
 
 
 class Program:
     """A program: globals, procedures and implementations."""
 
-    def __init__(self, rng):
-        self.names = [f"g{k}" for k in range(rng.randrange(4))]
-        self.procedures = [Procedure(rng, k, self.names) for k in range(rng.randint(1, 4))]
+    def __init__(self, rng, numbers):
+        self.numbers = numbers
+        self.names = some_names(rng, "g", 4, numbers)
+        self.procedures = [Procedure(rng, k, self.names, numbers) for k in range(rng.randint(1, 4))]
         self.text = "\n".join(self.lines(rng)) + "\n"
 
     def formula(self, rng, names, depth, old=False):
         kind = rng.random()
+        if self.numbers and rng.random() < 0.4:
+            sides = [self.number(rng, names, min(depth, 1), old) for _ in range(2)]
+            return f" {rng.choice(RELATIONS)} ".join(sides)
         if not depth or kind < 0.3:
-            if not names or rng.random() < 0.1:
+            truths = [name for name in names if not is_number(name)]
+            if not truths or rng.random() < 0.1:
                 return rng.choice(["true", "false"])
-            return rng.choice(names)
+            return rng.choice(truths)
         if kind < 0.45:
             return "!" + self.operand(rng, names, depth - 1, old)
         if old and kind < 0.52:
@@ -150,9 +186,28 @@ class Program:
         count = rng.randint(2, 3) if sign in ("&&", "||", "==>") else 2
         return f" {sign} ".join(self.operand(rng, names, depth - 1, old) for _ in range(count))
 
-    def operand(self, rng, names, depth, old):
-        text = self.formula(rng, names, depth, old)
+    def number(self, rng, names, depth, old=False):
+        """A linear expression."""
+        kind = rng.random()
+        numbers = [name for name in names if is_number(name)]
+        if not depth or kind < 0.4:
+            if not numbers or rng.random() < 0.35:
+                return str(rng.choice(NUMBERS))
+            return rng.choice(numbers)
+        part = lambda: self.bracketed(self.number(rng, names, depth - 1, old))
+        if old and kind < 0.46:
+            return f"old({self.number(rng, names, depth - 1)})"
+        if kind < 0.54:
+            return f"-{part()}"
+        if kind < 0.66:
+            return f"{rng.choice([2, 3, 5])} * {part()}"
+        return f"{part()} {rng.choice('+-')} {part()}"
+
+    def bracketed(self, text):
         return text if re.fullmatch(r"[\w!]+|old\(\w+\)", text) else f"({text})"
+
+    def operand(self, rng, names, depth, old):
+        return self.bracketed(self.formula(rng, names, depth, old))
 
     def specification(self, rng, q):
         lines = [f"  modifies {', '.join(q.modifies)};"] if q.modifies else []
@@ -163,12 +218,12 @@ class Program:
         return lines
 
     def head(self, word, q, params, results):
-        typed = lambda names: ", ".join(f"{name}: bool" for name in names)
+        typed = lambda names: ", ".join(f"{name}: {type_of(name)}" for name in names)
         returns = f" returns ({typed(results)})" if results else ""
         return f"{word} {q.name}({typed(params)}){returns}"
 
     def lines(self, rng):
-        lines = [f"var {name}: bool;" for name in self.names]
+        lines = [f"var {name}: {type_of(name)};" for name in self.names]
         for q in self.procedures:
             if rng.random() < 0.6:
                 lines.append(self.head("procedure", q, q.params, q.results))
@@ -186,7 +241,7 @@ class Program:
 
 def judged(args, folder, number):
     """Returns what is wrong with the report of one program, or None, with the words that the report says of implementations."""
-    text = Program(random.Random(args.seed * 1_000_003 + number)).text
+    text = Program(random.Random(args.seed * 1_000_003 + number), not args.truths).text
     source, report = os.path.join(folder, f"{number}.bpl"), os.path.join(folder, f"{number}.report")
     with open(source, "w", encoding="ascii") as file:
         file.write(text)
@@ -210,6 +265,7 @@ def main():
     parser.add_argument("--judge")
     parser.add_argument("--count", type=int, default=300)
     parser.add_argument("--seed", type=int, default=1)
+    parser.add_argument("--truths", action="store_true")
     parser.add_argument("--keep")
     args = parser.parse_args()
     failed, words = 0, collections.Counter()

@@ -11,8 +11,9 @@ use Rattle.bg_sense.specs.Typed.{AreLinear, HasNoOld, IsFormula, IsGuard, Around
 use Rattle.bg_calls.specs.Core.{Demand, Saying, Head, Core, Nil, Seq, Mark, Do, To, Choose, Loop, still, demands, demands_if, sayings, sayings_if, each_one, the_checked, the_free, plain, plan_of, calls_of, desugar}
 use Rattle.bg_flow.specs.Blocks.{Places, past, next_one, code, to_closing, blocks_of}
 use Rattle.bg_passive.specs.Incarnations.{ty_of}
-use Rattle.bg_block_types.proofs.Renamed.{sig_with, formula_wider}
-use Rattle.bg_block_types.proofs.Commands.{GoodDemands, GoodSayings, GoodPlan, GoodCmds, GoodGuard, GoodBlocks, blocks_append}
+use Rattle.bg_block_types.specs.TypedFlow.{sig_with, sig_here, DemandsAreTyped, SayingsAreTyped, PlanIsTyped, CmdsAreTyped, GuardIsTyped, CodeIsTyped}
+use Rattle.bg_block_types.proofs.Renamed.{formula_wider}
+use Rattle.bg_block_types.proofs.Commands.{blocks_append}
 
 pub all_tail : {A : Type 0} (P : A → Type 0) (x : A) (xs : List A) → All P (x ∷ xs) → All P xs
 all_tail P x xs h = λ k d l. h (suc k) d (omega arith)
@@ -57,23 +58,23 @@ pub clauses_wider : (p : Prog) (gts fts more : List Ty) (ks : List Clause) → G
 clauses_wider p gts fts more [] h = tt
 clauses_wider p gts fts more (k ∷ ks) h = (formula_wider p gts fts more k.says h.0, clauses_wider p gts fts more ks h.1)
 
-demand_if : (g : Sig) (b : Bool) (d : Demand) (ds : List Demand) → IsFormula g d.says → GoodDemands g ds → GoodDemands g (demands_if b d ds)
+demand_if : (g : Sig) (b : Bool) (d : Demand) (ds : List Demand) → IsFormula g d.says → DemandsAreTyped g ds → DemandsAreTyped g (demands_if b d ds)
 demand_if g true d ds h k = k
 demand_if g false d ds h k = (h, k)
 
-pub good_demands : (g : Sig) (spot : ℕ → Spot) (ks : List Clause) → GoodClauses g ks → GoodDemands g (demands spot ks)
+pub good_demands : (g : Sig) (spot : ℕ → Spot) (ks : List Clause) → GoodClauses g ks → DemandsAreTyped g (demands spot ks)
 good_demands g spot [] h = tt
 good_demands g spot (k ∷ ks) h = demand_if g k.is_free _ _ h.0 (good_demands g spot ks h.1)
 
-saying_if : (g : Sig) (b : Bool) (d : Saying) (ds : List Saying) → IsFormula g d.says → GoodSayings g ds → GoodSayings g (sayings_if b d ds)
+saying_if : (g : Sig) (b : Bool) (d : Saying) (ds : List Saying) → IsFormula g d.says → SayingsAreTyped g ds → SayingsAreTyped g (sayings_if b d ds)
 saying_if g true d ds h k = (h, k)
 saying_if g false d ds h k = k
 
-pub good_sayings : (g : Sig) (which : Bool → Bool) (ks : List Clause) → GoodClauses g ks → GoodSayings g (sayings which ks)
+pub good_sayings : (g : Sig) (which : Bool → Bool) (ks : List Clause) → GoodClauses g ks → SayingsAreTyped g (sayings which ks)
 good_sayings g which [] h = tt
 good_sayings g which (k ∷ ks) h = saying_if g (which k.is_free) _ _ h.0 (good_sayings g which ks h.1)
 
-pub good_plain : (g : Sig) (es : List Ex) (ds : List Saying) → GoodList g es → GoodSayings g ds → GoodSayings g (plain es ds)
+pub good_plain : (g : Sig) (es : List Ex) (ds : List Saying) → GoodList g es → SayingsAreTyped g ds → SayingsAreTyped g (plain es ds)
 good_plain g [] ds h k = k
 good_plain g (e ∷ es) ds h k = (h.0, good_plain g es ds h.1 k)
 
@@ -97,35 +98,35 @@ decl_says g (d ∷ ds) (suc x) h = decl_says g ds x (behind d.wheres h)
 
 -- ---- blocks
 
-module _ (p : Prog) (tys : Var → Ty) (fts : List Ty) where
+module _ (p : Prog) (ds : List Decl) where
   abbrev here : Sig
-  here = sig_with p (types_of p.globals) fts
+  here = sig_here p ds
 
   abbrev GoodHead : Head → Type 0
   GoodHead h =
-      GoodDemands here h.arriving × (GoodSayings here h.held × (GoodSayings here h.free × GoodDemands here h.turned))
+      DemandsAreTyped here h.arriving × (SayingsAreTyped here h.held × (SayingsAreTyped here h.free × DemandsAreTyped here h.turned))
 
   abbrev pub GoodCore : Core → Type 0
   GoodCore (Seq a b) = GoodCore a × GoodCore b
-  GoodCore (Do ks) = GoodCmds p tys fts ks
-  GoodCore (Choose e a b) = GoodGuard p tys fts e × (GoodCore a × GoodCore b)
-  GoodCore (Loop h e a) = GoodHead h × (GoodGuard p tys fts e × GoodCore a)
+  GoodCore (Do ks) = CmdsAreTyped p ds ks
+  GoodCore (Choose e a b) = GuardIsTyped p ds e × (GoodCore a × GoodCore b)
+  GoodCore (Loop h e a) = GoodHead h × (GuardIsTyped p ds e × GoodCore a)
   GoodCore _ = Unit {0}
 
-  pub code_good : (s : Core) (i : Places) → GoodCore s → GoodBlocks p tys fts (code s i).blocks
+  pub code_good : (s : Core) (i : Places) → GoodCore s → CodeIsTyped p ds (code s i).blocks
   code_good Nil i h = tt
   code_good (Seq a b) i h =
       let cb = code b i in
-      blocks_append p tys fts (code a cb.entry).blocks cb.blocks (code_good a cb.entry h.0) (code_good b i h.1)
+      blocks_append p ds (code a cb.entry).blocks cb.blocks (code_good a cb.entry h.0) (code_good b i h.1)
   code_good (Mark q) i h = tt
   code_good (Do ks) i h = ((h, tt), tt)
   code_good (To qs) i h = ((tt, tt), tt)
   code_good (Choose e a b) i h =
       let cb = code b i in
       let j = next_one (past (length cb.blocks) i) in
-      ((tt, h.0), blocks_append p tys fts (code a j).blocks _ (code_good a j h.1.0) ((tt, tt), code_good b i h.1.1))
+      ((tt, h.0), blocks_append p ds (code a j).blocks _ (code_good a j h.1.0) ((tt, tt), code_good b i h.1.1))
   code_good (Loop hd e a) i h =
-      (((h.0.0, (tt, (h.0.1.0, (h.0.1.1.0, tt)))), h.1.0), blocks_append p tys fts (code a (next_one i)).blocks _ (code_good a (next_one i) h.1.1) (((h.0.1.1.1, (tt, tt)), tt), tt))
+      (((h.0.0, (tt, (h.0.1.0, (h.0.1.1.0, tt)))), h.1.0), blocks_append p ds (code a (next_one i)).blocks _ (code_good a (next_one i) h.1.1) (((h.0.1.1.1, (tt, tt)), tt), tt))
 
 -- ---- bodies
 
@@ -161,7 +162,7 @@ module _ (p : Prog) (q : Proc) (ds : List Decl) (gsay : GoodList (sig_with p (ty
       list_append (sig_with p gts us) (wheres_in (slice_get p.globals x)) _ (decl_says (sig_with p gts us) p.globals x (globals_say us)) (modified_say us xs)
   modified_say us (Local x ∷ xs) = modified_say us xs
 
-  guard_good : (e : Guard) → IsGuard sig e → GoodGuard p tys fts e
+  guard_good : (e : Guard) → IsGuard sig e → GuardIsTyped p ds e
   guard_good Star h = tt
   guard_good (Test e) h = h
 
@@ -170,7 +171,7 @@ module _ (p : Prog) (q : Proc) (ds : List Decl) (gsay : GoodList (sig_with p (ty
   types_same (Global x ∷ xs) = ap (λ l. tys (Global x) ∷ l) (types_same xs)
   types_same (Local x ∷ xs) = ap (λ l. tys (Local x) ∷ l) (types_same xs)
 
-  plan_good : (k : Call) (c : Proc) → IsTypedProc p c → HaveTypes k.args sig (types_of c.params) → AreLinear k.args → types_in p ds k.takes ≡ types_of c.results → GoodPlan p tys fts (plan_of p c k)
+  plan_good : (k : Call) (c : Proc) → IsTypedProc p c → HaveTypes k.args sig (types_of c.params) → AreLinear k.args → types_in p ds k.takes ≡ types_of c.results → PlanIsTyped p ds (plan_of p c k)
   plan_good k c t args linear takes =
       let us = types_of c.params ++ types_of c.results in
       let g = sig_with p gts us in
@@ -181,12 +182,12 @@ module _ (p : Prog) (q : Proc) (ds : List Decl) (gsay : GoodList (sig_with p (ty
       let gives = good_plain g (wheres_at (still p []) (modified p c)) (plain (wheres_of c.results) (sayings each_one c.ensures_)) (modified_say us (modified p c)) (good_plain g (wheres_of c.results) (sayings each_one c.ensures_) results (good_sayings g each_one c.ensures_ ensures_)) in
       ((args, linear), (good_demands (sig_in p c.params) (AtCall k.site) c.requires_ needs, (gives, sym (types_same k.takes) ∙ takes)))
 
-  call_good : (k : Call) → IsTypedCall around k → GoodCmds p tys fts (calls_of p (procedure_of p k.procedure) k)
+  call_good : (k : Call) → IsTypedCall around k → CmdsAreTyped p ds (calls_of p (procedure_of p k.procedure) k)
   call_good k h =
       let c = h.0 in
-      subst (λ x. GoodCmds p tys fts (calls_of p x k)) (sym h.1.0) (plan_good k c (procs k.procedure c h.1.0) h.1.1.0 h.1.1.1.0 h.1.1.1.1.0, tt)
+      subst (λ x. CmdsAreTyped p ds (calls_of p x k)) (sym h.1.0) (plan_good k c (procs k.procedure c h.1.0) h.1.1.0 h.1.1.1.0 h.1.1.1.1.0, tt)
 
-  desugar_good : (s : St) (inside before : List ℕ) → IsTypedStatement around inside before s → GoodCore p tys fts (desugar p ds s)
+  desugar_good : (s : St) (inside before : List ℕ) → IsTypedStatement around inside before s → GoodCore p ds (desugar p ds s)
   desugar_good Skip inside before h = tt
   desugar_good (Then a b) inside before h = (desugar_good a inside _ h.0, desugar_good b inside before h.1)
   desugar_good (Label l) inside before h = tt
@@ -205,6 +206,6 @@ module _ (p : Prog) (q : Proc) (ds : List Decl) (gsay : GoodList (sig_with p (ty
   desugar_good Return inside before h = tt
 
   -- the blocks of a routine with this body
-  pub routine_good : (s : St) (given : List Saying) (wanted : List Demand) → IsTypedStatement around [] [] s → GoodSayings sig given → GoodDemands sig wanted → GoodBlocks p tys fts (blocks_of (record { given = given; body = desugar p ds s; wanted = wanted }))
+  pub routine_good : (s : St) (given : List Saying) (wanted : List Demand) → IsTypedStatement around [] [] s → SayingsAreTyped sig given → DemandsAreTyped sig wanted → CodeIsTyped p ds (blocks_of (record { given = given; body = desugar p ds s; wanted = wanted }))
   routine_good s given wanted h a b =
-      (((a, tt), tt), blocks_append p tys fts (code (desugar p ds s) to_closing).blocks _ (code_good p tys fts (desugar p ds s) to_closing (desugar_good s [] [] h)) (((b, tt), tt), tt))
+      (((a, tt), tt), blocks_append p ds (code (desugar p ds s) to_closing).blocks _ (code_good p ds (desugar p ds s) to_closing (desugar_good s [] [] h)) (((b, tt), tt), tt))

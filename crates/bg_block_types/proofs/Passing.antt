@@ -11,8 +11,8 @@ use Rattle.bg_flow.specs.Blocks.{Exit, Leap, Either, Block}
 use Rattle.bg_passive.specs.Passive.{PassiveCmd, Supposes}
 use Rattle.bg_passive.specs.Incarnations.{Env, rename, hold, hold_all, hold_next, after_vars, after_exs, each_ex, each_decl, claims_in, supposes_in, is_worth, set_to, pass, pass_all, Arrival, joins, join_env, edge_to, edges, passives, ty_of, TypesFrom, FitsCmd, FitsCmds, ForBool, JoinsFit, after_joins, FitsJoin, FitEach, FitsBlocks, entry_env, TypedNums, EnvTyped, ArrivalsTyped, targets_of}
 use Rattle.bg_block_types.specs.Typed.{sig_over, IsTruth, TypedCmds, TypedEdges, TypedBlocks}
-use Rattle.bg_block_types.proofs.Renamed.{sig_with, Holds, typed_on, linear_on, no_old, truth_on}
-use Rattle.bg_block_types.proofs.Commands.{GoodDemands, GoodSayings, GoodExs, GoodCmd, GoodCmds, GoodExit, GoodBlocks}
+use Rattle.bg_block_types.specs.TypedFlow.{sig_with, DemandsAreTyped, SayingsAreTyped, ExsAreTyped, CmdIsTyped, CmdsAreTyped, ExitIsTyped, CodeIsTyped}
+use Rattle.bg_block_types.proofs.Renamed.{Holds, typed_on, linear_on, no_old, truth_on}
 
 nums_append : (incs : List Ty) (is js : List ℕ) (ts us : List Ty) → TypedNums incs is ts → TypedNums incs js us → TypedNums incs (is ++ js) (ts ++ us)
 nums_append incs [] js [] us h k = k
@@ -54,15 +54,15 @@ module _ (p : Prog) (ds : List Decl) (incs : List Ty) where
   cmds_append [] ls h k = k
   cmds_append (c ∷ ks) ls h k = (h.0, cmds_append ks ls h.1 k)
 
-  claims_typed : (qs : List Demand) (us : List Ty) (v : Env) → Holds p incs gts us v → GoodDemands (sig_with p gts us) qs → TypedCmds sig (claims_in v qs)
+  claims_typed : (qs : List Demand) (us : List Ty) (v : Env) → Holds p incs gts us v → DemandsAreTyped (sig_with p gts us) qs → TypedCmds sig (claims_in v qs)
   claims_typed [] us v h g = tt
   claims_typed (d ∷ qs) us v h g = (truth_on p incs d.says gts us v h g.0, claims_typed qs us v h g.1)
 
-  supposes_typed : (qs : List Saying) (us : List Ty) (v : Env) → Holds p incs gts us v → GoodSayings (sig_with p gts us) qs → TypedCmds sig (supposes_in v qs)
+  supposes_typed : (qs : List Saying) (us : List Ty) (v : Env) → Holds p incs gts us v → SayingsAreTyped (sig_with p gts us) qs → TypedCmds sig (supposes_in v qs)
   supposes_typed [] us v h g = tt
   supposes_typed (d ∷ qs) us v h g = (truth_on p incs d.says gts us v h g.0, supposes_typed qs us v h g.1)
 
-  sets_typed : (es : Exs) (n : ℕ) (ts : List Ty) (v : Env) → Holds p incs gts fts v → GoodExs (sig_with p gts fts) ts es → TypesFrom incs n ts → TypedCmds sig (set_to n es v)
+  sets_typed : (es : Exs) (n : ℕ) (ts : List Ty) (v : Env) → Holds p incs gts fts v → ExsAreTyped (sig_with p gts fts) ts es → TypesFrom incs n ts → TypedCmds sig (set_to n es v)
   sets_typed NoMore n ts v h g f = tt
   sets_typed (More e es) n [] v h g f = absurd g.0
   sets_typed (More e es) n (t ∷ ts) v h g f =
@@ -87,7 +87,7 @@ module _ (p : Prog) (ds : List Decl) (incs : List Ty) where
     holds : (v : Env) → EnvTyped incs p ds v → Holds p incs gts fts v
     holds v h = (h.0, (subst (λ js. TypedNums incs js gts) (sym h.1.1) first, h.1.0))
 
-    pass_typed : (k : Cmd) (v : Env) (n : ℕ) → GoodCmd p tys fts k → FitsCmd incs tys k n → EnvTyped incs p ds v → TypedCmds sig (pass k v n).cmds × EnvTyped incs p ds (pass k v n).env
+    pass_typed : (k : Cmd) (v : Env) (n : ℕ) → CmdIsTyped p ds k → FitsCmd incs tys k n → EnvTyped incs p ds v → TypedCmds sig (pass k v n).cmds × EnvTyped incs p ds (pass k v n).env
     pass_typed (Check qs) v n g f h = (claims_typed qs fts v (holds v h) g, h)
     pass_typed (Suppose qs) v n g f h = (supposes_typed qs fts v (holds v h) g, h)
     pass_typed (Forget xs) v n g f h = (tt, hold_next_typed xs n v h f)
@@ -107,7 +107,7 @@ module _ (p : Prog) (ds : List Decl) (incs : List Ty) where
         )
     pass_typed Finish v n g f h = ((((refl, tt), tt), tt), h)
 
-    all_typed : (ks : List Cmd) (v : Env) (n : ℕ) → GoodCmds p tys fts ks → FitsCmds incs tys ks v n → EnvTyped incs p ds v → TypedCmds sig (pass_all ks v n).cmds × EnvTyped incs p ds (pass_all ks v n).env
+    all_typed : (ks : List Cmd) (v : Env) (n : ℕ) → CmdsAreTyped p ds ks → FitsCmds incs tys ks v n → EnvTyped incs p ds v → TypedCmds sig (pass_all ks v n).cmds × EnvTyped incs p ds (pass_all ks v n).env
     all_typed [] v n g f h = (tt, h)
     all_typed (k ∷ ks) v n g f h =
         let a = pass_typed k v n g.0 f.0 h in
@@ -138,10 +138,10 @@ module _ (p : Prog) (ds : List Decl) (incs : List Ty) where
     leaps_typed v n later [] f = tt
     leaps_typed v n later (k ∷ ks) f = (edge_typed v n later [] k tt f.0, leaps_typed v n later ks f.1)
 
-    edges_typed : (v : Env) (n : ℕ) (later : List Arrival) (b : Block) → EnvTyped incs p ds v → GoodExit p tys fts b.exit → FitEach incs v n later (targets_of b.exit) → TypedEdges sig (edges v later b.exit)
+    edges_typed : (v : Env) (n : ℕ) (later : List Arrival) (b : Block) → EnvTyped incs p ds v → ExitIsTyped p ds b.exit → FitEach incs v n later (targets_of b.exit) → TypedEdges sig (edges v later b.exit)
     edges_typed v n later b h g f = on b.exit g f
       where
-        on : (x : Exit) → GoodExit p tys fts x → FitEach incs v n later (targets_of x) → TypedEdges sig (edges v later x)
+        on : (x : Exit) → ExitIsTyped p ds x → FitEach incs v n later (targets_of x) → TypedEdges sig (edges v later x)
         on (Leap []) g f = (edge_typed v n later [] 0 tt f.0, tt)
         on (Leap (k ∷ ks)) g f = leaps_typed v n later (k ∷ ks) f
         on (Either Star a z) g f = (edge_typed v n later [] a tt f.0, (edge_typed v n later [] z tt f.1.0, tt))
@@ -150,7 +150,7 @@ module _ (p : Prog) (ds : List Decl) (incs : List Ty) where
             let e2 : IsTruth sig (Not (rename e v)) = (((refl, e1.0.0), e1.0.1), e1.1) in
             (edge_typed v n later (Supposes None (rename e v) ∷ []) a (e1, tt) f.0, (edge_typed v n later (Supposes None (Not (rename e v)) ∷ []) z (e2, tt) f.1.0, tt))
 
-    pub blocks_typed : (later : List Arrival) (bs : List Block) → FitsBlocks incs tys later bs → ArrivalsTyped incs p ds later → GoodBlocks p tys fts bs → TypedBlocks sig (passives later bs)
+    pub blocks_typed : (later : List Arrival) (bs : List Block) → FitsBlocks incs tys later bs → ArrivalsTyped incs p ds later → CodeIsTyped p ds bs → TypedBlocks sig (passives later bs)
     blocks_typed later [] f h g = tt
     blocks_typed [] (b ∷ bs) f h g = absurd f
     blocks_typed (a ∷ later) (b ∷ bs) f h g =

@@ -3,11 +3,11 @@ use Rattle.std.proofs.Common.{◌≡◌, ℕ, zero, suc, List, [], ◌∷◌, �
 use Rattle.std.specs.Prelude.{slice_get}
 use Rattle.bg_ast.specs.Values.{Ty, BoolTy, IntTy}
 use Rattle.bg_ast.specs.Syntax.{Global, Local, Op, And, Or, Implies, Iff, Equal, Unequal, Less, AtMost, Greater, AtLeast, Plus, Minus, Times, Ex, Exs, Number, Fact, Constant, Read, Not, Negative, Binary, Apply, Select, Update, Old, NoMore, More, Prog}
-use Rattle.bg_sense.specs.Types.{const_types}
 use Rattle.bg_sense.specs.Typing.{Sig, OpHasType, HasType, HaveTypes}
 use Rattle.bg_sense.specs.Typed.{IsConstant, HasConstantSide, IsLinear, AreLinear, HasNoOld, HaveNoOld, IsFormula}
 use Rattle.bg_passive.specs.Incarnations.{Env, rename_at, rename, renames, TypedNums}
 use Rattle.bg_block_types.specs.Typed.{sig_over, IsTruth}
+use Rattle.bg_block_types.specs.TypedFlow.{sig_with}
 
 -- the sides of an operator may be others that have the same types
 op_on : (op : Op) (a b x y : Ty → Type 0) (t : Ty) → ((u : Ty) → a u → x u) → ((u : Ty) → b u → y u) → OpHasType op a b t → OpHasType op x y t
@@ -24,11 +24,6 @@ op_on AtLeast a b x y t f g h = (h.0, f IntTy h.1, g IntTy h.2)
 op_on Plus a b x y t f g h = (h.0, f IntTy h.1, g IntTy h.2)
 op_on Minus a b x y t f g h = (h.0, f IntTy h.1, g IntTy h.2)
 op_on Times a b x y t f g h = (h.0, f IntTy h.1, g IntTy h.2)
-
--- what names mean where globals and the frame have these types
-abbrev pub sig_with : Prog → List Ty → List Ty → Sig
-sig_with p gts fts =
-    record { constants = const_types p.constants; functions = p.functions; globals = gts; frame = fts }
 
 -- ---- constants, products and `old`
 

@@ -9,10 +9,9 @@ use Rattle.bg_sense.specs.Variables.{procedure_of, wheres_of}
 use Rattle.bg_sense.specs.Typing.{Sig, sig_in}
 use Rattle.bg_sense.specs.Typed.{HasNoOld, IsFormula, AreTypedDecls, IsTypedStatement, around, sig_around, IsTypedImpl, IsTypedProc, IsTyped}
 use Rattle.bg_calls.specs.Core.{frame_decls, demands, sayings, each_one, plain}
-use Rattle.bg_passive.specs.Incarnations.{Arrival, ty_of, MakesPassive, ArrivalsTyped, TypedNums, entry_env}
+use Rattle.bg_passive.specs.Incarnations.{Arrival, MakesPassive, ArrivalsTyped, TypedNums, entry_env}
 use Rattle.bg_block_types.specs.Typed.{sig_over, TypedBlocks, blocks_in, arrivals_in, incarnations_in, passives_in}
-use Rattle.bg_block_types.proofs.Renamed.{sig_with}
-use Rattle.bg_block_types.proofs.Commands.{GoodBlocks}
+use Rattle.bg_block_types.specs.TypedFlow.{sig_with, CodeIsTyped}
 use Rattle.bg_block_types.proofs.Passing.{blocks_typed}
 use Rattle.bg_block_types.proofs.Bodies.{all_at, types_append, GoodList, list_append, list_wider, GoodClauses, clauses_of_all, clauses_wider, good_demands, good_sayings, good_plain, decls_say, routine_good}
 
@@ -90,7 +89,7 @@ module _ (p : Prog) (k : ℕ) (m : Impl) (q : Proc) (t : IsTyped p) (im : slice_
   given =
       subst (λ us. GoodClauses (sig_with p gts us) q.ensures_) both_parts (clauses_wider p gts (types_of (q.params ++ q.results)) (types_of m.locals) q.ensures_ (clauses_of_all (sig_in p (q.params ++ q.results)) (λ k. IsFormula (sig_in p (q.params ++ q.results)) k.says) q.ensures_ (λ k x. x) here.ensures_))
 
-  pub good : GoodBlocks p (ty_of p ds) fts (blocks_in p k m q)
+  pub good : CodeIsTyped p ds (blocks_in p k m q)
   good =
       routine_good p q ds gsay dsay procs m.body (plain (wheres_of (p.globals ++ ds)) (sayings each_one q.requires_)) (demands (AtReturn k) q.ensures_) body
       (good_plain sig (wheres_of (p.globals ++ ds)) (sayings each_one q.requires_) all_say (good_sayings sig each_one q.requires_ needed))

@@ -3,7 +3,9 @@ ghost use Rattle.std.specs.Prelude.{◌≡◌, ℕ, Some, slice_get};
 ghost use Rattle.bg_ast.specs.Syntax.{Prog, Impl, Proc};
 ghost use Rattle.bg_sense.specs.Typed.{IsTyped};
 ghost use Rattle.bg_sense.specs.Variables.{procedure_of};
-ghost use Rattle.bg_block_types.specs.Typed.{sig_over, TypedBlocks, incarnations_in, passives_in};
+ghost use Rattle.bg_calls.specs.Core.{frame_decls};
+ghost use Rattle.bg_block_types.specs.Typed.{sig_over, TypedBlocks, blocks_in, incarnations_in, passives_in};
+ghost use Rattle.bg_block_types.specs.TypedFlow.{CodeIsTyped};
 
 use bg_passive::laws::{arrivals_are_typed, arrivals_fit};
 use bg_sense::laws::typed_programs_have_typed_bodies;
@@ -18,3 +20,10 @@ pub fn passive_blocks_are_typed()
     arrivals_fit();
     arrivals_are_typed()
 }
+
+/// Each command of the blocks of a typed program's implementation says truths over its variables, and gives values of the types of what takes them.
+pub fn blocks_are_typed()
+    ensures { (p : Prog) (k : ℕ) (m : Impl) (q : Proc) → IsTyped p →
+        slice_get p.implementations k ≡ Some m → procedure_of p m.procedure ≡ Some q →
+        CodeIsTyped p (frame_decls m q) (blocks_in p k m q) }
+{}

@@ -1,5 +1,5 @@
 -- What the laws of the crates below say.
-use Rattle.std.proofs.Common.{◌≡◌, ℕ, ◌+◌, ◌<◌, Bool, true, false, List, length, map, Option, Some}
+use Rattle.std.proofs.Common.{◌≡◌, ℕ, ◌+◌, ◌<◌, ℤ, Bool, true, false, List, length, map, Option, Some, None, Ok}
 use Rattle.std.specs.Prelude.{◌↔◌, slice_get, Contains}
 use Rattle.bg_ast.specs.Values.{Val, Ty}
 use Rattle.bg_ast.specs.Syntax.{Proc, Impl, Prog}
@@ -24,24 +24,41 @@ use Rattle.bg_passive.specs.Passive.{PassiveBlock, SomeWalk}
 use Rattle.bg_passive.specs.Incarnations.{Arrival, passives, MakesPassive, first_state, passive_scope, ValuesFrom}
 use Rattle.bg_passive.specs.Arrivals.{arrived}
 use Rattle.bg_wp.specs.Equations.{is_well, equations}
-use Rattle.bg_formula.specs.Formulas.{Formula, is_whole}
-use Rattle.bg_formula.specs.Meaning.{Valuation, clauses_true, AtomsAgree}
-use Rattle.bg_formula.specs.Instances.{Instance, SignedAtom, atoms_of}
-use Rattle.bg_cert.specs.Certs.{NodeOf, Accepts, HasNoValuation, uses}
+use Rattle.bg_block_types.specs.Typed.{blocks_in, incarnations_in, passives_in}
+use Rattle.bg_block_types.specs.TypedFlow.{CodeIsTyped}
 use Rattle.bg_incarnate.specs.Even.{BlocksEven}
-use Rattle.bg_clause.specs.Fitting.{fit_blocks}
-use Rattle.bg_forms.specs.Worth.{truth_values, are_truths}
+use Rattle.bg_formula.specs.Atoms.{AtomOf, at}
+use Rattle.bg_formula.specs.Formulas.{Formula, is_whole}
+use Rattle.bg_formula.specs.Meaning.{Valuation, signed, clauses_true, AtomsAgree}
+use Rattle.bg_formula.specs.Instances.{Instance, SignedAtom, atoms_of}
+use Rattle.bg_cert.specs.Paths.{decides}
+use Rattle.bg_cert.specs.Certs.{NodeOf, Accepts, HasNoValuation, uses}
+use Rattle.bg_point.specs.Points.{value_of}
+use Rattle.bg_tree.specs.declared.outcome.Leaf.{Leaf}
+use Rattle.bg_tree.specs.Ends.{IsLeaf, TruthsAgree}
+use Rattle.bg_formed.specs.Agree.{AreRows, RowsAgree}
+use Rattle.bg_formed.specs.Formed.{FormBlock, blocks_below}
+use Rattle.bg_formed.specs.Used.{refused}
+use Rattle.bg_formed.specs.Wells.{form_equations}
+use Rattle.bg_clause.specs.Valued.{worth_in}
 use Rattle.bg_clause.specs.Whole.{clauses_of}
+use Rattle.bg_linear.specs.declared.scalar.Sort.{Sort}
+use Rattle.bg_linear.specs.Sorts.{scalar_values, HoldScalars}
+use Rattle.bg_atoms.specs.Ranks.{rank}
+use Rattle.bg_atoms.specs.Sorted.{blocks_sorted}
+use Rattle.bg_faithful.specs.Sorted.{sorts_in}
+use Rattle.bg_faithful.specs.Encoded.{Encoding, IsEncoding}
+use Rattle.bg_faithful.specs.Interps.{no_interp}
 use Rattle.bg_places.specs.Placed.{placed, place_in}
-use Rattle.bg_fits.specs.Truths.{is_over_truths}
-use Rattle.bg_truths.specs.Passives.{blocks_in, incarnations_in, passives_in, no_interp}
+use Rattle.bg_fits.specs.Scalars.{is_over_scalars}
 use Rattle.bg_blocks.specs.Whole.{AreBlocks}
 use Rattle.bg_blocks.specs.declared.block.Block.{Block}
-use Rattle.bg_replay.specs.Moments.{choice_of}
-use Rattle.bg_replay.specs.Endings.{state_of, IsRight, IsReplay}
+use Rattle.bg_scalar.specs.Choices.{choice_of, state_of}
+use Rattle.bg_scalar.specs.declared.choice.Choice as code
+use Rattle.bg_scalar.specs.declared.scalar.Scalar.{Scalar}
+use Rattle.bg_replay.specs.Endings.{IsRight, IsReplay}
 use Rattle.bg_replay.specs.Views.{set_of}
-use Rattle.bg_replay.specs.declared.choice.Choice as code
-use Rattle.bg_replay.specs.declared.choice.Ending.{Ending}
+use Rattle.bg_replay.specs.declared.ending.Ending.{Ending}
 
 abbrev pub FunctionLaw : Type 0
 FunctionLaw = (p : Prog) → IsTyped p → AreTypedBodies p
@@ -86,28 +103,70 @@ DenyLaw =
     (set : ℕ → Bool) (target : Spot) (values : Scope) (blocks : List PassiveBlock) (k : ℕ) →
     is_well (slice_get (equations set target values blocks) k) ≡ false ↔ SomeWalk set target values blocks k
 
-abbrev pub ClauseLaw : Type 0
-ClauseLaw =
-    (count candidates : ℕ) (target : Spot) (blocks : List PassiveBlock) (f : Formula) → clauses_of count candidates target blocks ≡ Some f →
-    (p : Prog) (i : Interp) →
-    ((values : List Val) (truths : ℕ → Bool) → are_truths count values ≡ true →
-    is_well (slice_get (equations truths target (passive_scope p i values) blocks) 0) ≡ false →
-    (v : Valuation) × ((values ≡ truth_values v.truths count)
-    × (((b : ℕ) → b < candidates → v.truths (count + b) ≡ truths b)
-    × (clauses_true v f.atoms f.clauses ≡ true))))
-    × ((v : Valuation) → clauses_true v f.atoms f.clauses ≡ true →
-    is_well (slice_get (equations (λ b. v.truths (count + b)) target (passive_scope p i (truth_values v.truths count)) blocks) 0) ≡ false)
+-- a valuation for typed values under which the equations deny the entry
+abbrev pub MetLaw : Type 0
+MetLaw =
+    (p : Prog) (k : ℕ) (m : Impl) (q : Proc) → IsTyped p → is_over_scalars true p ≡ true →
+    slice_get p.implementations k ≡ Some m → procedure_of p m.procedure ≡ Some q →
+    (a : Encoding) → IsEncoding p k m q a → (target : Spot) (f : Formula) → clauses_of a.first p.candidates a.terms a.rows target a.blocks ≡ Ok f →
+    (i : Interp) (values : List Val) (set : ℕ → Bool) → are_of (incarnations_in p k m q) values ≡ true →
+    is_well (slice_get (equations set target (passive_scope p i values) (passives_in p k m q)) 0) ≡ false →
+    (v : Valuation) × ((values ≡ scalar_values v.numbers (λ j. v.truths (rank (sorts_in p k m q) j)) (sorts_in p k m q))
+    × (((b : ℕ) → b < p.candidates → v.truths (a.first + b) ≡ set b)
+    × (clauses_true v f.atoms f.clauses ≡ true)))
 
 abbrev pub WholeLaw : Type 0
 WholeLaw =
-    (count candidates : ℕ) (target : Spot) (blocks : List PassiveBlock) (f : Formula) →
-    clauses_of count candidates target blocks ≡ Some f → is_whole f ≡ true
-
-abbrev pub TruthLaw : Type 0
-TruthLaw =
-    (p : Prog) (k : ℕ) (m : Impl) (q : Proc) → IsTyped p → is_over_truths p ≡ true →
+    (p : Prog) (k : ℕ) (m : Impl) (q : Proc) → IsTyped p → is_over_scalars true p ≡ true →
     slice_get p.implementations k ≡ Some m → procedure_of p m.procedure ≡ Some q →
-    (values : List Val) → are_of (incarnations_in p k m q) values ≡ are_truths (length (incarnations_in p k m q)) values
+    (a : Encoding) → IsEncoding p k m q a → (target : Spot) (f : Formula) → clauses_of a.first p.candidates a.terms a.rows target a.blocks ≡ Ok f → is_whole f ≡ true
+
+abbrev pub ValueLaw : Type 0
+ValueLaw =
+    (p : Prog) (k : ℕ) (m : Impl) (q : Proc) → IsTyped p → is_over_scalars true p ≡ true →
+    slice_get p.implementations k ≡ Some m → procedure_of p m.procedure ≡ Some q →
+    (numbers : ℕ → ℤ) (truths : ℕ → Bool) → are_of (incarnations_in p k m q) (scalar_values numbers truths (sorts_in p k m q)) ≡ true
+
+abbrev pub StartLaw : Type 0
+StartLaw =
+    (p : Prog) (k : ℕ) (m : Impl) (q : Proc) → IsTyped p → is_over_scalars true p ≡ true →
+    slice_get p.implementations k ≡ Some m → procedure_of p m.procedure ≡ Some q →
+    (values : List Val) → are_of (incarnations_in p k m q) values ≡ true → IsState p k (first_state p (frame_decls m q) values)
+
+abbrev pub MeetLaw : Type 0
+MeetLaw = (p : Prog) → is_over_scalars true p ≡ true → Meets p no_interp
+
+abbrev pub HoldLaw : Type 0
+HoldLaw = (sorts : List Sort) (numbers : ℕ → ℤ) (truths : ℕ → Bool) → HoldScalars sorts numbers truths (scalar_values numbers truths sorts)
+
+-- of clauses of blocks of forms
+abbrev pub DeniedLaw : Type 0
+DeniedLaw =
+    (first candidates terms : ℕ) (rows : List AtomOf) (target : Spot) (blocks : List FormBlock) (f : Formula) → clauses_of first candidates terms rows target blocks ≡ Ok f →
+    blocks_below (first + candidates + length rows) candidates blocks ≡ true →
+    (v : Valuation) → clauses_true v f.atoms f.clauses ≡ true → is_well (slice_get (form_equations (λ b. v.truths (first + b)) target (worth_in v f.atoms) blocks) 0) ≡ false
+
+abbrev pub WithinLaw : Type 0
+WithinLaw =
+    (first candidates terms : ℕ) (rows : List AtomOf) (target : Spot) (blocks : List FormBlock) (f : Formula) → clauses_of first candidates terms rows target blocks ≡ Ok f → refused target blocks ≡ None
+
+abbrev pub RowsLaw : Type 0
+RowsLaw =
+    (first candidates terms : ℕ) (rows : List AtomOf) (target : Spot) (blocks : List FormBlock) (f : Formula) → clauses_of first candidates terms rows target blocks ≡ Ok f →
+    blocks_below (first + candidates + length rows) candidates blocks ≡ true →
+    (v : Valuation) → AreRows rows → RowsAgree v.numbers (worth_in v f.atoms) (first + candidates) rows
+
+-- of complete leaves
+abbrev pub LeafLaw : Type 0
+LeafLaw =
+    (f : Formula) (set : ℕ → Bool) (leaf : Leaf) (v : Valuation) → is_whole f ≡ true → AtomsAgree f.atoms → IsLeaf f set leaf →
+    ((x : ℕ) → v.numbers x ≡ value_of leaf.spots.items x) → TruthsAgree v f.atoms leaf.path.items → clauses_true v f.atoms f.clauses ≡ true
+
+abbrev pub SignLaw : Type 0
+SignLaw =
+    (f : Formula) (set : ℕ → Bool) (leaf : Leaf) (v : Valuation) → AtomsAgree f.atoms → IsLeaf f set leaf →
+    ((x : ℕ) → v.numbers x ≡ value_of leaf.spots.items x) → TruthsAgree v f.atoms leaf.path.items →
+    (a : ℕ) (s : Bool) → a < length f.atoms → decides a s leaf.path.items ≡ true → signed v (at f.atoms a) s ≡ true
 
 abbrev pub CertLaw : Type 0
 CertLaw =
@@ -126,26 +185,22 @@ InsideLaw =
 
 abbrev pub EvenLaw : Type 0
 EvenLaw =
-    (p : Prog) (k : ℕ) (m : Impl) (q : Proc) → IsTyped p → is_over_truths p ≡ true →
+    (p : Prog) (k : ℕ) (m : Impl) (q : Proc) → IsTyped p → is_over_scalars true p ≡ true →
     slice_get p.implementations k ≡ Some m → procedure_of p m.procedure ≡ Some q → BlocksEven (blocks_in p k m q)
 
-abbrev pub PassFitLaw : Type 0
-PassFitLaw =
-    (p : Prog) (k : ℕ) (m : Impl) (q : Proc) → IsTyped p → is_over_truths p ≡ true →
+abbrev pub SortLaw : Type 0
+SortLaw =
+    (p : Prog) (k : ℕ) (m : Impl) (q : Proc) → IsTyped p → is_over_scalars true p ≡ true →
     slice_get p.implementations k ≡ Some m → procedure_of p m.procedure ≡ Some q →
-    fit_blocks (length (incarnations_in p k m q)) p.candidates (passives_in p k m q) ≡ true
+    blocks_sorted (sorts_in p k m q) p.candidates (passives_in p k m q) ≡ true
 
-abbrev pub StartLaw : Type 0
-StartLaw =
-    (p : Prog) (k : ℕ) (m : Impl) (q : Proc) → IsTyped p → is_over_truths p ≡ true →
-    slice_get p.implementations k ≡ Some m → procedure_of p m.procedure ≡ Some q →
-    (truth : ℕ → Bool) → IsState p k (first_state p (frame_decls m q) (truth_values truth (length (incarnations_in p k m q))))
-
-abbrev pub MeetLaw : Type 0
-MeetLaw = (p : Prog) → is_over_truths p ≡ true → Meets p no_interp
+abbrev pub CodeLaw : Type 0
+CodeLaw =
+    (p : Prog) (k : ℕ) (m : Impl) (q : Proc) → IsTyped p →
+    slice_get p.implementations k ≡ Some m → procedure_of p m.procedure ≡ Some q → CodeIsTyped p (frame_decls m q) (blocks_in p k m q)
 
 abbrev pub ReplayLaw : Type 0
 ReplayLaw =
-    (p : r.Program) (set : List Bool) (i : Interp) (number : ℕ) (m : r.Impl) (q : r.Proc) (bs : List Block) (gs fs : List Bool) (cs : List code.Choice) (ending : Ending) →
+    (p : r.Program) (set : List Bool) (i : Interp) (number : ℕ) (m : r.Impl) (q : r.Proc) (bs : List Block) (gs fs : List Scalar) (cs : List code.Choice) (ending : Ending) →
     slice_get p.implementations number ≡ Some m → slice_get p.procedures m.procedure ≡ Some q → AreBlocks p number m q bs → IsReplay p bs set number m q gs fs cs ending →
     IsRight ending (induction_run (meaning_of p) (set_of set) i number (state_of gs fs) (map choice_of cs))

@@ -4,8 +4,12 @@ pub mod Failures
 pub mod Numbered
 pub mod Safe
 pub mod Leaves
+pub mod Points
+pub mod Alike
+pub mod Worths
 pub mod Prepares
+pub mod Slices
 pub mod Refutes
+pub mod Over
+pub mod Replaying
 pub mod Judging
-pub mod Plain
-pub mod Replayed

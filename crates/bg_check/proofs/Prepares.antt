@@ -1,31 +1,64 @@
 -- What is made of an implementation of a typed program.
-use Rattle.std.proofs.Common.{◌≡◌, ℕ, zero, suc, ◌<◌, List, [], ◌∷◌, ◌++◌, length, map, Option, Some, None, refl, sym, ap, ◌∙◌, subst, arith}
-use Rattle.std.specs.Prelude.{slice_get, option_map}
+use Rattle.std.proofs.Common.{◌≡◌, ℕ, zero, suc, ◌<◌, List, [], ◌∷◌, ◌++◌, length, map, Option, Some, None, Err, refl, sym, ap, ◌∙◌, subst, arith}
+use Rattle.std.specs.Prelude.{ℤ, Bool, true, ◌+◌, slice_get, option_map, All, IfSome}
+use Rattle.std.proofs.lemmas.List.Elements.{All-head, All-tail}
 use Rattle.std.proofs.lemmas.Option.{slice_get-map}
-use Rattle.std.proofs.lemmas.List.{length-append, length-map, map-append}
+use Rattle.std.proofs.lemmas.List.{length-map, map-append}
 use Rattle.bg_ast.specs.Values.{Ty}
 use Rattle.bg_ast.specs.Syntax as s
 use Rattle.bg_ast.specs.Resolved as r
 use Rattle.bg_ast.specs.Meaning.{meaning_of, named_of, decl_of, impl_of, proc_of}
 use Rattle.bg_ast.specs.Execution.{Spot}
+use Rattle.bg_base.specs.declared.exact.OutOfRange.{OutOfRange}
+use Rattle.bg_sense.specs.Eval.{Scope}
+use Rattle.bg_formula.specs.Atoms.{AtomOf}
+use Rattle.bg_formula.specs.Formulas.{Formula, rows_below}
+use Rattle.bg_formula.specs.Meaning.{AtomsAgree}
+use Rattle.bg_formed.specs.Agree.{AreRows, RowsAgree}
+use Rattle.bg_formed.specs.Said.{SaidBlocks}
+use Rattle.bg_formed.specs.Views.{blocks_of}
+use Rattle.bg_formed.specs.Formed.{FormBlock, blocks_below}
+use Rattle.bg_formed.specs.Used.{refused}
+use Rattle.bg_clause.specs.Whole.{formula, clauses_by, clauses_of}
+use Rattle.bg_linear.specs.Sorts.{HoldScalars}
+use Rattle.bg_atoms.specs.Ranks.{rank, truths}
+use Rattle.bg_atoms.specs.Made.{rows_in}
+use Rattle.bg_atoms.specs.declared.product.Atoms.{Atoms}
+use Rattle.bg_atoms.specs.Refusals.{BlocksRefusals}
 use Rattle.bg_sense.specs.Variables.{procedure_of}
 use Rattle.bg_sense.specs.Typed.{IsTypedImpl, IsTyped}
 use Rattle.bg_calls.specs.Core.{frame_decls}
 use Rattle.bg_flow.specs.Blocks as f
+use Rattle.bg_passive.specs.Passive.{PassiveBlock}
 use Rattle.bg_passive.specs.Incarnations.{passives, incarnations}
 use Rattle.bg_passive.specs.Arrivals.{arrived}
 use Rattle.bg_blocks.specs.Views.{block_of}
+use Rattle.bg_blocks.specs.Whole.{AreBlocks}
+use Rattle.bg_blocks.specs.declared.block.Block.{Block}
 use Rattle.bg_blocks.specs.EmittedViews.{frame_of}
 use Rattle.bg_incarnate.specs.Even.{BlocksEven}
-use Rattle.bg_incarnate.specs.Views.{passive_block_of}
+use Rattle.bg_incarnate.specs.Views.{passive_block_of, incarnations_of, incarnations_at}
+use Rattle.bg_incarnate.specs.declared.blocks.Passive.{Passive}
 use Rattle.bg_incarnate.specs.Walked.{next_in}
-use Rattle.bg_clause.specs.Whole.{clauses_of}
-use Rattle.bg_truths.specs.Passives.{blocks_in, arrivals_in, incarnations_in, passives_in}
-use Rattle.bg_truths.proofs.Decls.{all_at}
+use Rattle.bg_block_types.specs.Typed.{blocks_in, arrivals_in, passives_in}
+use Rattle.bg_fits.specs.Scalars.{is_over_scalars}
+use Rattle.bg_linear.specs.declared.scalar.Sort.{Sort}
+use Rattle.bg_sorts.specs.Sorts.{sort_of_type, decl_sorts}
+use Rattle.bg_sorts.specs.Passive.{ArrivesAt}
+use Rattle.bg_atoms.specs.Sorted.{blocks_sorted}
+use Rattle.bg_faithful.specs.Sorted.{sorts_in}
+use Rattle.bg_faithful.specs.Encoded.{Encoding, Encodes, IsEncoding, HasClauses}
 use Rattle.bg_check.specs.declared.prepared.Prepared.{Prepared}
-use Rattle.bg_check.specs.Clauses.{formula_with, formula_by}
-use Rattle.bg_check.specs.Prepared.{IsPrepared}
-use Rattle.bg_check.proofs.Failures.{in_blocks}
+use Rattle.bg_check.specs.Prepared.{IsPassive, IsPrepared, encoding_of, frame_declared}
+use Rattle.bg_check.specs.Verdicts.{HasOutside}
+use Rattle.bg_check.specs.Slices.{IsSliceFor}
+use Rattle.bg_check.specs.Made.{ClausesOf}
+use Rattle.bg_check.proofs.LawTypes.{EvenLaw, SortLaw}
+
+all_at : {A : Type 0} (P : A → Type 0) (xs : List A) (k : ℕ) (x : A) → All P xs → slice_get xs k ≡ Some x → P x
+all_at P [] k x h e = absurd (let bad : ⊥ = cc in bad)
+all_at P (y ∷ ys) zero x h e = let same : y ≡ x = cc in subst P same (All-head P y ys h)
+all_at P (y ∷ ys) (suc k) x h e = all_at P ys k x (All-tail P y ys h) e
 
 -- an implementation and its procedure
 pub record There (p : r.Program) (n : ℕ) : Type 0 where
@@ -71,14 +104,7 @@ module _ (p : r.Program) (n : ℕ) (w : Prepared) (h : IsPrepared p n w) where
       slice_get-map (proc_of named) p.procedures h.implementation.procedure ∙ ap (option_map (proc_of named)) h.proc_there
 
   abbrev rs : List r.Declared
-  rs = h.procedure.params ++ (h.procedure.results ++ h.implementation.locals)
-
-  rs_long : length rs ≡ w.frame
-  rs_long =
-      let a = length-append h.procedure.params (h.procedure.results ++ h.implementation.locals) in
-      let b = length-append h.procedure.results h.implementation.locals in
-      let c = h.frame in
-      omega (arith, a, b, c)
+  rs = frame_declared h.implementation h.procedure
 
   frame_is : frame_of p rs ≡ frame_decls impl proc
   frame_is =
@@ -86,7 +112,7 @@ module _ (p : r.Program) (n : ℕ) (w : Prepared) (h : IsPrepared p n w) where
       ∙ ap (λ l. map (decl_of named) h.procedure.params ++ l) (map-append (decl_of named) h.procedure.results h.implementation.locals)
 
   pub frame_long : length (frame_decls impl proc) ≡ w.frame
-  frame_long = sym (ap (λ l. length l) frame_is) ∙ (length-map rs (decl_of named) ∙ rs_long)
+  frame_long = sym (ap (λ l. length l) frame_is) ∙ (length-map rs (decl_of named) ∙ sym h.frame)
 
   abbrev bs : List f.Block
   bs = map (block_of p) w.blocks.items
@@ -96,27 +122,137 @@ module _ (p : r.Program) (n : ℕ) (w : Prepared) (h : IsPrepared p n w) where
 
   pub passives_are : map passive_block_of w.passive.blocks.items ≡ passives_in (meaning_of p) n impl proc
   passives_are =
-      h.passive.blocks rs rs_long
+      h.passive.blocks
       ∙ (ap (λ ds. passives (arrived (meaning_of p) ds bs).arrivals bs) frame_is
       ∙ ap (λ l. passives (arrived (meaning_of p) (frame_decls impl proc) l).arrivals l) blocks_are)
 
   pub firsts_are : w.passive.firsts.items ≡ map next_in (arrivals_in (meaning_of p) n impl proc).arrivals
   firsts_are =
-      h.passive.firsts rs rs_long
+      h.passive.firsts
       ∙ (ap (λ ds. map next_in (arrived (meaning_of p) ds bs).arrivals) frame_is
       ∙ ap (λ l. map next_in (arrived (meaning_of p) (frame_decls impl proc) l).arrivals) blocks_are)
 
-  pub count_is : BlocksEven (blocks_in (meaning_of p) n impl proc) → w.passive.count ≡ length (incarnations_in (meaning_of p) n impl proc)
-  count_is even =
-      h.passive.count rs rs_long (subst BlocksEven (sym blocks_are) even)
-      ∙ (ap (λ ds. length (incarnations (meaning_of p) ds (arrived (meaning_of p) ds bs).made)) frame_is
-      ∙ ap (λ l. length (incarnations (meaning_of p) (frame_decls impl proc) (arrived (meaning_of p) (frame_decls impl proc) l).made)) blocks_are)
+  -- an operation that leaves the range, of those that count for a place
+  pub outside_here : (spot : Spot) (candidate : Option ℕ) (x : Atoms) (o : OutOfRange) (cands : ℕ) (rows : List AtomOf) (forms : List FormBlock) → IsSliceFor p n w spot x → forms ≡ (encoding_of x).blocks → clauses_of (encoding_of x).first cands (encoding_of x).terms rows spot forms ≡ Err o → HasOutside (meaning_of p) (record { implementation = n; spot = spot; candidate = candidate }) o
+  outside_here spot candidate x o cands rows forms cut b e =
+      record {
+        implementation = impl;
+        procedure = proc;
+        is_there = impl_at;
+        is_its = proc_at;
+        encoding = encoding_of w.atoms;
+        is_encoding = h.encoding;
+        refusals = subst (λ ss. BlocksRefusals ss (passives_in (meaning_of p) n impl proc) (encoding_of w.atoms).blocks) h.sorts h.refusals;
+        is_refused = sym cut.refusals ∙ (ap (refused spot) (sym b) ∙ by (refused spot forms) refl e);
+      }
+    where
+      by : (y : Option OutOfRange) → refused spot forms ≡ y → clauses_by y (formula (encoding_of x).first cands (encoding_of x).terms rows spot forms) ≡ Err o → refused spot forms ≡ Some o
+      by None g k = absurd (let bad : ⊥ = cc in bad)
+      by (Some y) g k = let same : y ≡ o = cc in g ∙ ap Some same
 
-  -- the clauses of a place are those of the passive blocks
-  pub formula_is : BlocksEven (blocks_in (meaning_of p) n impl proc) → (spot : Spot) → formula_by (meaning_of p) n (slice_get (meaning_of p).implementations n) spot ≡ clauses_of w.passive.count (meaning_of p).candidates spot (map passive_block_of w.passive.blocks.items)
-  formula_is even spot =
-      ap (λ o. formula_by (meaning_of p) n o spot) impl_at
-      ∙ (ap (λ o. formula_with (meaning_of p) n impl o spot) proc_at
-      ∙ (in_blocks (meaning_of p) n impl proc spot
-      ∙ (ap (λ c. clauses_of c (meaning_of p).candidates spot (passives_in (meaning_of p) n impl proc)) (sym (count_is even))
-      ∙ ap (clauses_of w.passive.count (meaning_of p).candidates spot) (sym passives_are))))
+  -- the clauses of a place
+  pub clauses_here : (spot : Spot) (candidate : Option ℕ) (x : Atoms) (f : Formula) → IsSliceFor p n w spot x → ClausesOf (meaning_of p) x (record { implementation = n; spot = spot; candidate = candidate }) f → HasClauses (meaning_of p) (record { implementation = n; spot = spot; candidate = candidate }) f
+  clauses_here spot candidate x f cut e =
+      record { implementation = impl; procedure = proc; is_there = impl_at; is_its = proc_at; encoding = encoding_of x; is_encoding = cut.encoding h; clauses = e }
+
+-- ---- what is made of passive blocks
+
+-- what is answered encodes the blocks
+pub encodes_some : (ss : List Sort) (k : ℕ) (bs : List PassiveBlock) (o : Option Atoms) (a : Atoms) → o ≡ Some a → IfSome o (λ x. x.first ≡ truths ss) → IfSome o (λ x. x.terms ≡ length ss) → IfSome o (λ x. (numbers : ℕ → ℤ) (truth : ℕ → Bool) (c : Scope) → RowsAgree numbers truth (x.first + k) (rows_in x.rows) → HoldScalars ss numbers (λ j. truth (rank ss j)) c.frame → SaidBlocks truth c bs (blocks_of x.blocks)) → IfSome o (λ x. blocks_below (x.first + k + length (rows_in x.rows)) k (blocks_of x.blocks) ≡ true) → IfSome o (λ x. AreRows (rows_in x.rows)) → IfSome o (λ x. AtomsAgree (rows_in x.rows)) → IfSome o (λ x. rows_below x.terms (rows_in x.rows) ≡ true) → Encodes ss k bs (encoding_of a)
+encodes_some ss k bs None a e first terms said below rows denials inside = absurd (let bad : ⊥ = cc in bad)
+encodes_some ss k bs (Some x) a e first terms said below rows denials inside =
+    let same : x ≡ a = cc in
+    subst (λ y. Encodes ss k bs (encoding_of y)) same (record { first = first; terms = terms; said = said; below = below; rows = rows; denials = denials; inside = inside })
+
+pub refusals_some : (ss : List Sort) (bs : List PassiveBlock) (o : Option Atoms) (a : Atoms) → o ≡ Some a → IfSome o (λ x. BlocksRefusals ss bs (blocks_of x.blocks)) → BlocksRefusals ss bs (blocks_of a.blocks)
+refusals_some ss bs None a e h = absurd (let bad : ⊥ = cc in bad)
+refusals_some ss bs (Some x) a e h = let same : x ≡ a = cc in subst (λ y. BlocksRefusals ss bs (blocks_of y.blocks)) same h
+
+-- ---- how an implementation is prepared
+
+sorts_many : (ds : List s.Decl) → length (decl_sorts ds) ≡ length ds
+sorts_many [] = refl
+sorts_many (d ∷ ds) = ap (λ n. suc n) (sorts_many ds)
+
+module _ (p : r.Program) (n : ℕ) (m : r.Impl) (q : r.Proc) (im : slice_get p.implementations n ≡ Some m) (pr : slice_get p.procedures m.procedure ≡ Some q) where
+  abbrev types : ℕ → Ty
+  types = named_of p.types
+
+  abbrev P : s.Prog
+  P = meaning_of p
+
+  abbrev M : s.Impl
+  M = impl_of types m
+
+  abbrev Q : s.Proc
+  Q = proc_of types q
+
+  abbrev declared : List r.Declared
+  declared = frame_declared m q
+
+  impl_is : slice_get P.implementations n ≡ Some M
+  impl_is = slice_get-map (impl_of types) p.implementations n ∙ ap (option_map (impl_of types)) im
+
+  proc_is : procedure_of P M.procedure ≡ Some Q
+  proc_is = slice_get-map (proc_of types) p.procedures m.procedure ∙ ap (option_map (proc_of types)) pr
+
+  pub frame_meant : frame_of p declared ≡ frame_decls M Q
+  frame_meant =
+      map-append (decl_of types) q.params (q.results ++ m.locals)
+      ∙ ap (λ l. map (decl_of types) q.params ++ l) (map-append (decl_of types) q.results m.locals)
+
+  -- as many sorts as variables
+  pub many : (sorts : List Sort) → sorts ≡ decl_sorts (frame_of p declared) → length declared ≡ length sorts
+  many sorts e =
+      sym (ap (λ l. length l) e ∙ (sorts_many (frame_of p declared) ∙ length-map declared (decl_of types)))
+
+  module _ (evens : EvenLaw) (t : IsTyped P) (o : is_over_scalars true P ≡ true) (bs : List Block) (made : AreBlocks p n m q bs) where
+    pub even : BlocksEven (map (block_of p) bs)
+    even = subst BlocksEven (sym made) (evens P n M Q t o impl_is proc_is)
+
+    -- the sorts of the incarnations
+    pub sorts_are : (sorts : List Sort) → sorts ≡ map sort_of_type (incarnations P (frame_of p declared) (arrived P (frame_of p declared) (map (block_of p) bs)).made) → sorts ≡ sorts_in P n M Q
+    sorts_are sorts e =
+        e
+        ∙ (ap (λ ds. map sort_of_type (incarnations P ds (arrived P ds (map (block_of p) bs)).made)) frame_meant
+        ∙ ap (λ l. map sort_of_type (incarnations P (frame_decls M Q) (arrived P (frame_decls M Q) l).made)) made)
+
+    -- the passive blocks
+    pub passives_made : (w : Passive) → IsPassive p declared bs w → map passive_block_of w.blocks.items ≡ passives_in P n M Q
+    passives_made w h =
+        h.blocks
+        ∙ (ap (λ ds. passives (arrived P ds (map (block_of p) bs)).arrivals (map (block_of p) bs)) frame_meant
+        ∙ ap (λ l. passives (arrived P (frame_decls M Q) l).arrivals l) made)
+
+    -- they are well sorted
+    pub sorted_here : SortLaw → (sorts : List Sort) (candidates : ℕ) (blocks : List PassiveBlock) → sorts ≡ sorts_in P n M Q → candidates ≡ P.candidates → blocks ≡ passives_in P n M Q → blocks_sorted sorts candidates blocks ≡ true
+    sorted_here law sorts candidates blocks a b c =
+        ap (λ x. blocks_sorted x candidates blocks) a
+        ∙ (ap (λ x. blocks_sorted (sorts_in P n M Q) x blocks) b
+        ∙ (ap (λ x. blocks_sorted (sorts_in P n M Q) P.candidates x) c ∙ law P n M Q t o impl_is proc_is))
+
+    -- what encodes them is an encoding of the implementation
+    pub encodes : (sorts : List Sort) (candidates : ℕ) (blocks : List PassiveBlock) (a : Encoding) → sorts ≡ sorts_in P n M Q → candidates ≡ P.candidates → blocks ≡ passives_in P n M Q → Encodes sorts candidates blocks a → IsEncoding P n M Q a
+    encodes sorts candidates blocks a x y z h =
+        subst (λ l. Encodes (sorts_in P n M Q) P.candidates l a) z
+        (subst (λ k. Encodes (sorts_in P n M Q) k blocks a) y (subst (λ ss. Encodes ss candidates blocks a) x h))
+
+    -- what is said of the passive blocks of these blocks, where the frame has so many variables
+    abbrev pub PassiveSays : Passive → ℕ → List Block → Type 0
+    PassiveSays w k l =
+        (rs : List r.Declared) → length rs ≡ k →
+        (map incarnations_of w.arrivals.items ≡ map incarnations_at (arrived P (frame_of p rs) (map (block_of p) l)).arrivals)
+        × ((BlocksEven (map (block_of p) l) → w.count ≡ length (incarnations P (frame_of p rs) (arrived P (frame_of p rs) (map (block_of p) l)).made))
+        × IsPassive p rs l w)
+
+    abbrev pub SortsSay : List Sort → Passive → List Block → List Sort → Type 0
+    SortsSay frame w l sorts =
+        (rs : List r.Declared) → frame ≡ decl_sorts (frame_of p rs) → ArrivesAt p rs l w → BlocksEven (map (block_of p) l) → sorts ≡ map sort_of_type (incarnations P (frame_of p rs) (arrived P (frame_of p rs) (map (block_of p) l)).made)
+
+    -- the passive blocks and the sorts that are made
+    pub made_here : (frame f1 : List Sort) (k : ℕ) (l1 l2 : List Block) (w : Passive) (sorts : List Sort) → frame ≡ decl_sorts (frame_of p declared) → f1 ≡ frame → k ≡ length frame → l1 ≡ bs → l2 ≡ bs → PassiveSays w k l1 → SortsSay f1 w l2 sorts → IsPassive p declared bs w × (sorts ≡ sorts_in P n M Q)
+    made_here frame f1 k l1 l2 w sorts fe f1e ke e1 e2 passive says =
+        let h = subst (PassiveSays w k) e1 passive declared (many frame fe ∙ sym ke) in
+        let g = subst (λ x. SortsSay x w l2 sorts) f1e says in
+        let s = subst (λ l. SortsSay frame w l sorts) e2 g declared fe (record { arrivals = h.0; count = h.1.0 }) even in
+        (h.1.1, sorts_are sorts s)

@@ -1,144 +1,78 @@
--- From a path that decides every atom to a run that fails.
-use Rattle.std.proofs.Common.{◌≡◌, ℕ, zero, suc, ◌+◌, Bool, true, false, if◌then◌else◌, List, [], ◌∷◌, length, map, Option, Some, None, refl, sym, ap, ◌∙◌, subst, replicate, arith}
-use Rattle.std.specs.Prelude.{◌&&◌, ◌||◌, ◌==◌, not, slice_get, unwrap_or}
+-- From a complete leaf to a run that fails.
+use Rattle.std.proofs.Common.{◌≡◌, ℕ, ◌+◌, pos, Bool, true, false, List, length, map, Option, Some, None, refl, sym, ap, ◌∙◌, subst, replicate, arith}
+use Rattle.std.specs.Prelude.{◌==◌, not, slice_get, unwrap_or}
 use Rattle.std.proofs.lemmas.Bool.{eqb-true}
 use Rattle.std.proofs.lemmas.Option.{unwrap_or-slice_get}
-use Rattle.bg_ast.specs.Values.{truth_of}
+use Rattle.bg_ast.specs.Values.{Val}
 use Rattle.bg_ast.specs.Syntax as s
 use Rattle.bg_ast.specs.Resolved as r
 use Rattle.bg_ast.specs.Meaning.{meaning_of}
-use Rattle.bg_ast.specs.Execution.{Interp, Spot}
-use Rattle.bg_sense.specs.Eval.{Scope, ev}
+use Rattle.bg_ast.specs.Execution.{Spot}
+use Rattle.bg_sense.specs.Types.{are_of}
 use Rattle.bg_sense.specs.Flow.{Failed}
 use Rattle.bg_sense.specs.Context.{Turning}
 use Rattle.bg_sense.specs.Run.{induction_run}
-use Rattle.bg_sense.specs.Claims.{IsState, Fails}
+use Rattle.bg_sense.specs.Claims.{IsState}
 use Rattle.bg_sense.specs.Typed.{IsTyped}
 use Rattle.bg_sense.proofs.Bools.{and_left, and_right}
 use Rattle.bg_calls.specs.Core.{frame_decls}
-use Rattle.bg_passive.specs.Passive.{PassiveCmd, Claims, Supposes, Edge, PassiveBlock, spot_eq, is_absent}
 use Rattle.bg_passive.specs.Incarnations.{passives, MakesPassive, first_state, passive_scope}
-use Rattle.bg_wp.specs.Equations.{equation_cmds, is_well, all_well, equations}
-use Rattle.bg_formula.specs.Formulas.{Formula, is_whole}
-use Rattle.bg_cert.specs.declared.cert.Decision.{Decision}
+use Rattle.bg_wp.specs.Equations.{is_well}
+use Rattle.bg_block_types.specs.Typed.{arrivals_in, incarnations_in}
+use Rattle.bg_formula.specs.Atoms.{IsTruth, at}
+use Rattle.bg_formula.specs.Formulas.{Formula}
+use Rattle.bg_formula.specs.Meaning.{Valuation, AtomsAgree, clauses_true}
 use Rattle.bg_cert.specs.Walks.{has}
-use Rattle.bg_pick.specs.Picks.{IsComplete}
+use Rattle.bg_cert.specs.declared.cert.Decision.{Decision}
+use Rattle.bg_point.specs.declared.spot.Spot as spots
+use Rattle.bg_point.specs.Points.{value_of}
+use Rattle.bg_tree.specs.declared.outcome.Leaf.{Leaf}
+use Rattle.bg_tree.specs.Ends.{IsLeaf}
 use Rattle.bg_blocks.specs.declared.block.Block.{Block}
 use Rattle.bg_blocks.specs.Views.{block_of}
-use Rattle.bg_incarnate.specs.declared.blocks.PassiveBlock as code
-use Rattle.bg_incarnate.specs.Views.{passive_block_of}
-use Rattle.bg_incarnate.specs.Even.{BlocksEven}
-use Rattle.bg_forms.specs.Fitting.{fits_ex}
-use Rattle.bg_clause.specs.Fitting.{fits_candidate, fits_cmds, fit_edges, fit_blocks}
-use Rattle.bg_forms.specs.Worth.{truth_values, are_truths}
-use Rattle.bg_clause.specs.Whole.{formula, clauses_of}
-use Rattle.bg_replay.specs.Views.{set_of}
-use Rattle.bg_replay.specs.Moments.{choice_of}
-use Rattle.bg_replay.specs.Endings.{state_of}
+use Rattle.bg_forms.specs.Worth.{bools_at}
+use Rattle.bg_formed.specs.Agree.{RowsAgree}
+use Rattle.bg_formed.specs.Formed.{FormBlock, blocks_below}
+use Rattle.bg_formed.specs.Said.{SaidBlocks}
+use Rattle.bg_formed.specs.Wells.{form_equations}
+use Rattle.bg_clause.specs.Valued.{worth_in}
+use Rattle.bg_fits.specs.Scalars.{is_over_scalars, decls_pass, is_scalar_type, is_scalar}
+use Rattle.bg_fits.specs.Truths.{is_empty}
+use Rattle.bg_linear.specs.declared.scalar.Sort.{Sort}
+use Rattle.bg_linear.specs.Sorts.{scalar_values}
+use Rattle.bg_atoms.specs.Ranks.{rank}
+use Rattle.bg_atoms.specs.declared.product.Atoms.{Atoms}
+use Rattle.bg_faithful.specs.Encoded.{Encoding, IsEncoding}
+use Rattle.bg_faithful.specs.Interps.{no_interp}
+use Rattle.bg_faithful.specs.Sorted.{sorts_in}
+use Rattle.bg_scalar.specs.Values.{val_of}
+use Rattle.bg_scalar.specs.Choices.{choice_of, state_of}
+use Rattle.bg_model.specs.Views.{set_of}
 use Rattle.bg_model.specs.declared.failure.Counterexample.{Counterexample}
-use Rattle.bg_fits.specs.Truths.{is_empty, are_truth_decls, is_over_truths}
-use Rattle.bg_truths.specs.Passives.{blocks_in, arrivals_in, incarnations_in, no_interp}
+use Rattle.bg_model.specs.Counterexamples.{is_denied, SetUp, IsCounterexample, IsTold}
 use Rattle.bg_check.specs.declared.prepared.Prepared.{Prepared}
-use Rattle.bg_check.specs.Clauses.{formula_by}
-use Rattle.bg_check.specs.Prepared.{IsPrepared}
-use Rattle.bg_check.specs.Leaves.{marked}
-use Rattle.bg_model.specs.Counterexamples.{is_denied, SetUp, Fit, IsCounterexample, IsTold}
-use Rattle.bg_check.proofs.LawTypes.{WholeLaw, BodyLaw, FitLaw, ClauseLaw, TruthLaw, EvenLaw, PassFitLaw, StartLaw, MeetLaw}
-use Rattle.bg_check.proofs.Formulas.{plain_formula}
-use Rattle.bg_check.proofs.Leaves.{path_values, leaf_met, marked_values}
-use Rattle.bg_check.proofs.Prepares.{impl, proc, impl_at, proc_at, frame_long, blocks_are, passives_are, firsts_are, count_is, formula_is}
+use Rattle.bg_check.specs.Leaves.{marked, numbered, scalars_from}
+use Rattle.bg_check.specs.Prepared.{IsPrepared, encoding_of}
+use Rattle.bg_check.specs.Slices.{IsSliceFor}
+use Rattle.bg_check.specs.Made.{ClausesOf}
+use Rattle.bg_check.specs.Verdicts.{IsFailure}
+use Rattle.bg_check.proofs.LawTypes.{BodyLaw, FitLaw, WholeLaw, ValueLaw, StartLaw, MeetLaw, HoldLaw, DeniedLaw, WithinLaw, RowsLaw, LeafLaw, SignLaw}
+use Rattle.bg_check.proofs.Formulas.{IsPlainFormula, plain_formula, plain_agree, own_number}
+use Rattle.bg_check.proofs.Leaves.{leaf_number, scalars_are}
+use Rattle.bg_check.proofs.Alike.{blocks_alike}
+use Rattle.bg_check.proofs.Worths.{leaf_bools, leaf_valuation, truths_agree, worths_are}
+use Rattle.bg_check.proofs.Prepares.{impl, proc, impl_at, proc_at, frame_long, blocks_are, firsts_are}
 
--- ---- without candidates equations do not depend on a set
-
-none_absent : (set other : ℕ → Bool) (b : Option ℕ) → fits_candidate 0 b ≡ true → is_absent set b ≡ is_absent other b
-none_absent set other None e = refl
-none_absent set other (Some b) e = absurd (let bad : ⊥ = grind arith in bad)
-
-module _ (n : ℕ) (set other : ℕ → Bool) (t : Spot) (c : Scope) where
-  cmds_alike : (ks : List PassiveCmd) (rest : Bool) → fits_cmds n 0 ks ≡ true → equation_cmds set t c ks rest ≡ equation_cmds other t c ks rest
-  cmds_alike [] rest h = refl
-  cmds_alike (Claims a b e ∷ ks) rest h =
-      let one = none_absent set other b (and_left (fits_candidate 0 b) _ h) in
-      let more = cmds_alike ks rest (and_right (fits_ex n e) _ (and_right (fits_candidate 0 b) _ h)) in
-      ap (λ x. if spot_eq a t then (x || truth_of (ev e c)) && equation_cmds set t c ks rest else not (x || truth_of (ev e c)) || equation_cmds set t c ks rest) one
-      ∙ ap (λ y. if spot_eq a t then (is_absent other b || truth_of (ev e c)) && y else not (is_absent other b || truth_of (ev e c)) || y) more
-  cmds_alike (Supposes b e ∷ ks) rest h =
-      let one = none_absent set other b (and_left (fits_candidate 0 b) _ h) in
-      let more = cmds_alike ks rest (and_right (fits_ex n e) _ (and_right (fits_candidate 0 b) _ h)) in
-      ap (λ x. not (x || truth_of (ev e c)) || equation_cmds set t c ks rest) one
-      ∙ ap (λ y. not (is_absent other b || truth_of (ev e c)) || y) more
-
-  edges_alike : (later : List Bool) (es : List Edge) → fit_edges n 0 es ≡ true → all_well set t c later es ≡ all_well other t c later es
-  edges_alike later [] h = refl
-  edges_alike later (e ∷ es) h =
-      ap (λ x. x && all_well set t c later es) (cmds_alike e.cmds (is_well (slice_get later e.to)) (and_left (fits_cmds n 0 e.cmds) _ h))
-      ∙ ap (λ y. equation_cmds other t c e.cmds (is_well (slice_get later e.to)) && y) (edges_alike later es (and_right (fits_cmds n 0 e.cmds) _ h))
-
-  blocks_alike : (bs : List PassiveBlock) → fit_blocks n 0 bs ≡ true → equations set t c bs ≡ equations other t c bs
-  blocks_alike [] h = refl
-  blocks_alike (b ∷ bs) h =
-      let h1 = and_right (fits_cmds n 0 b.cmds) _ h in
-      let later = equations set t c bs in
-      let more = blocks_alike bs (and_right (fit_edges n 0 b.next) _ h1) in
-      ap (λ x. x ∷ later) (cmds_alike b.cmds (all_well set t c later b.next) (and_left (fits_cmds n 0 b.cmds) _ h) ∙ ap (equation_cmds other t c b.cmds) (edges_alike later b.next (and_left (fit_edges n 0 b.next) _ h1)))
-      ∙ ap (λ l. equation_cmds other t c b.cmds (all_well other t c l b.next) ∷ l) more
-
-all_truths : (t : ℕ → Bool) (n : ℕ) → are_truths n (truth_values t n) ≡ true
-all_truths t zero = refl
-all_truths t (suc n) = all_truths (λ j. t (suc j)) n
-
-no_candidates : (p : s.Prog) → is_over_truths p ≡ true → p.candidates ≡ 0
+pub no_candidates : (p : s.Prog) → is_over_scalars true p ≡ true → p.candidates ≡ 0
 no_candidates p o =
     eqb-true p.candidates 0
-    (and_left (p.candidates == 0) _ (and_right (is_empty p.axioms) _ (and_right (is_empty p.functions) _ (and_right (is_empty p.constants) _ (and_right (are_truth_decls p.globals) _ o)))))
+    (and_left (p.candidates == 0) _ (and_right (is_empty p.axioms) _ (and_right (is_empty p.functions) _ (and_right (is_empty p.constants) _ (and_right (decls_pass (is_scalar_type true) (is_scalar true) p.globals) _ o)))))
 
 -- a set as a list, by either reading
 pub set_same : (bs : List Bool) → set_of bs ≡ has bs
 set_same bs = λ i b. unwrap_or-slice_get bs b false i
 
-module _ (evens : EvenLaw) (passes : PassFitLaw) (p : r.Program) (n : ℕ) (w : Prepared) (h : IsPrepared p n w) (t : IsTyped (meaning_of p)) (o : is_over_truths (meaning_of p) ≡ true) where
-  pub even : BlocksEven (blocks_in (meaning_of p) n (impl p n w h) (proc p n w h))
-  even = evens (meaning_of p) n (impl p n w h) (proc p n w h) t o (impl_at p n w h) (proc_at p n w h)
-
-  pub counted : w.passive.count ≡ length (incarnations_in (meaning_of p) n (impl p n w h) (proc p n w h))
-  counted = count_is p n w h even
-
-  pub fit : fit_blocks w.passive.count (meaning_of p).candidates (map passive_block_of w.passive.blocks.items) ≡ true
-  fit =
-      ap (λ c. fit_blocks c (meaning_of p).candidates (map passive_block_of w.passive.blocks.items)) counted
-      ∙ (ap (fit_blocks (length (incarnations_in (meaning_of p) n (impl p n w h) (proc p n w h))) (meaning_of p).candidates) (passives_are p n w h)
-      ∙ passes (meaning_of p) n (impl p n w h) (proc p n w h) t o (impl_at p n w h) (proc_at p n w h))
-
-  -- the clauses of a place
-  pub place_formula : (spot : Spot) → formula_by (meaning_of p) n (slice_get (meaning_of p).implementations n) spot ≡ clauses_of w.passive.count (meaning_of p).candidates spot (map passive_block_of w.passive.blocks.items)
-  place_formula spot = formula_is p n w h even spot
-
-  -- what is made of the passive blocks, where there are so many candidates
-  abbrev Made : Spot → ℕ → List code.PassiveBlock → Option Formula → Type 0
-  Made spot m bs f = f ≡ clauses_of w.passive.count m spot (map passive_block_of bs)
-
-  made_here : (spot : Spot) (m : ℕ) (bs : List code.PassiveBlock) (f : Option Formula) → m ≡ (meaning_of p).candidates → bs ≡ w.passive.blocks.items → Made spot m bs f → Made spot (meaning_of p).candidates w.passive.blocks.items f
-  made_here spot m bs f a b e =
-      e
-      ∙ (ap (λ k. clauses_of w.passive.count k spot (map passive_block_of bs)) a
-      ∙ ap (λ l. clauses_of w.passive.count (meaning_of p).candidates spot (map passive_block_of l)) b)
-
-  -- there are clauses for each place
-  pub clauses_there : (spot : Spot) (m : ℕ) (bs : List code.PassiveBlock) → m ≡ (meaning_of p).candidates → bs ≡ w.passive.blocks.items → Made spot m bs None → ⊥
-  clauses_there spot m bs a b e =
-      let qs = map passive_block_of w.passive.blocks.items in
-      let k = (meaning_of p).candidates in
-      let x : None ≡ Some (formula w.passive.count k spot qs) = made_here spot m bs None a b e ∙ ap (λ y. if y then Some (formula w.passive.count k spot qs) else None) fit in
-      let bad : ⊥ = cc in
-      bad
-
-  pub formula_here : (spot : Spot) (m : ℕ) (bs : List code.PassiveBlock) (f : Formula) → m ≡ (meaning_of p).candidates → bs ≡ w.passive.blocks.items → Made spot m bs (Some f) → formula_by (meaning_of p) n (slice_get (meaning_of p).implementations n) spot ≡ Some f
-  formula_here spot m bs f a b e = place_formula spot ∙ sym (made_here spot m bs (Some f) a b e)
-
-  pub whole_here : (whole : WholeLaw) (spot : Spot) (m : ℕ) (bs : List code.PassiveBlock) (f : Formula) → Made spot m bs (Some f) → is_whole f ≡ true
-  whole_here whole spot m bs f e = whole w.passive.count m spot (map passive_block_of bs) f (sym e)
-
-module _ (bodies : BodyLaw) (fits : FitLaw) (clauses : ClauseLaw) (truths : TruthLaw) (evens : EvenLaw) (passes : PassFitLaw) (starts : StartLaw) (meets : MeetLaw) (p : r.Program) (n : ℕ) (w : Prepared) (h : IsPrepared p n w) (t : IsTyped (meaning_of p)) (o : is_over_truths (meaning_of p) ≡ true) where
+module _ (bodies : BodyLaw) (fits : FitLaw) (whole : WholeLaw) (values : ValueLaw) (starts : StartLaw) (meets : MeetLaw) (holds : HoldLaw) (denies : DeniedLaw) (within : WithinLaw) (rows : RowsLaw) (leaves : LeafLaw) (signs : SignLaw) (p : r.Program) (n : ℕ) (w : Prepared) (h : IsPrepared p n w) (t : IsTyped (meaning_of p)) (o : is_over_scalars true (meaning_of p) ≡ true) where
   abbrev P : s.Prog
   P = meaning_of p
 
@@ -148,77 +82,128 @@ module _ (bodies : BodyLaw) (fits : FitLaw) (clauses : ClauseLaw) (truths : Trut
   abbrev Q : s.Proc
   Q = proc p n w h
 
-  abbrev qs : List PassiveBlock
-  qs = map passive_block_of w.passive.blocks.items
+  abbrev S : List Sort
+  S = sorts_in P n M Q
 
-  -- the equations deny the entry under the truth values of a leaf
-  pub denied_here : (spot : Spot) (f : Formula) (set other : ℕ → Bool) (leaf : List Decision) → clauses_of w.passive.count P.candidates spot qs ≡ Some f → is_whole f ≡ true → IsComplete f other leaf → is_denied set spot P no_interp (λ a. unwrap_or (slice_get (marked leaf (replicate w.passive.count false)) a) false) w.passive.count qs ≡ true
-  denied_here spot f set other leaf e whole l =
-      let v = path_values leaf in
-      let plain = plain_formula w.passive.count P.candidates spot qs f e in
-      let d = (clauses w.passive.count P.candidates spot qs f e P no_interp).1 v (leaf_met w.passive.count P.candidates f other leaf plain whole l) in
-      let scope = passive_scope P no_interp (truth_values v.truths w.passive.count) in
-      let fit0 = ap (λ m. fit_blocks w.passive.count m qs) (sym (no_candidates P o)) ∙ fit evens passes p n w h t o in
-      ap (λ vs. not (is_well (slice_get (equations set spot (passive_scope P no_interp vs) qs) 0))) (sym (marked_values leaf w.passive.count))
-      ∙ (ap (λ l. not (is_well (slice_get l 0))) (blocks_alike w.passive.count set (λ b. v.truths (w.passive.count + b)) spot scope qs fit0)
-      ∙ ap not d)
+  module _ (spot : Spot) (candidate : Option ℕ) (cuts : Atoms) (cut : IsSliceFor p n w spot cuts) (f : Formula) (set : List Bool) (leaf : Leaf) (made : ClausesOf P cuts (record { implementation = n; spot = spot; candidate = candidate }) f) (is_leaf : IsLeaf f (has set) leaf) where
+    abbrev A : Encoding
+    A = encoding_of cuts
 
-  -- what is made of the implementation, with truth values of the incarnations
-  set_up : (truth : ℕ → Bool) → SetUp P (map (block_of p) w.blocks.items) w.frame w.passive truth n M Q (first_state P (frame_decls M Q) (truth_values truth w.passive.count)) (arrivals_in P n M Q).made (arrivals_in P n M Q).arrivals
-  set_up truth =
-      let a = arrivals_in P n M Q in
-      let values = truth_values truth w.passive.count in
-      let start = first_state P (frame_decls M Q) values in
-      let many = subst (λ c. are_truths c values ≡ true) (counted evens passes p n w h t o) (all_truths truth w.passive.count) in
-      record {
-        implementation = impl_at p n w h;
-        procedure = proc_at p n w h;
-        blocks = blocks_are p n w h;
-        frame_size = frame_long p n w h;
-        passive_blocks = passives_are p n w h ∙ ap (λ l. passives a.arrivals l) (sym (blocks_are p n w h));
-        firsts = firsts_are p n w h;
-        suited =
-            subst (MakesPassive P (frame_decls M Q) a.made a.arrivals) (sym (blocks_are p n w h)) (fits P (λ b. false) no_interp n M Q start (bodies Turning P (λ b. false) no_interp n M Q start t (impl_at p n w h) (proc_at p n w h)));
-        values =
-            record { typed = truths P n M Q t o (impl_at p n w h) (proc_at p n w h) values ∙ many; first = refl };
-      }
+    encoding : IsEncoding P n M Q A
+    encoding = cut.encoding h
 
-  pub failure : (spot : Spot) (candidate : Option ℕ) (bs : List Bool) (truth : ℕ → Bool) (cex : Counterexample) → IsCounterexample P (map (block_of p) w.blocks.items) w.frame w.passive (set_of bs) spot truth cex → Fails P (has bs) (record { implementation = n; spot = spot; candidate = candidate }) no_interp (state_of cex.globals.items cex.frame.items) (map choice_of cex.choices.items)
-  failure spot candidate bs truth cex c =
-      let a = arrivals_in P n M Q in
-      let start = first_state P (frame_decls M Q) (truth_values truth w.passive.count) in
-      let up = set_up truth in
-      let same = c.starts n M Q start a.made a.arrivals up in
-      let run = c.fails no_interp n M Q start a.made a.arrivals up (P.candidates, fit evens passes p n w h t o) in
-      record {
-        meets = meets P o;
-        state =
-            subst (IsState P n) same
-            (subst (λ k. IsState P n (first_state P (frame_decls M Q) (truth_values truth k))) (sym (counted evens passes p n w h t o)) (starts P n M Q t o (impl_at p n w h) (proc_at p n w h) truth));
-        fails =
-            subst (λ x. induction_run P x no_interp n (state_of cex.globals.items cex.frame.items) (map choice_of cex.choices.items) ≡ Failed spot) (set_same bs)
-            (subst (λ x. induction_run P (set_of bs) no_interp n x (map choice_of cex.choices.items) ≡ Failed spot) same run);
-      }
+    plain : IsPlainFormula A.first P.candidates A.rows f
+    plain = plain_formula A.first P.candidates A.terms A.rows spot A.blocks f made
 
-  -- a counterexample that is found is one, and one is found
-  abbrev pub IsRefuted : Spot → Option ℕ → List Bool → Option Counterexample → Type 0
-  IsRefuted spot candidate set None = ⊥
-  IsRefuted spot candidate set (Some cex) =
-      Fails P (has set) (record { implementation = n; spot = spot; candidate = candidate }) no_interp (state_of cex.globals.items cex.frame.items) (map choice_of cex.choices.items)
+    own : (a x : ℕ) → at f.atoms a ≡ Some (IsTruth x) → x ≡ a
+    own = own_number A.first P.candidates A.rows f encoding.rows plain
 
-  abbrev Told : Spot → List Bool → List Block → List Bool → Option Counterexample → Type 0
-  Told spot set bs ts o =
-      (i : Interp) → Fit w.passive →
-      IsTold (is_denied (set_of set) spot P i (λ a. unwrap_or (slice_get ts a) false) w.passive.count qs) o (IsCounterexample P (map (block_of p) bs) w.frame w.passive (set_of set) spot (λ a. unwrap_or (slice_get ts a) false))
+    agree : AtomsAgree f.atoms
+    agree = plain_agree A.first P.candidates A.rows f encoding.denials plain
 
-  pub refutes : (spot : Spot) (candidate : Option ℕ) (f : Formula) (set : List Bool) (leaf : List Decision) (bs : List Block) (ts : List Bool) (got : Option Counterexample) → formula_by P n (slice_get P.implementations n) spot ≡ Some f → is_whole f ≡ true → IsComplete f (has set) leaf → bs ≡ w.blocks.items → ts ≡ marked leaf (replicate w.passive.count false) → Told spot set bs ts got → IsRefuted spot candidate set got
-  refutes spot candidate f set leaf bs ts got e whole l eb et told =
-      on got (subst (λ x. Told spot set x (marked leaf (replicate w.passive.count false)) got) eb (subst (λ x. Told spot set bs x got) et told) no_interp (P.candidates, fit evens passes p n w h t o))
-    where
-      on : (x : Option Counterexample) → IsTold (is_denied (set_of set) spot P no_interp (λ a. unwrap_or (slice_get (marked leaf (replicate w.passive.count false)) a) false) w.passive.count qs) x (IsCounterexample P (map (block_of p) w.blocks.items) w.frame w.passive (set_of set) spot (λ a. unwrap_or (slice_get (marked leaf (replicate w.passive.count false)) a) false)) → IsRefuted spot candidate set x
-      on None d =
-          let t = denied_here spot f (set_of set) (has set) leaf (sym (place_formula evens passes p n w h t o spot) ∙ e) whole l in
-          let bad : true ≡ false = sym t ∙ d in
-          absurd (let worse : ⊥ = cc in worse)
-      on (Some cex) d =
-          failure spot candidate set (λ a. unwrap_or (slice_get (marked leaf (replicate w.passive.count false)) a) false) cex d.1
+    abbrev V : Valuation
+    V = leaf_valuation f leaf
+
+    abbrev T : ℕ → Bool
+    T = bools_at (leaf_bools f leaf)
+
+    is_met : clauses_true V f.atoms f.clauses ≡ true
+    is_met =
+        leaves f (has set) leaf V (whole P n M Q t o (impl_at p n w h) (proc_at p n w h) A encoding spot f made) agree is_leaf (λ x. refl) (truths_agree f leaf own is_leaf.once)
+
+    worths : worth_in V f.atoms ≡ T
+    worths = worths_are signs f (has set) leaf agree is_leaf own
+
+    -- the equations of the forms deny the entry
+    denied : is_denied (set_of set) spot T A.blocks ≡ true
+    denied =
+        let d = denies A.first P.candidates A.terms A.rows spot A.blocks f made encoding.below V is_met in
+        let e = subst (λ (u : ℕ → Bool). is_well (slice_get (form_equations (λ b. V.truths (A.first + b)) spot u A.blocks) 0) ≡ false) worths d in
+        let below = subst (λ k. blocks_below (A.first + P.candidates + length A.rows) k A.blocks ≡ true) (no_candidates P o) encoding.below in
+        ap (λ l. not (is_well (slice_get l 0))) (blocks_alike (A.first + P.candidates + length A.rows) (set_of set) (λ b. V.truths (A.first + b)) spot T A.blocks below)
+        ∙ ap not e
+
+    -- ---- the values of the incarnations
+
+    abbrev X : List Val
+    X = scalar_values (value_of leaf.spots.items) (λ j. T (rank S j)) S
+
+    values_are : map val_of (scalars_from (leaf_bools f leaf) (numbered leaf.spots.items (replicate (length w.sorts.items) (pos 0))) 0 0 w.sorts.items) ≡ X
+    values_are =
+        scalars_are (leaf_bools f leaf) (numbered leaf.spots.items (replicate (length w.sorts.items) (pos 0))) (value_of leaf.spots.items) (λ j. T (rank w.sorts.items j)) 0 0 w.sorts.items
+        (λ i l. ap (λ k. unwrap_or (slice_get (numbered leaf.spots.items (replicate (length w.sorts.items) (pos 0))) k) (pos 0)) (zero_plus i) ∙ leaf_number leaf.spots.items (length w.sorts.items) i l)
+        (λ i l. ap T (zero_plus (rank w.sorts.items i)))
+        ∙ ap (λ ss. scalar_values (value_of leaf.spots.items) (λ j. T (rank ss j)) ss) h.sorts
+      where
+        zero_plus : (i : ℕ) → 0 + i ≡ i
+        zero_plus i = omega arith
+
+    typed : are_of (incarnations_in P n M Q) X ≡ true
+    typed =
+        values P n M Q t o (impl_at p n w h) (proc_at p n w h) (value_of leaf.spots.items) (λ j. T (rank S j))
+
+    -- what is made of the implementation, with these values
+    set_up : SetUp P (map (block_of p) w.blocks.items) w.frame w.passive.firsts.items X n M Q (first_state P (frame_decls M Q) X) (arrivals_in P n M Q).made (arrivals_in P n M Q).arrivals
+    set_up =
+        let a = arrivals_in P n M Q in
+        let start = first_state P (frame_decls M Q) X in
+        record {
+          implementation = impl_at p n w h;
+          procedure = proc_at p n w h;
+          blocks = blocks_are p n w h;
+          frame_size = frame_long p n w h;
+          firsts = firsts_are p n w h;
+          suited =
+              subst (MakesPassive P (frame_decls M Q) a.made a.arrivals) (sym (blocks_are p n w h)) (fits P (λ b. false) no_interp n M Q start (bodies Turning P (λ b. false) no_interp n M Q start t (impl_at p n w h) (proc_at p n w h)));
+          values = record { typed = typed; first = refl };
+        }
+
+    said : SaidBlocks T (passive_scope P no_interp X) (passives (arrivals_in P n M Q).arrivals (map (block_of p) w.blocks.items)) A.blocks
+    said =
+        let r = rows A.first P.candidates A.terms A.rows spot A.blocks f made encoding.below V encoding.rows in
+        let agrees = subst (λ (u : ℕ → Bool). RowsAgree (value_of leaf.spots.items) u (A.first + P.candidates) A.rows) worths r in
+        let x = encoding.said (value_of leaf.spots.items) T (passive_scope P no_interp X) agrees (holds S (value_of leaf.spots.items) (λ j. T (rank S j))) in
+        subst (λ bs. SaidBlocks T (passive_scope P no_interp X) (passives (arrivals_in P n M Q).arrivals bs) A.blocks) (sym (blocks_are p n w h)) x
+
+    failure : (cex : Counterexample) → IsCounterexample P (map (block_of p) w.blocks.items) w.frame w.passive.firsts.items A.blocks (set_of set) spot T X cex → IsFailure P (has set) (record { implementation = n; spot = spot; candidate = candidate }) cex
+    failure cex c =
+        let a = arrivals_in P n M Q in
+        let start = first_state P (frame_decls M Q) X in
+        let same = c.starts n M Q start a.made a.arrivals set_up in
+        let run = c.fails no_interp n M Q start a.made a.arrivals set_up said (within A.first P.candidates A.terms A.rows spot A.blocks f made) in
+        record {
+          meets = meets P o;
+          state =
+              subst (IsState P n) same (starts P n M Q t o (impl_at p n w h) (proc_at p n w h) X typed);
+          fails =
+              subst (λ x. induction_run P x no_interp n (state_of cex.globals.items cex.frame.items) (map choice_of cex.choices.items) ≡ Failed spot) (set_same set)
+              (subst (λ x. induction_run P (set_of set) no_interp n x (map choice_of cex.choices.items) ≡ Failed spot) same run);
+        }
+
+    -- a counterexample that is found is one, and one is found
+    abbrev pub IsRefuted : Option Counterexample → Type 0
+    IsRefuted None = ⊥
+    IsRefuted (Some cex) = IsFailure P (has set) (record { implementation = n; spot = spot; candidate = candidate }) cex
+
+    abbrev Told : List Block → List ℕ → List FormBlock → List Bool → List Val → Option Counterexample → Type 0
+    Told bs ns forms ts vs got =
+        IsTold (is_denied (set_of set) spot (bools_at ts) forms) got (IsCounterexample P (map (block_of p) bs) w.frame ns forms (set_of set) spot (bools_at ts) vs)
+
+    pub refutes : (bs : List Block) (ns : List ℕ) (forms : List FormBlock) (ts : List Bool) (vs : List Val) (got : Option Counterexample) → bs ≡ w.blocks.items → ns ≡ w.passive.firsts.items → forms ≡ A.blocks → ts ≡ leaf_bools f leaf → vs ≡ X → Told bs ns forms ts vs got → IsRefuted got
+    refutes bs ns forms ts vs got eb en ef et ev told =
+        on got (subst (λ x. Told x w.passive.firsts.items A.blocks (leaf_bools f leaf) X got) eb (subst (λ x. Told bs x A.blocks (leaf_bools f leaf) X got) en (subst (λ x. Told bs ns x (leaf_bools f leaf) X got) ef (subst (λ x. Told bs ns forms x X got) et (subst (λ x. Told bs ns forms ts x got) ev told)))))
+      where
+        on : (x : Option Counterexample) → Told w.blocks.items w.passive.firsts.items A.blocks (leaf_bools f leaf) X x → IsRefuted x
+        on None d = absurd (let bad : true ≡ false = sym denied ∙ d in let worse : ⊥ = cc in worse)
+        on (Some cex) d = failure cex d.1
+
+    -- the values that are made
+    pub values_from : (ss : List Sort) (ts : List Bool) (sp : List spots.Spot) → ss ≡ w.sorts.items → ts ≡ leaf_bools f leaf → sp ≡ leaf.spots.items → map val_of (scalars_from ts (numbered sp (replicate (length ss) (pos 0))) 0 0 ss) ≡ X
+    values_from ss ts sp a b c =
+        ap (λ x. map val_of (scalars_from ts (numbered sp (replicate (length x) (pos 0))) 0 0 x)) a
+        ∙ (ap (λ x. map val_of (scalars_from x (numbered sp (replicate (length w.sorts.items) (pos 0))) 0 0 w.sorts.items)) b
+        ∙ (ap (λ x. map val_of (scalars_from (leaf_bools f leaf) (numbered x (replicate (length w.sorts.items) (pos 0))) 0 0 w.sorts.items)) c ∙ values_are))
+
+    -- the truth values that are made
+    pub truths_from : (ds : List Decision) (k : ℕ) → ds ≡ leaf.path.items → k ≡ length f.atoms → marked ds (replicate k false) ≡ leaf_bools f leaf
+    truths_from ds k a b = ap (λ x. marked x (replicate k false)) a ∙ ap (λ x. marked leaf.path.items (replicate x false)) b

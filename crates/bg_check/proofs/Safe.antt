@@ -16,13 +16,13 @@ use Rattle.bg_places.specs.Placed.{place_in, placed_impl}
 use Rattle.bg_cert.specs.declared.cert.Node.{Node}
 use Rattle.bg_cert.specs.Certs.{node_of}
 use Rattle.bg_cert.specs.Walks.{no_instance}
-use Rattle.bg_fits.specs.Truths.{is_over_truths}
+use Rattle.bg_fits.specs.Scalars.{is_over_scalars}
 use Rattle.bg_tree.specs.declared.outcome.Budget.{Budget}
 use Rattle.bg_check.specs.declared.verdict.Verdict.{Verdict}
 use Rattle.bg_check.specs.declared.verdict.Verdict.TheVariants.{Proved, Refuted, Unknown}
 use Rattle.bg_check.specs.declared.verdict.Judged.{Judged}
 use Rattle.bg_check.specs.Verdicts.{HasCertificate, IsRight, placed_at, AreRightAt, AreRightOf, AreRightFrom, AreRightUnder, is_proved, are_proved, is_there, ProvedAreSafe}
-use Rattle.bg_check.proofs.LawTypes.{FunctionLaw, BodyLaw, SafeLaw, PlaceLaw, PassiveLaw, FitLaw, DenyLaw, ClauseLaw, WholeLaw, TruthLaw, CertLaw, UsedLaw, InsideLaw}
+use Rattle.bg_check.proofs.LawTypes.{FunctionLaw, BodyLaw, SafeLaw, PlaceLaw, PassiveLaw, FitLaw, DenyLaw, MetLaw, CertLaw, UsedLaw, InsideLaw}
 use Rattle.bg_check.proofs.Failures.{no_failure}
 use Rattle.bg_check.proofs.Numbered.{has}
 
@@ -34,7 +34,7 @@ pub record Proof (p : Prog) (set : ℕ → Bool) (t : Place) : Type 0 where
 proof_of : (budget : Budget) (p : Prog) (set : ℕ → Bool) (t : Place) (v : Verdict) → IsRight budget p set t v → is_proved v ≡ true → Proof p set t
 proof_of budget p set t (Proved nodes) h e = record { nodes = nodes.items; certificate = h }
 proof_of budget p set t (Refuted cex) h e = absurd (let bad : ⊥ = cc in bad)
-proof_of budget p set t (Unknown parts) h e = absurd (let bad : ⊥ = cc in bad)
+proof_of budget p set t (Unknown cause) h e = absurd (let bad : ⊥ = cc in bad)
 
 first_by : (b : Bool) (j : Judged) (rest : List Judged) → are_proved (cond b (j ∷ rest) rest) ≡ true → b ≡ true → is_proved j.verdict ≡ true
 first_by true j rest h e = and_left (is_proved j.verdict) (are_proved rest) h
@@ -52,7 +52,7 @@ judged_place budget p set (j ∷ js) t h e k (inl s) =
 judged_place budget p set (j ∷ js) t h e k (inr i) =
     judged_place budget p set js t h.1 (rest_by (is_there set j) j (filter (is_there set) js) e) k i
 
-module _ (functions : FunctionLaw) (bodies : BodyLaw) (safe : SafeLaw) (place : PlaceLaw) (runs : PassiveLaw) (fits : FitLaw) (denies : DenyLaw) (clauses : ClauseLaw) (whole : WholeLaw) (truths : TruthLaw) (certs : CertLaw) (used : UsedLaw) (inside : InsideLaw) (set : ℕ → Bool) (budget : Budget) (p : r.Program) (t : IsTyped (meaning_of p)) (o : is_over_truths (meaning_of p) ≡ true) where
+module _ (functions : FunctionLaw) (bodies : BodyLaw) (safe : SafeLaw) (place : PlaceLaw) (runs : PassiveLaw) (fits : FitLaw) (denies : DenyLaw) (met : MetLaw) (certs : CertLaw) (used : UsedLaw) (inside : InsideLaw) (set : ℕ → Bool) (budget : Budget) (p : r.Program) (t : IsTyped (meaning_of p)) (o : is_over_scalars true (meaning_of p) ≡ true) where
   one_safe : (k : ℕ) (m : r.Impl) (js : List Judged) → slice_get p.implementations k ≡ Some m → AreRightOf budget p set k m js → are_proved (filter (is_there set) js) ≡ true → Safe (meaning_of p) set k
   one_safe k m js at right proved =
       safe (meaning_of p) set k t below
@@ -63,7 +63,7 @@ module _ (functions : FunctionLaw) (bodies : BodyLaw) (safe : SafeLaw) (place : 
       let is : h.implementation ≡ m = cc in
       let inside_it = subst (λ x. In (map place_in (placed_impl p.procedures k x)) u) is (subst (λ x. In (map place_in (placed_impl p.procedures x h.implementation)) u) number h.member) in
       let x = judged_place budget (meaning_of p) set js u right.right proved kept (subst (λ l. In (map place_in l) u) (sym right.places) inside_it) in
-      no_failure functions bodies runs fits denies clauses whole truths (meaning_of p) t o certs used set set u x.nodes x.certificate (λ n g. inside x.certificate.formula set no_instance (map node_of x.nodes) x.certificate.accepted n g) i s choices fails)
+      no_failure functions bodies runs fits denies met (meaning_of p) t o certs used set set u x.nodes x.certificate (λ n g. inside x.certificate.formula set no_instance (map node_of x.nodes) x.certificate.accepted n g) i s choices fails)
     where
       there : (ms : List r.Impl) (j : ℕ) → slice_get ms j ≡ Some m → j < length ms
       there [] j e = absurd (let bad : ⊥ = cc in bad)

@@ -1,5 +1,7 @@
-pub mod Clauses
-pub mod Verdicts
-pub mod Prepared
-pub mod Leaves
 pub mod Numbered
+pub mod Leaves
+pub mod Prepared
+pub mod Slices
+pub mod Replays
+pub mod Verdicts
+pub mod Made

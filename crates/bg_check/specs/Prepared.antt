@@ -1,31 +1,48 @@
 -- What is made once of each implementation.
-use Rattle.std.specs.Prelude.{◌≡◌, ℕ, ◌+◌, List, Some, map, length, slice_get}
+use Rattle.std.specs.Prelude.{◌≡◌, ℕ, ◌++◌, List, Some, map, length, slice_get}
 use Rattle.bg_ast.specs.Resolved as r
-use Rattle.bg_ast.specs.Meaning.{meaning_of}
+use Rattle.bg_ast.specs.Meaning.{meaning_of, named_of, impl_of, proc_of}
+use Rattle.bg_formula.specs.Atoms.{view_linear}
+use Rattle.bg_formed.specs.Views.{blocks_of}
 use Rattle.bg_blocks.specs.Views.{block_of}
 use Rattle.bg_blocks.specs.EmittedViews.{frame_of}
 use Rattle.bg_blocks.specs.Whole.{AreBlocks}
 use Rattle.bg_blocks.specs.declared.block.Block.{Block}
-use Rattle.bg_passive.specs.Incarnations.{passives, incarnations}
+use Rattle.bg_passive.specs.Incarnations.{passives}
 use Rattle.bg_passive.specs.Arrivals.{arrived}
-use Rattle.bg_incarnate.specs.Even.{BlocksEven}
 use Rattle.bg_incarnate.specs.Views.{passive_block_of}
 use Rattle.bg_incarnate.specs.Walked.{next_in}
 use Rattle.bg_incarnate.specs.declared.blocks.Passive.{Passive}
+use Rattle.bg_block_types.specs.Typed.{passives_in}
+use Rattle.bg_atoms.specs.Refusals.{BlocksRefusals}
+use Rattle.bg_atoms.specs.declared.product.Atoms.{Atoms}
+use Rattle.bg_faithful.specs.Sorted.{sorts_in}
+use Rattle.bg_faithful.specs.Encoded.{Encoding, IsEncoding}
 use Rattle.bg_check.specs.declared.prepared.Prepared.{Prepared}
 
--- blocks of a program made passive, where the frame has so many variables
-pub record IsPassive (p : r.Program) (frame : ℕ) (bs : List Block) (w : Passive) : Type 0 where
-  pub blocks : (rs : List r.Declared) → length rs ≡ frame → map passive_block_of w.blocks.items ≡ passives (arrived (meaning_of p) (frame_of p rs) (map (block_of p) bs)).arrivals (map (block_of p) bs)
-  pub firsts : (rs : List r.Declared) → length rs ≡ frame → w.firsts.items ≡ map next_in (arrived (meaning_of p) (frame_of p rs) (map (block_of p) bs)).arrivals
-  pub count : (rs : List r.Declared) → length rs ≡ frame → BlocksEven (map (block_of p) bs) → w.count ≡ length (incarnations (meaning_of p) (frame_of p rs) (arrived (meaning_of p) (frame_of p rs) (map (block_of p) bs)).made)
+-- blocks of a program made passive, in this frame
+pub record IsPassive (p : r.Program) (rs : List r.Declared) (bs : List Block) (w : Passive) : Type 0 where
+  pub blocks : map passive_block_of w.blocks.items ≡ passives (arrived (meaning_of p) (frame_of p rs) (map (block_of p) bs)).arrivals (map (block_of p) bs)
+  pub firsts : w.firsts.items ≡ map next_in (arrived (meaning_of p) (frame_of p rs) (map (block_of p) bs)).arrivals
 
--- the blocks of the implementation with this number, and the same made passive
+-- what atoms are, as data
+abbrev pub encoding_of : Atoms → Encoding
+encoding_of a =
+    record { first = a.first; terms = a.terms; rows = map view_linear a.rows.items; blocks = blocks_of a.blocks }
+
+-- the variables of a frame
+abbrev pub frame_declared : r.Impl → r.Proc → List r.Declared
+frame_declared m q = q.params ++ (q.results ++ m.locals)
+
+-- the blocks of the implementation with this number, the same made passive, the sorts of their incarnations, and their blocks of forms
 pub record IsPrepared (p : r.Program) (number : ℕ) (w : Prepared) : Type 0 where
   pub implementation : r.Impl
   pub procedure : r.Proc
   pub impl_there : slice_get p.implementations number ≡ Some implementation
   pub proc_there : slice_get p.procedures implementation.procedure ≡ Some procedure
-  pub frame : w.frame ≡ length procedure.params + (length procedure.results + length implementation.locals)
+  pub frame : w.frame ≡ length (frame_declared implementation procedure)
   pub blocks : AreBlocks p number implementation procedure w.blocks.items
-  pub passive : IsPassive p w.frame w.blocks.items w.passive
+  pub passive : IsPassive p (frame_declared implementation procedure) w.blocks.items w.passive
+  pub sorts : w.sorts.items ≡ sorts_in (meaning_of p) number (impl_of (named_of p.types) implementation) (proc_of (named_of p.types) procedure)
+  pub encoding : IsEncoding (meaning_of p) number (impl_of (named_of p.types) implementation) (proc_of (named_of p.types) procedure) (encoding_of w.atoms)
+  pub refusals : BlocksRefusals w.sorts.items (passives_in (meaning_of p) number (impl_of (named_of p.types) implementation) (proc_of (named_of p.types) procedure)) (blocks_of w.atoms.blocks)

@@ -1,12 +1,15 @@
 -- What is known of each place of a program, and when it is right.
-use Rattle.std.specs.Prelude.{◌≡◌, ℕ, suc, Bool, true, false, ◌&&◌, List, [], ◌∷◌, map, filter, Option, Some, Vec}
+use Rattle.std.specs.Prelude.{◌≡◌, ℕ, suc, Bool, true, false, ◌&&◌, List, [], ◌∷◌, map, filter, Some, Vec, slice_get}
 use Rattle.std.specs.declared.alloc.Global.{Global}
-use Rattle.bg_ast.specs.Syntax.{Prog}
+use Rattle.bg_base.specs.declared.exact.OutOfRange.{OutOfRange}
+use Rattle.bg_ast.specs.Syntax.{Proc, Impl, Prog}
 use Rattle.bg_ast.specs.Resolved as r
 use Rattle.bg_ast.specs.Meaning.{meaning_of}
 use Rattle.bg_ast.specs.Execution.{Place}
 use Rattle.bg_sense.specs.Claims.{Safe, Fails}
 use Rattle.bg_sense.specs.Clauses.{is_kept}
+use Rattle.bg_sense.specs.Flow.{Failed}
+use Rattle.bg_sense.specs.Variables.{procedure_of}
 use Rattle.bg_formula.specs.Formulas.{Formula}
 use Rattle.bg_cert.specs.declared.cert.Node.{Node}
 use Rattle.bg_cert.specs.Certs.{Accepts, node_of}
@@ -16,36 +19,65 @@ use Rattle.bg_tree.specs.declared.outcome.Why.{Why}
 use Rattle.bg_tree.specs.Trees.{IsCause}
 use Rattle.bg_places.specs.Placed.{Placed, placed_impl}
 use Rattle.bg_places.specs.Views.{placed_of}
-use Rattle.bg_replay.specs.Moments.{choice_of}
-use Rattle.bg_replay.specs.Endings.{state_of}
+use Rattle.bg_formed.specs.Used.{refused}
+use Rattle.bg_block_types.specs.Typed.{passives_in}
+use Rattle.bg_atoms.specs.Refusals.{BlocksRefusals}
+use Rattle.bg_faithful.specs.Sorted.{sorts_in}
+use Rattle.bg_faithful.specs.Encoded.{Encoding, IsEncoding, HasClauses}
+use Rattle.bg_faithful.specs.Interps.{no_interp}
+use Rattle.bg_scalar.specs.Choices.{choice_of, state_of}
+use Rattle.bg_replay.specs.Said.{Stops, Leaves}
 use Rattle.bg_model.specs.declared.failure.Counterexample.{Counterexample}
+use Rattle.bg_check.specs.declared.verdict.Cause.{Cause}
+use Rattle.bg_check.specs.declared.verdict.Cause.TheVariants.{Search, Form, Replay}
 use Rattle.bg_check.specs.declared.verdict.Verdict.{Verdict}
 use Rattle.bg_check.specs.declared.verdict.Verdict.TheVariants.{Proved, Refuted, Unknown}
 use Rattle.bg_check.specs.declared.verdict.Judged.{Judged}
-use Rattle.bg_check.specs.Clauses.{formula_at, none, no_interp}
+use Rattle.bg_check.specs.Replays.{RunsTo}
+
+-- no candidate
+abbrev pub none : ℕ → Bool
+none b = false
 
 -- the place's clauses have this certificate under a set of candidates
 pub record HasCertificate (p : Prog) (set : ℕ → Bool) (t : Place) (nodes : List Node) : Type 0 where
   pub formula : Formula
-  pub is : formula_at p t ≡ Some formula
+  pub is : HasClauses p t formula
   pub accepted : Accepts formula set no_instance (map node_of nodes)
 
 -- this is why they are left unknown within the budget
-pub record HasCause (p : Prog) (set : ℕ → Bool) (t : Place) (budget : Budget) (why : Why) : Type 0 where
+pub record HasWhy (p : Prog) (set : ℕ → Bool) (t : Place) (budget : Budget) (why : Why) : Type 0 where
   pub formula : Formula
-  pub is : formula_at p t ≡ Some formula
+  pub is : HasClauses p t formula
   pub cause : IsCause formula set budget why
+
+-- there are no clauses of the place: an operation of a relation's linear form, which counts for the place, leaves the range
+pub record HasOutside (p : Prog) (t : Place) (o : OutOfRange) : Type 0 where
+  pub implementation : Impl
+  pub procedure : Proc
+  pub is_there : slice_get p.implementations t.implementation ≡ Some implementation
+  pub is_its : procedure_of p implementation.procedure ≡ Some procedure
+  pub encoding : Encoding
+  pub is_encoding : IsEncoding p t.implementation implementation procedure encoding
+  pub refusals : BlocksRefusals (sorts_in p t.implementation implementation procedure) (passives_in p t.implementation implementation procedure) encoding.blocks
+  pub is_refused : refused t.spot encoding.blocks ≡ Some o
 
 -- the induction run from these values, with these choices, fails at the place
 abbrev pub IsFailure : Prog → (ℕ → Bool) → Place → Counterexample → Type 0
 IsFailure p set t cex =
     Fails p set t no_interp (state_of cex.globals.items cex.frame.items) (map choice_of cex.choices.items)
 
+-- why a place is left unknown, under a set of candidates
+abbrev pub IsUnknown : Budget → Prog → (ℕ → Bool) → Place → Cause → Type 0
+IsUnknown budget p set t (Search why) = HasWhy p set t budget why
+IsUnknown budget p set t (Form o) = HasOutside p t o
+IsUnknown budget p set t (Replay cex o) = IsFailure p set t cex × RunsTo p set t cex (Leaves o)
+
 -- a verdict on a place, under a set of candidates
 abbrev pub IsRight : Budget → Prog → (ℕ → Bool) → Place → Verdict → Type 0
 IsRight budget p set t (Proved nodes) = HasCertificate p set t nodes.items
-IsRight budget p set t (Refuted cex) = IsFailure p set t cex
-IsRight budget p set t (Unknown why) = HasCause p set t budget why
+IsRight budget p set t (Refuted cex) = IsFailure p set t cex × RunsTo p set t cex (Stops (Failed t.spot))
+IsRight budget p set t (Unknown cause) = IsUnknown budget p set t cause
 
 abbrev pub placed_at : Judged → Placed
 placed_at j = placed_of j.place
@@ -78,7 +110,7 @@ AreRight = AreRightUnder none
 abbrev pub is_proved : Verdict → Bool
 is_proved (Proved nodes) = true
 is_proved (Refuted cex) = false
-is_proved (Unknown why) = false
+is_proved (Unknown cause) = false
 
 abbrev pub are_proved : List Judged → Bool
 are_proved [] = true

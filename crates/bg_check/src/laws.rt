@@ -1,5 +1,6 @@
 //! Laws of verdicts, which are proved of the definitions alone.
-ghost use Rattle.std.specs.Prelude.{◌≡◌, ℕ, Bool, true, List, Some, map, slice_get};
+ghost use Rattle.std.specs.Prelude.{◌≡◌, ◌⊎◌, ℕ, Bool, true, List, Some, map, slice_get};
+ghost use Rattle.bg_base.specs.declared.exact.OutOfRange.{OutOfRange};
 ghost use Rattle.bg_ast.specs.Syntax.{Prog};
 ghost use Rattle.bg_ast.specs.Resolved.{Program, Impl, Proc};
 ghost use Rattle.bg_ast.specs.Meaning.{meaning_of};
@@ -10,32 +11,34 @@ ghost use Rattle.bg_sense.specs.Flow.{Failed};
 ghost use Rattle.bg_cert.specs.declared.cert.Node.{Node};
 ghost use Rattle.bg_cert.specs.Certs.{node_of, uses};
 ghost use Rattle.bg_cert.specs.Walks.{has};
-ghost use Rattle.bg_fits.specs.Truths.{is_over_truths};
+ghost use Rattle.bg_fits.specs.Scalars.{is_over_scalars};
 ghost use Rattle.bg_blocks.specs.Whole.{AreBlocks};
 ghost use Rattle.bg_blocks.specs.declared.block.Block.{Block};
-ghost use Rattle.bg_replay.specs.Said.{Stops};
+ghost use Rattle.bg_replay.specs.Said.{Stops, Leaves};
 ghost use Rattle.bg_replay.specs.Views.{said_by};
-ghost use Rattle.bg_replay.specs.Endings.{state_of, Tells, IsReplay};
-ghost use Rattle.bg_replay.specs.declared.choice.Choice as replayed;
-ghost use Rattle.bg_replay.specs.declared.choice.Ending.{Ending};
+ghost use Rattle.bg_replay.specs.Endings.{Tells, IsReplay};
+ghost use Rattle.bg_replay.specs.declared.ending.Ending.{Ending};
+ghost use Rattle.bg_scalar.specs.Choices.{state_of};
+ghost use Rattle.bg_scalar.specs.declared.choice.Choice as replayed;
+ghost use Rattle.bg_scalar.specs.declared.scalar.Scalar.{Scalar};
 ghost use Rattle.bg_model.specs.declared.failure.Counterexample.{Counterexample};
 ghost use Rattle.bg_tree.specs.declared.outcome.Budget.{Budget};
 ghost use Rattle.bg_check.specs.declared.verdict.Judged.{Judged};
-ghost use Rattle.bg_check.specs.Verdicts.{HasCertificate, IsFailure, AreRightUnder, AreRight, ProvedAreSafe};
-ghost use Rattle.bg_check.specs.Clauses.{none};
+ghost use Rattle.bg_check.specs.declared.verdict.Verdict.TheVariants.{Refuted};
+ghost use Rattle.bg_check.specs.Verdicts.{none, HasCertificate, IsFailure, IsRight, AreRightUnder, AreRight, ProvedAreSafe};
 
+use bg_block_types::laws::blocks_are_typed;
 use bg_cert::laws::{accepted_has_no_valuation, accepted_where_used};
-use bg_clause::laws::{clauses_are_whole, clauses_fail_alike};
+use bg_faithful::laws::clauses_over_scalars_fail_alike;
 use bg_passive::laws::{arrivals_fit, passive_blocks_fail_alike};
 use bg_places::laws::placed_are_places;
 use bg_replay::laws::replays_are_induction_runs;
 use bg_sense::laws::{typed_programs_have_typed_bodies, what_fails_at_no_place_is_safe};
-use bg_truths::laws::typed_values_are_truths;
 use bg_wp::laws::equations_deny_failing_walks;
 
 /// A place whose clauses have a certificate has no failing run, under any set that has what the certificate uses.
 pub fn proved_places_do_not_fail()
-    ensures { (p : Prog) (set other : ℕ → Bool) (t : Place) (nodes : List Node) → IsTyped p → is_over_truths p ≡ true →
+    ensures { (p : Prog) (set other : ℕ → Bool) (t : Place) (nodes : List Node) → IsTyped p → is_over_scalars true p ≡ true →
         HasCertificate p set t nodes → ((c : ℕ) → uses (map node_of nodes) c ≡ true → other c ≡ true) →
         (i : Interp) (s : State) (choices : List Choice) → Fails p other t i s choices → ⊥ }
 {
@@ -43,17 +46,15 @@ pub fn proved_places_do_not_fail()
     passive_blocks_fail_alike();
     arrivals_fit();
     equations_deny_failing_walks();
-    clauses_fail_alike();
-    clauses_are_whole();
-    typed_values_are_truths();
+    clauses_over_scalars_fail_alike();
     accepted_has_no_valuation();
     accepted_where_used()
 }
 
-/// An implementation of a typed program over truth values is safe under a set of candidates where each of its places is proved whose
+/// An implementation of a typed program over truth values and whole numbers is safe under a set of candidates where each of its places is proved whose
 /// clause is there: no execution of it fails, of any number of steps.
 pub fn proved_under_a_set_is_safe()
-    ensures { (p : Program) (set : ℕ → Bool) (budget : Budget) (outcome : List (List Judged)) → IsTyped (meaning_of p) → is_over_truths (meaning_of p) ≡ true → AreRightUnder set budget p outcome → ProvedAreSafe p set 0 outcome }
+    ensures { (p : Program) (set : ℕ → Bool) (budget : Budget) (outcome : List (List Judged)) → IsTyped (meaning_of p) → is_over_scalars true (meaning_of p) ≡ true → AreRightUnder set budget p outcome → ProvedAreSafe p set 0 outcome }
 {
     typed_programs_have_typed_bodies();
     what_fails_at_no_place_is_safe();
@@ -61,37 +62,47 @@ pub fn proved_under_a_set_is_safe()
     passive_blocks_fail_alike();
     arrivals_fit();
     equations_deny_failing_walks();
-    clauses_fail_alike();
-    clauses_are_whole();
-    typed_values_are_truths();
+    clauses_over_scalars_fail_alike();
     accepted_has_no_valuation();
     accepted_where_used()
 }
 
-/// An implementation of a typed program over truth values is safe where each of its places without a candidate is proved: no execution
+/// An implementation of a typed program over truth values and whole numbers is safe where each of its places without a candidate is proved: no execution
 /// of it fails, of any number of steps.
 pub fn proved_is_safe()
-    ensures { (p : Program) (budget : Budget) (outcome : List (List Judged)) → IsTyped (meaning_of p) → is_over_truths (meaning_of p) ≡ true → AreRight budget p outcome → ProvedAreSafe p none 0 outcome }
+    ensures { (p : Program) (budget : Budget) (outcome : List (List Judged)) → IsTyped (meaning_of p) → is_over_scalars true (meaning_of p) ≡ true → AreRight budget p outcome → ProvedAreSafe p none 0 outcome }
 {
     proved_under_a_set_is_safe()
 }
 
-/// A replay of the blocks of an implementation of a typed program over truth values, from a state of the implementation, tells how the
-/// run ends: it meets nothing but truth values.
-pub fn replays_over_truths_tell()
-    ensures { (p : Program) (set : List Bool) (k : ℕ) (m : Impl) (q : Proc) (bs : List Block) (gs fs : List Bool) (cs : List replayed.Choice) (ending : Ending) →
-        IsTyped (meaning_of p) → is_over_truths (meaning_of p) ≡ true →
+/// A replay of the blocks of an implementation of a typed program over truth values and whole numbers, from a state of the
+/// implementation, tells how the run ends: with an answer, or at an operation that leaves 128 bits.
+pub fn replays_over_scalars_tell()
+    ensures { (p : Program) (set : List Bool) (k : ℕ) (m : Impl) (q : Proc) (bs : List Block) (gs fs : List Scalar) (cs : List replayed.Choice) (ending : Ending) →
+        IsTyped (meaning_of p) → is_over_scalars true (meaning_of p) ≡ true →
         slice_get p.implementations k ≡ Some m → slice_get p.procedures m.procedure ≡ Some q → AreBlocks p k m q bs →
         IsState (meaning_of p) k (state_of gs fs) → IsReplay p bs set k m q gs fs cs ending → Tells (said_by ending) }
-{}
+{
+    blocks_are_typed()
+}
+
+/// The replay of a run that fails at a place ends there, or at an operation that leaves 128 bits.
+pub fn failures_replay_or_leave()
+    ensures { (p : Program) (set : List Bool) (t : Place) (cex : Counterexample) (m : Impl) (q : Proc) (bs : List Block) (ending : Ending) →
+        IsTyped (meaning_of p) → is_over_scalars true (meaning_of p) ≡ true →
+        slice_get p.implementations t.implementation ≡ Some m → slice_get p.procedures m.procedure ≡ Some q → AreBlocks p t.implementation m q bs →
+        IsFailure (meaning_of p) (has set) t cex →
+        IsReplay p bs set t.implementation m q cex.globals.items cex.frame.items cex.choices.items ending →
+        (said_by ending ≡ Stops (Failed t.spot)) ⊎ ((o : OutOfRange) × (said_by ending ≡ Leaves o)) }
+{
+    blocks_are_typed();
+    replays_are_induction_runs()
+}
 
 /// The replay of a refuted place's counterexample fails at the place.
 pub fn refuted_places_replay()
-    ensures { (p : Program) (set : List Bool) (t : Place) (cex : Counterexample) (m : Impl) (q : Proc) (bs : List Block) (ending : Ending) →
-        IsTyped (meaning_of p) → is_over_truths (meaning_of p) ≡ true →
+    ensures { (p : Program) (set : List Bool) (budget : Budget) (t : Place) (cex : Counterexample) (m : Impl) (q : Proc) (bs : List Block) (ending : Ending) →
         slice_get p.implementations t.implementation ≡ Some m → slice_get p.procedures m.procedure ≡ Some q → AreBlocks p t.implementation m q bs →
-        IsFailure (meaning_of p) (has set) t cex →
+        IsRight budget (meaning_of p) (has set) t (Refuted cex) →
         IsReplay p bs set t.implementation m q cex.globals.items cex.frame.items cex.choices.items ending → said_by ending ≡ Stops (Failed t.spot) }
-{
-    replays_are_induction_runs()
-}
+{}

@@ -1,5 +1,5 @@
-//! What is known of each place of a program over truth values: proved with a certificate, refuted with a counterexample, or unknown
-//! with what is kept of a budget, or an operation that leaves 128 bits.
+//! What is known of each place of a program over truth values and whole numbers: proved with a certificate, refuted with a
+//! counterexample, or unknown with what is kept of a budget, or an operation that leaves 128 bits.
 #![tactic(auto)]
 
 pub mod laws;
@@ -7,9 +7,12 @@ mod leaf;
 mod place;
 mod prepared;
 mod program;
+mod replayed;
+mod slicing;
 mod verdict;
 
 pub use place::check_place;
 pub use prepared::{Prepared, prepare};
 pub use program::check_program;
-pub use verdict::{Judged, Verdict};
+pub use slicing::place_atoms;
+pub use verdict::{Cause, Judged, Verdict};

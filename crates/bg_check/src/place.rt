@@ -1,45 +1,50 @@
 //! What is known of one place.
-ghost use Rattle.std.specs.Prelude.{◌≡◌, ℕ, true, Some, IfOk};
+ghost use Rattle.std.specs.Prelude.{◌≡◌, true, IfOk};
 ghost use Rattle.bg_ast.specs.Meaning.{meaning_of};
 ghost use Rattle.bg_ast.specs.Views.{program_of};
 ghost use Rattle.bg_sense.specs.Typed.{IsTyped};
-ghost use Rattle.bg_places.specs.Views.{placed_of};
-ghost use Rattle.bg_formula.specs.Formulas.{formula_of, is_whole};
+ghost use Rattle.bg_places.specs.Views.{placed_of, spot_of};
+ghost use Rattle.bg_formula.specs.Formulas.{formula_of};
 ghost use Rattle.bg_cert.specs.Walks.{has};
-ghost use Rattle.bg_pick.specs.Picks.{IsComplete};
 ghost use Rattle.bg_tree.specs.declared.outcome.Budget.{Budget};
-ghost use Rattle.bg_fits.specs.Truths.{is_over_truths};
-ghost use Rattle.bg_check.specs.Clauses.{formula_at};
+ghost use Rattle.bg_tree.specs.Ends.{IsLeaf};
+ghost use Rattle.bg_fits.specs.Scalars.{is_over_scalars};
 ghost use Rattle.bg_check.specs.Prepared.{IsPrepared};
-ghost use Rattle.bg_check.specs.Verdicts.{IsRight};
+ghost use Rattle.bg_check.specs.Slices.{IsSliceFor};
+ghost use Rattle.bg_check.specs.Made.{ClausesOf, IsMade};
+ghost use Rattle.bg_check.specs.Verdicts.{IsFailure, IsRight};
 
-use crate::leaf::leaf_truths;
-use crate::prepared::Prepared;
-use crate::verdict::Verdict;
+use crate::leaf::{leaf_truths, leaf_values};
+use crate::prepared::{Prepared, count_candidates};
+use crate::replayed::replayed;
+use crate::slicing::place_atoms;
+use crate::verdict::{Cause, Verdict};
 use bg_ast::resolved::Resolved;
-use bg_cert::Decision;
-use bg_clause::clauses;
-use bg_clause::laws::{clauses_are_whole, clauses_fail_alike};
+use bg_atoms::Atoms;
+use bg_base::OutOfRange;
+use bg_clause::laws::{atoms_of_clauses, clauses_fail_alike};
+use bg_clause::{Names, clauses};
+use bg_faithful::laws::{
+    clauses_over_scalars_are_whole, clauses_over_scalars_fail_alike,
+    no_interpretation_is_needed_for_scalars, typed_values_begin_with_a_state,
+    typed_values_hold_scalars,
+};
 use bg_formula::Clauses;
-use bg_model::counterexample;
+use bg_linear::laws::scalar_values_hold;
+use bg_model::{Counterexample, counterexample};
 use bg_passive::laws::arrivals_fit;
 use bg_places::Place;
+use bg_rows::Refused;
 use bg_sense::laws::typed_programs_have_typed_bodies;
-use bg_tree::{Budget, Outcome, search};
-use bg_truths::laws::{
-    blocks_are_even, no_interpretation_is_needed, passive_blocks_fit,
-    truth_values_begin_with_a_state, typed_values_are_truths,
-};
+use bg_tree::laws::leaves_are_met;
+use bg_tree::{Budget, Leaf, Outcome, search};
 use std::alloc::{AllocError, Global};
 
-/// How many candidates there are; more than 2^32 are more than memory holds.
-fn count_candidates(program: &Resolved) -> Result<u32, AllocError>
-    ensures { IfOk result (λ n. n ≡ (meaning_of (program_of program.now)).candidates) }
-{
-    match u32::try_from(program.candidates.len()) {
-        Ok(n) => Ok(n),
-        Err(_) => Err(AllocError),
-    }
+/// The clauses of a place, or the operation for which there are none.
+#[derive(Drop)]
+pub enum Made {
+    Clauses(Clauses),
+    Outside(OutOfRange),
 }
 
 /// The clauses of a place.
@@ -47,71 +52,103 @@ fn place_clauses(
     alloc: Global,
     program: &Resolved,
     prepared: &Prepared<'_>,
+    atoms: &Atoms,
     place: &Place,
-) -> Result<Clauses, AllocError>
+) -> Result<Made, AllocError>
     requires typed { IsTyped (meaning_of (program_of program.now)) }
-    requires truths { is_over_truths (meaning_of (program_of program.now)) ≡ true }
+    requires scalars { is_over_scalars true (meaning_of (program_of program.now)) ≡ true }
     requires prepared { IsPrepared (program_of program.now) place.now.implementation prepared.now }
-    ensures clauses { IfOk result (λ f. formula_at (meaning_of (program_of program.now)) (placed_of place.now).place ≡ Some (formula_of f)) }
-    ensures whole { IfOk result (λ f. is_whole (formula_of f) ≡ true) }
+    requires slice { IsSliceFor (program_of program.now) place.now.implementation prepared.now (spot_of place.now.spot) atoms.now }
+    ensures { IfOk result (λ made. IsMade (meaning_of (program_of program.now)) atoms.now (placed_of place.now).place made) }
 {
-    blocks_are_even();
-    passive_blocks_fit();
-    clauses_are_whole();
     let candidates = count_candidates(program)?;
-    let passive = &prepared.passive;
-    match clauses(
-        alloc,
-        passive.count,
+    let names = Names {
+        first: atoms.first,
         candidates,
-        place.spot,
-        &passive.blocks,
-    )? {
-        Some(f) => Ok(f),
-        None => unreachable!(),
+        terms: atoms.terms,
+        rows: &atoms.rows,
+    };
+    match clauses(alloc, &names, place.spot, &atoms.blocks) {
+        Ok(f) => Ok(Made::Clauses(f)),
+        Err(Refused::Range(o)) => Ok(Made::Outside(o)),
+        Err(Refused::Memory) => Err(AllocError),
     }
 }
 
-/// The counterexample of a path that decides every atom of a place's clauses and makes none of them false.
-fn refuted(
+/// The counterexample of a complete leaf of a place's clauses.
+fn failing(
     alloc: Global,
     program: &Resolved,
     prepared: &Prepared<'_>,
+    atoms: &Atoms,
     place: &Place,
     set: &[bool],
     f: &Clauses,
-    leaf: &[Decision],
-) -> Result<Verdict, AllocError>
+    leaf: &Leaf,
+) -> Result<Counterexample, AllocError>
     requires typed { IsTyped (meaning_of (program_of program.now)) }
-    requires truths { is_over_truths (meaning_of (program_of program.now)) ≡ true }
+    requires scalars { is_over_scalars true (meaning_of (program_of program.now)) ≡ true }
     requires prepared { IsPrepared (program_of program.now) place.now.implementation prepared.now }
-    requires clauses { formula_at (meaning_of (program_of program.now)) (placed_of place.now).place ≡ Some (formula_of f.now) }
-    requires whole { is_whole (formula_of f.now) ≡ true }
-    requires leaf { IsComplete (formula_of f.now) (has set.now) leaf.now }
-    ensures { IfOk result (λ verdict. (budget : Budget) → IsRight budget (meaning_of (program_of program.now)) (has set.now) (placed_of place.now).place verdict) }
+    requires slice { IsSliceFor (program_of program.now) place.now.implementation prepared.now (spot_of place.now.spot) atoms.now }
+    requires clauses { ClausesOf (meaning_of (program_of program.now)) atoms.now (placed_of place.now).place (formula_of f.now) }
+    requires leaf { IsLeaf (formula_of f.now) (has set.now) leaf.now }
+    ensures { IfOk result (λ cex. IsFailure (meaning_of (program_of program.now)) (has set.now) (placed_of place.now).place cex) }
 {
     typed_programs_have_typed_bodies();
     arrivals_fit();
+    leaves_are_met();
     clauses_fail_alike();
-    typed_values_are_truths();
-    blocks_are_even();
-    passive_blocks_fit();
-    truth_values_begin_with_a_state();
-    no_interpretation_is_needed();
-    let passive = &prepared.passive;
-    let truths = leaf_truths(alloc, passive.count as usize, leaf)?;
+    atoms_of_clauses();
+    clauses_over_scalars_are_whole();
+    typed_values_hold_scalars();
+    typed_values_begin_with_a_state();
+    no_interpretation_is_needed_for_scalars();
+    scalar_values_hold();
+    let truths = leaf_truths(alloc, f.atoms.len(), &leaf.path)?;
+    let values = leaf_values(alloc, &prepared.sorts, &truths, &leaf.spots)?;
     let frame = prepared.frame;
     let blocks = &prepared.blocks;
+    let firsts = &prepared.passive.firsts;
+    let forms = &atoms.blocks;
     match counterexample(
-        alloc, program, frame, blocks, passive, place.spot, set, &truths,
+        alloc, program, frame, blocks, firsts, forms, place.spot, set, &truths, &values,
     )? {
-        Some(cex) => Ok(Verdict::Refuted(cex)),
+        Some(cex) => Ok(cex),
         None => unreachable!(),
     }
 }
 
-/// What is known of a place of a typed program over truth values, under a set of candidates, where its implementation is prepared.
-/// A search makes at most the budget's inner nodes, and keeps at most its rows.
+/// What is known of a place that has these clauses.
+fn search_place(
+    alloc: Global,
+    program: &Resolved,
+    prepared: &Prepared<'_>,
+    atoms: &Atoms,
+    place: &Place,
+    set: &[bool],
+    budget: Budget,
+    f: &Clauses,
+) -> Result<Verdict, AllocError>
+    requires typed { IsTyped (meaning_of (program_of program.now)) }
+    requires scalars { is_over_scalars true (meaning_of (program_of program.now)) ≡ true }
+    requires prepared { IsPrepared (program_of program.now) place.now.implementation prepared.now }
+    requires slice { IsSliceFor (program_of program.now) place.now.implementation prepared.now (spot_of place.now.spot) atoms.now }
+    requires clauses { ClausesOf (meaning_of (program_of program.now)) atoms.now (placed_of place.now).place (formula_of f.now) }
+    ensures { IfOk result (λ verdict. IsRight budget (meaning_of (program_of program.now)) (has set.now) (placed_of place.now).place verdict) }
+{
+    clauses_over_scalars_are_whole();
+    match search(alloc, f, set, budget)? {
+        Outcome::Closed(nodes) => Ok(Verdict::Proved(nodes)),
+        Outcome::Unknown(why) => Ok(Verdict::Unknown(Cause::Search(why))),
+        Outcome::Leaf(leaf) => {
+            let cex = failing(alloc, program, prepared, atoms, place, set, f, &leaf)?;
+            replayed(alloc, program, prepared, place, set, cex)
+        }
+    }
+}
+
+/// What is known of a place of a typed program over truth values and whole numbers, under a set of candidates, where its
+/// implementation is prepared. A search makes at most the budget's inner nodes, and keeps at most its rows.
 ///
 /// Only want of memory is an error; 2^32 atoms count as such.
 pub fn check_place(
@@ -123,14 +160,15 @@ pub fn check_place(
     budget: Budget,
 ) -> Result<Verdict, AllocError>
     requires typed { IsTyped (meaning_of (program_of program.now)) }
-    requires truths { is_over_truths (meaning_of (program_of program.now)) ≡ true }
+    requires scalars { is_over_scalars true (meaning_of (program_of program.now)) ≡ true }
     requires prepared { IsPrepared (program_of program.now) place.now.implementation prepared.now }
     ensures { IfOk result (λ verdict. IsRight budget (meaning_of (program_of program.now)) (has set.now) (placed_of place.now).place verdict) }
 {
-    let f = place_clauses(alloc, program, prepared, place)?;
-    match search(alloc, &f, set, budget)? {
-        Outcome::Closed(nodes) => Ok(Verdict::Proved(nodes)),
-        Outcome::Leaf(leaf) => refuted(alloc, program, prepared, place, set, &f, &leaf.path),
-        Outcome::Unknown(why) => Ok(Verdict::Unknown(why)),
+    let atoms = place_atoms(alloc, program, prepared, place)?;
+    match place_clauses(alloc, program, prepared, &atoms, place)? {
+        Made::Outside(o) => Ok(Verdict::Unknown(Cause::Form(o))),
+        Made::Clauses(f) => {
+            search_place(alloc, program, prepared, &atoms, place, set, budget, &f)
+        }
     }
 }

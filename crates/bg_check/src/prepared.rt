@@ -1,44 +1,62 @@
 //! What is made once of each implementation.
-ghost use Rattle.std.specs.Prelude.{◌≡◌, ◌+◌, ◌<◌, Some, length, slice_get, true, IfOk};
+ghost use Rattle.std.specs.Prelude.{◌≡◌, ◌<◌, Some, length, slice_get, true, IfOk};
 ghost use Rattle.bg_ast.specs.Resolved as r;
 ghost use Rattle.bg_ast.specs.Meaning.{meaning_of};
 ghost use Rattle.bg_ast.specs.Views.{program_of};
 ghost use Rattle.bg_sense.specs.Typed.{IsTyped};
 ghost use Rattle.bg_blocks.specs.Callees.{IsModified};
-ghost use Rattle.bg_check.specs.Prepared.{IsPrepared};
+ghost use Rattle.bg_blocks.specs.EmittedViews.{frame_of};
+ghost use Rattle.bg_fits.specs.Scalars.{is_over_scalars};
+ghost use Rattle.bg_sorts.specs.Sorts.{decl_sorts};
+ghost use Rattle.bg_check.specs.Prepared.{IsPrepared, frame_declared};
 
 use bg_ast::resolved::{Resolved, Variable};
+use bg_atoms::{Atoms, atoms};
 use bg_blocks::{Block, blocks};
+use bg_faithful::laws::{blocks_over_scalars_are_even, passive_blocks_have_sorts};
 use bg_incarnate::{Passive, passive};
+use bg_linear::Sort;
+use bg_sorts::{frame_sorts, sorts};
 use std::alloc::{AllocError, Global};
 
-/// The blocks of an implementation, the same made passive, and how many variables its frame has.
+/// The blocks of an implementation, the same made passive, the sorts of their incarnations, their blocks of forms, and how many
+/// variables its frame has.
 #[derive(Drop)]
 pub struct Prepared<'p> {
     pub blocks: Vec<Block<'p>>,
     pub passive: Passive,
+    pub sorts: Vec<Sort>,
+    pub atoms: Atoms,
     pub frame: usize,
 }
 
-/// How many variables the frame of an implementation has; more than a number holds are more than memory holds.
-fn frame_size(program: &Resolved, number: usize) -> Result<usize, AllocError>
-    ensures { IfOk result (λ n. (m : r.Impl) (q : r.Proc) → slice_get (program_of program.now).implementations number ≡ Some m → slice_get (program_of program.now).procedures m.procedure ≡ Some q → n ≡ length q.params + (length q.results + length m.locals)) }
+/// The sorts of an implementation's frame.
+fn sorts_in(alloc: Global, program: &Resolved, number: usize) -> Result<Vec<Sort>, AllocError>
+    ensures { IfOk result (λ made. (m : r.Impl) (q : r.Proc) → slice_get (program_of program.now).implementations number ≡ Some m → slice_get (program_of program.now).procedures m.procedure ≡ Some q → made.items ≡ decl_sorts (frame_of (program_of program.now) (frame_declared m q))) }
 {
     let Some(m) = program.implementations.get(number) else {
-        return Ok(0);
+        return Ok(Vec::new(alloc));
     };
     let Some(q) = program.procedures.get(m.procedure as usize) else {
-        return Ok(0);
+        return Ok(Vec::new(alloc));
     };
-    match (q.params.len() + q.results.len()).checked_add(m.locals.len()) {
-        Some(n) => Ok(n),
-        None => Err(AllocError),
+    frame_sorts(alloc, &program.types, q, m)
+}
+
+/// How many candidates there are; more than 2^32 are more than memory holds.
+pub fn count_candidates(program: &Resolved) -> Result<u32, AllocError>
+    ensures { IfOk result (λ n. n ≡ (meaning_of (program_of program.now)).candidates) }
+{
+    match u32::try_from(program.candidates.len()) {
+        Ok(n) => Ok(n),
+        Err(_) => Err(AllocError),
     }
 }
 
-/// Prepares the implementation with this number of a typed program, where these are what its procedures modify.
+/// Prepares the implementation with this number of a typed program over truth values and whole numbers, where these are what its
+/// procedures modify.
 ///
-/// Only want of memory is an error.
+/// Only want of memory is an error; 2^32 incarnations or atoms count as such.
 pub fn prepare<'p>(
     alloc: Global,
     program: &'p Resolved,
@@ -48,14 +66,24 @@ pub fn prepare<'p>(
     requires modified { IsModified (program_of program.now) callees.now }
     requires there { number < length program.now.implementations.items }
     requires typed { IsTyped (meaning_of (program_of program.now)) }
+    requires scalars { is_over_scalars true (meaning_of (program_of program.now)) ≡ true }
     ensures { IfOk result (λ made. IsPrepared (program_of program.now) number made) }
 {
+    blocks_over_scalars_are_even();
+    passive_blocks_have_sorts();
     let blocks = blocks(alloc, program, callees, number)?;
-    let frame = frame_size(program, number)?;
-    let passive = passive(alloc, program, frame, &blocks)?;
+    let frame = sorts_in(alloc, program, number)?;
+    let passive = passive(alloc, program, frame.len(), &blocks)?;
+    let sorts = sorts(alloc, program, &frame, &blocks, &passive)?;
+    let candidates = count_candidates(program)?;
+    let Some(atoms) = atoms(alloc, &sorts, candidates, &passive.blocks)? else {
+        unreachable!()
+    };
     Ok(Prepared {
         blocks,
         passive,
-        frame,
+        sorts,
+        atoms,
+        frame: frame.len(),
     })
 }

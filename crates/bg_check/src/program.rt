@@ -7,7 +7,7 @@ ghost use Rattle.bg_sense.specs.Typed.{IsTyped};
 ghost use Rattle.bg_blocks.specs.Callees.{IsModified};
 ghost use Rattle.bg_places.specs.Views.{placed_of, placed_in};
 ghost use Rattle.bg_cert.specs.Walks.{has};
-ghost use Rattle.bg_fits.specs.Truths.{is_over_truths};
+ghost use Rattle.bg_fits.specs.Scalars.{is_over_scalars};
 ghost use Rattle.bg_check.specs.Numbered.{OfNumber};
 ghost use Rattle.bg_check.specs.Prepared.{IsPrepared};
 ghost use Rattle.bg_check.specs.Verdicts.{IsRight, placed_at, AreRightAt, AreRightOf, AreRight, judged};
@@ -32,7 +32,7 @@ fn judge(
     budget: Budget,
 ) -> Result<Judged, AllocError>
     requires typed { IsTyped (meaning_of (program_of program.now)) }
-    requires truths { is_over_truths (meaning_of (program_of program.now)) ≡ true }
+    requires scalars { is_over_scalars true (meaning_of (program_of program.now)) ≡ true }
     requires prepared { IsPrepared (program_of program.now) number prepared.now }
     requires here { place.now.implementation ≡ number }
     ensures place { IfOk result (λ j. j.place ≡ place.now) }
@@ -56,7 +56,7 @@ fn judge_places(
     budget: Budget,
 ) -> Result<Vec<Judged>, AllocError>
     requires typed { IsTyped (meaning_of (program_of program.now)) }
-    requires truths { is_over_truths (meaning_of (program_of program.now)) ≡ true }
+    requires scalars { is_over_scalars true (meaning_of (program_of program.now)) ≡ true }
     requires prepared { IsPrepared (program_of program.now) number prepared.now }
     requires numbered { OfNumber number (placed_in places.now) }
     ensures places { IfOk result (λ made. map placed_at made.items ≡ placed_in places.now) }
@@ -80,7 +80,7 @@ fn judge_implementation(
     budget: Budget,
 ) -> Result<Vec<Judged>, AllocError>
     requires typed { IsTyped (meaning_of (program_of program.now)) }
-    requires truths { is_over_truths (meaning_of (program_of program.now)) ≡ true }
+    requires scalars { is_over_scalars true (meaning_of (program_of program.now)) ≡ true }
     requires modified { IsModified (program_of program.now) callees.now }
     requires there { number < length program.now.implementations.items }
     ensures { IfOk result (λ made. (m : r.Impl) → slice_get (program_of program.now).implementations number ≡ Some m → AreRightOf budget (program_of program.now) (has set.now) number m made.items) }
@@ -90,8 +90,8 @@ fn judge_implementation(
     judge_places(alloc, program, &prepared, number, &places, set, budget)
 }
 
-/// What is known of each place of a typed program over truth values, by implementation and place, under the empty set of candidates.
-/// A search makes at most the budget's inner nodes, and keeps at most its rows.
+/// What is known of each place of a typed program over truth values and whole numbers, by implementation and place, under the
+/// empty set of candidates. A search makes at most the budget's inner nodes, and keeps at most its rows.
 ///
 /// Only want of memory is an error; 2^32 incarnations, atoms or branches of an implementation count as such.
 pub fn check_program(
@@ -100,7 +100,7 @@ pub fn check_program(
     budget: Budget,
 ) -> Result<Vec<Vec<Judged>>, AllocError>
     requires typed { IsTyped (meaning_of (program_of program.now)) }
-    requires truths { is_over_truths (meaning_of (program_of program.now)) ≡ true }
+    requires scalars { is_over_scalars true (meaning_of (program_of program.now)) ≡ true }
     ensures right { IfOk result (λ outcome. AreRight budget (program_of program.now) (judged outcome.items)) }
 {
     let callees = callees_of(alloc, program)?;

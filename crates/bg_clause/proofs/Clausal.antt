@@ -7,7 +7,7 @@ use Rattle.bg_formula.specs.Meaning.{same}
 use Rattle.bg_forms.specs.Forms.{literal_in, opposite}
 use Rattle.bg_clause.specs.Emitted.{literal_eq, is_among, clashes, distinct, clause_of}
 use Rattle.bg_forms.proofs.Meaning.{same_not, and_left, and_right}
-use Rattle.bg_clause.proofs.Below.{and_both}
+use Rattle.bg_formed.proofs.Below.{and_both}
 
 abbrev pub any_in : (ℕ → Bool) → List Literal → Bool
 any_in t [] = false

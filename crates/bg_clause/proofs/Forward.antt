@@ -3,23 +3,22 @@ use Rattle.std.proofs.Common.{◌≡◌, ℕ, suc, ◌+◌, ◌≤◌, Bool, tru
 use Rattle.std.specs.Prelude.{not, ◌&&◌, nat_lt, slice_get}
 use Rattle.std.proofs.lemmas.Bool.Decides.{nat_tests}
 use Rattle.bg_ast.specs.Execution.{Spot}
-use Rattle.bg_sense.specs.Eval.{Scope}
-use Rattle.bg_passive.specs.Passive.{PassiveBlock}
-use Rattle.bg_wp.specs.Equations.{equation_cmds, is_well, all_well, equations}
+use Rattle.bg_wp.specs.Equations.{is_well}
+use Rattle.bg_formed.specs.Wells.{form_equation, all_form_well, form_equations}
 use Rattle.bg_formula.specs.Formulas.{clauses_below}
 use Rattle.bg_forms.specs.Forms.{Form, form_true, is_true}
-use Rattle.bg_clause.specs.Fitting.{fits_cmds, fit_edges, fit_blocks}
+use Rattle.bg_formed.specs.Formed.{FormBlock, cmds_below, edges_below, blocks_below}
 use Rattle.bg_clause.specs.Failing.{fail_block}
 use Rattle.bg_clause.specs.Emitted.{denies, emitted}
 use Rattle.bg_clause.specs.Told.{Told, nothing, is_short, told_by, told, with_entry, entry_told}
-use Rattle.bg_forms.specs.Worth.{truth_values}
 use Rattle.bg_forms.proofs.Meaning.{not_not, same_true, and_left, and_right}
 use Rattle.bg_clause.proofs.Failing.{wells, block_true}
 use Rattle.bg_clause.proofs.Clausal.{all_in}
 use Rattle.bg_clause.proofs.Defining.{all_append}
 use Rattle.bg_clause.proofs.Emitting.{parts, emitted_complete, named_implied}
-use Rattle.bg_clause.proofs.Below.{form_below, forms_below, and_both, lower}
-use Rattle.bg_clause.proofs.Locals.{Agree, parts_below, local, local_wells, local_clauses, extended, local_values}
+use Rattle.bg_formed.specs.Formed.{form_below}
+use Rattle.bg_formed.proofs.Below.{forms_below, and_both, lower}
+use Rattle.bg_clause.proofs.Locals.{Agree, parts_below, local, local_wells, local_clauses, extended, equation_local, edges_local}
 use Rattle.bg_clause.proofs.Wholes.{told_more, told_below, first_below}
 
 -- truth values that agree with others below a, make what is told true, and have these values for the blocks
@@ -51,33 +50,32 @@ met_by false a t f s w ws le p q r m h =
 shifted : (n m b a : ℕ) → n + m ≤ a → nat_lt b m ≡ true → nat_lt (n + b) a ≡ true
 shifted n m b a le e = grind (arith, nat_tests)
 
--- truth values for the atoms of the blocks, from those of the incarnations and of the candidates
-module _ (n m : ℕ) (target : Spot) (a : ℕ) (enough : n + m ≤ a) (t set : ℕ → Bool) (c : Scope) (frame : c.frame ≡ truth_values t n) (there : (b : ℕ) → nat_lt b m ≡ true → t (n + b) ≡ set b) where
-  framed : (u : ℕ → Bool) → Agree a u t → c.frame ≡ truth_values u n
-  framed u agree =
-      frame ∙ sym (local_values n u t (λ j e. agree j (lower j n a (omega (arith, enough)) e)))
-
+-- truth values for the atoms of the blocks, from those of the first ones
+module _ (n m : ℕ) (target : Spot) (a : ℕ) (enough : n + m ≤ a) (t set : ℕ → Bool) (there : (b : ℕ) → nat_lt b m ≡ true → t (n + b) ≡ set b) where
   candidates : (u : ℕ → Bool) → Agree a u t → (b : ℕ) → nat_lt b m ≡ true → u (n + b) ≡ set b
   candidates u agree b e = agree (n + b) (shifted n m b a enough e) ∙ there b e
 
-  well_block : (u : ℕ → Bool) (later : List Form) (es : List Bool) (b : PassiveBlock) → Agree a u t → wells u later ≡ es → fits_cmds n m b.cmds ≡ true → fit_edges n m b.next ≡ true → not (form_true u (fail_block n target later b)) ≡ equation_cmds set target c b.cmds (all_well set target c es b.next)
+  -- equations depend on the atoms that are named alone
+  well_block : (u : ℕ → Bool) (later : List Form) (es : List Bool) (b : FormBlock) → Agree a u t → wells u later ≡ es → cmds_below a m b.cmds ≡ true → edges_below a m b.next ≡ true → not (form_true u (fail_block n target later b)) ≡ form_equation set target t b.cmds (all_form_well set target t es b.next)
   well_block u later es b agree same fk fe =
-      ap not (block_true n m target u set c (framed u agree) (candidates u agree) later b fk fe)
-      ∙ not_not (equation_cmds set target c b.cmds (all_well set target c (wells u later) b.next))
-      ∙ ap (λ l. equation_cmds set target c b.cmds (all_well set target c l b.next)) same
+      ap not (block_true n m a target u set (candidates u agree) later b fk fe)
+      ∙ not_not (form_equation set target u b.cmds (all_form_well set target u (wells u later) b.next))
+      ∙ ap (λ l. form_equation set target u b.cmds (all_form_well set target u l b.next)) same
+      ∙ equation_local a m u t agree set target b.cmds (all_form_well set target u es b.next) fk
+      ∙ ap (form_equation set target t b.cmds) (edges_local a m u t agree set target es b.next fe)
 
-  blocks_met : (bs : List PassiveBlock) → fit_blocks n m bs ≡ true → Met a t (told n target (nothing a) bs) (equations set target c bs)
+  blocks_met : (bs : List FormBlock) → blocks_below a m bs ≡ true → Met a t (told n target (nothing a) bs) (form_equations set target t bs)
   blocks_met [] fits = (t, ((λ j e. refl), (refl, refl)))
   blocks_met (b ∷ bs) fits =
       let s = told n target (nothing a) bs in
       let f = fail_block n target s.fails b in
-      let es = equations set target c bs in
-      let fk = and_left (fits_cmds n m b.cmds) (fit_edges n m b.next && fit_blocks n m bs) fits in
-      let more = and_right (fits_cmds n m b.cmds) (fit_edges n m b.next && fit_blocks n m bs) fits in
-      let rest = and_right (fit_edges n m b.next) (fit_blocks n m bs) more in
+      let es = form_equations set target t bs in
+      let fk = and_left (cmds_below a m b.cmds) (edges_below a m b.next && blocks_below a m bs) fits in
+      let more = and_right (cmds_below a m b.cmds) (edges_below a m b.next && blocks_below a m bs) fits in
+      let rest = and_right (edges_below a m b.next) (blocks_below a m bs) more in
       let met = blocks_met bs rest in
       let below = told_below n m target a enough s.next bs rest (omega arith) in
-      met_by (is_short f) a t f s (equation_cmds set target c b.cmds (all_well set target c es b.next)) es (told_more n m target a bs) (first_below n m target a enough s.next b bs fits (omega arith)) below.0 below.1 met (well_block met.0 s.fails es b met.1.0 met.1.1.1 fk (and_left (fit_edges n m b.next) (fit_blocks n m bs) more))
+      met_by (is_short f) a t f s (form_equation set target t b.cmds (all_form_well set target t es b.next)) es (told_more n m target a bs) (first_below n m target a enough s.next b bs fits (omega arith)) below.0 below.1 met (well_block met.0 s.fails es b met.1.0 met.1.1.1 fk (and_left (edges_below a m b.next) (blocks_below a m bs) more))
 
   entry_with : (f : Form) (s : Told) (ws : List Bool) → a ≤ s.next → form_below s.next f ≡ true → clauses_below s.next s.clauses ≡ true → (d : Met a t s ws) → form_true d.0 f ≡ true → (u : ℕ → Bool) × (Agree a u t × (all_in u (with_entry f s).clauses ≡ true))
   entry_with f s ws le p r d h =
@@ -88,16 +86,16 @@ module _ (n m : ℕ) (target : Spot) (a : ℕ) (enough : n + m ≤ a) (t set : �
       let agree : Agree k v u = more.1.0 in
       (v, (agree_more a k t u v le agree d.1.0, all_append v s.clauses (emitted [] f k) (local_clauses k v u agree s.clauses r ∙ d.1.1.0) (emitted_complete v f [] k more.1.1 (local k v u agree f p ∙ h))))
 
-  pub entry_met : (bs : List PassiveBlock) → fit_blocks n m bs ≡ true → is_well (slice_get (equations set target c bs) 0) ≡ false → (u : ℕ → Bool) × (Agree a u t × (all_in u (entry_told n target a bs).clauses ≡ true))
+  pub entry_met : (bs : List FormBlock) → blocks_below a m bs ≡ true → is_well (slice_get (form_equations set target t bs) 0) ≡ false → (u : ℕ → Bool) × (Agree a u t × (all_in u (entry_told n target a bs).clauses ≡ true))
   entry_met [] fits q = absurd (let bad : ⊥ = cc in bad)
   entry_met (b ∷ bs) fits q =
       let s = told n target (nothing a) bs in
       let f = fail_block n target s.fails b in
-      let es = equations set target c bs in
-      let fk = and_left (fits_cmds n m b.cmds) (fit_edges n m b.next && fit_blocks n m bs) fits in
-      let more = and_right (fits_cmds n m b.cmds) (fit_edges n m b.next && fit_blocks n m bs) fits in
-      let rest = and_right (fit_edges n m b.next) (fit_blocks n m bs) more in
+      let es = form_equations set target t bs in
+      let fk = and_left (cmds_below a m b.cmds) (edges_below a m b.next && blocks_below a m bs) fits in
+      let more = and_right (cmds_below a m b.cmds) (edges_below a m b.next && blocks_below a m bs) fits in
+      let rest = and_right (edges_below a m b.next) (blocks_below a m bs) more in
       let met = blocks_met bs rest in
       let below = told_below n m target a enough s.next bs rest (omega arith) in
-      let well = well_block met.0 s.fails es b met.1.0 met.1.1.1 fk (and_left (fit_edges n m b.next) (fit_blocks n m bs) more) in
+      let well = well_block met.0 s.fails es b met.1.0 met.1.1.1 fk (and_left (edges_below a m b.next) (blocks_below a m bs) more) in
       entry_with f s es (told_more n m target a bs) (first_below n m target a enough s.next b bs fits (omega arith)) below.1 met (sym (not_not (form_true met.0 f)) ∙ ap not (well ∙ q))

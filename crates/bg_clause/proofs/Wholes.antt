@@ -1,23 +1,26 @@
 -- The clauses name atoms that are there.
-use Rattle.std.proofs.Common.{◌≡◌, ℕ, zero, suc, ◌+◌, ◌≤◌, Bool, true, false, List, [], ◌∷◌, ◌++◌, length, map, refl, sym, ap, subst, ◌∙◌, arith}
+use Rattle.std.proofs.Common.{◌≡◌, ℕ, zero, suc, ◌+◌, ◌-◌, ◌≤◌, Bool, true, false, List, [], ◌∷◌, ◌++◌, length, map, refl, sym, ap, subst, ◌∙◌, arith}
 use Rattle.std.specs.Prelude.{not, ◌&&◌, if◌then◌else◌, nat_lt, Some}
 use Rattle.std.proofs.lemmas.Bool.Decides.{nat_tests}
+use Rattle.std.proofs.lemmas.List.{length-append}
 use Rattle.bg_ast.specs.Execution.{Spot}
 use Rattle.bg_sense.specs.Variables.{count_from}
-use Rattle.bg_passive.specs.Passive.{PassiveBlock}
 use Rattle.bg_formula.specs.declared.atom.Literal.{Literal}
-use Rattle.bg_formula.specs.Atoms.{IsTruth, at}
-use Rattle.bg_formula.specs.Formulas.{literals_below, clauses_below, units_below, rows_below, is_whole}
-use Rattle.bg_formula.specs.Meaning.{Valuation, same, signed, literal_true, clause_true, clauses_true}
+use Rattle.bg_formula.specs.Atoms.{AtomOf, IsTruth, at}
+use Rattle.bg_formula.specs.Formulas.{literals_below, clauses_below, units_below, rows_below, atom_below, is_whole}
+use Rattle.bg_formula.specs.Meaning.{Valuation, atom_true, same, signed, literal_true, clause_true, clauses_true}
 use Rattle.bg_forms.specs.Forms.{Form, Plain, Is, NotSo, Both, Same, literal_in, opposite}
-use Rattle.bg_clause.specs.Fitting.{fits_cmds, fit_edges, fit_blocks}
+use Rattle.bg_formed.specs.Formed.{FormBlock, cmds_below, edges_below, blocks_below}
 use Rattle.bg_clause.specs.Failing.{fail_block}
 use Rattle.bg_clause.specs.Emitted.{denies, name_of, next_of, after_defined, after_as, after, clause_of, signed_as, equal_clauses, both_clauses, same_clauses, defined, emitted_as, emitted}
 use Rattle.bg_clause.specs.Told.{Told, nothing, is_short, told_by, told, with_entry, entry_told}
 use Rattle.bg_clause.specs.Whole.{formula}
+use Rattle.bg_clause.specs.Valued.{worth_in}
 use Rattle.bg_forms.proofs.Meaning.{none_below, below_suc, and_left, and_right}
 use Rattle.bg_clause.proofs.Clausal.{any_in, all_in, clause_below}
-use Rattle.bg_clause.proofs.Below.{form_below, forms_below, and_both, block_below}
+use Rattle.bg_formed.specs.Formed.{form_below}
+use Rattle.bg_formed.proofs.Below.{forms_below, and_both}
+use Rattle.bg_clause.proofs.Below.{block_below}
 
 next_more : (f : Form) (n : ℕ) → n ≤ next_of f n
 next_more (Plain b) n = omega arith
@@ -172,7 +175,7 @@ told_by_more true f s = omega arith
 told_by_more false f s = omega (arith, after_more f (suc s.next))
 
 module _ (k m : ℕ) (t : Spot) (a : ℕ) where
-  pub told_more : (bs : List PassiveBlock) → a ≤ (told k t (nothing a) bs).next
+  pub told_more : (bs : List FormBlock) → a ≤ (told k t (nothing a) bs).next
   told_more [] = omega arith
   told_more (b ∷ bs) =
       let s = told k t (nothing a) bs in
@@ -180,39 +183,39 @@ module _ (k m : ℕ) (t : Spot) (a : ℕ) where
       omega (arith, told_more bs, told_by_more (is_short f) f s)
 
   module _ (enough : k + m ≤ a) (n : ℕ) where
-    pub told_below : (bs : List PassiveBlock) → fit_blocks k m bs ≡ true → (told k t (nothing a) bs).next ≤ n → (forms_below n (told k t (nothing a) bs).fails ≡ true) × (clauses_below n (told k t (nothing a) bs).clauses ≡ true)
+    pub told_below : (bs : List FormBlock) → blocks_below a m bs ≡ true → (told k t (nothing a) bs).next ≤ n → (forms_below n (told k t (nothing a) bs).fails ≡ true) × (clauses_below n (told k t (nothing a) bs).clauses ≡ true)
     told_below [] fits le = (refl, refl)
     told_below (b ∷ bs) fits le =
         let s = told k t (nothing a) bs in
         let f = fail_block k t s.fails b in
-        let more = and_right (fits_cmds k m b.cmds) (fit_edges k m b.next && fit_blocks k m bs) fits in
+        let more = and_right (cmds_below a m b.cmds) (edges_below a m b.next && blocks_below a m bs) fits in
         let step = told_by_more (is_short f) f s in
         let first = told_more bs in
-        let rest = told_below bs (and_right (fit_edges k m b.next) (fit_blocks k m bs) more) (omega (arith, le, step)) in
-        told_by_below n (is_short f) f s (block_below n k m (omega (arith, enough, first, step, le)) t s.fails b (and_left (fits_cmds k m b.cmds) (fit_edges k m b.next && fit_blocks k m bs) fits) (and_left (fit_edges k m b.next) (fit_blocks k m bs) more) rest.0) rest.0 rest.1 le
+        let rest = told_below bs (and_right (edges_below a m b.next) (blocks_below a m bs) more) (omega (arith, le, step)) in
+        told_by_below n (is_short f) f s (block_below n k m a enough (omega (arith, first, step, le)) t s.fails b (and_left (cmds_below a m b.cmds) (edges_below a m b.next && blocks_below a m bs) fits) (and_left (edges_below a m b.next) (blocks_below a m bs) more) rest.0) rest.0 rest.1 le
 
-    pub first_below : (b : PassiveBlock) (bs : List PassiveBlock) → fit_blocks k m (b ∷ bs) ≡ true → (told k t (nothing a) bs).next ≤ n → form_below n (fail_block k t (told k t (nothing a) bs).fails b) ≡ true
+    pub first_below : (b : FormBlock) (bs : List FormBlock) → blocks_below a m (b ∷ bs) ≡ true → (told k t (nothing a) bs).next ≤ n → form_below n (fail_block k t (told k t (nothing a) bs).fails b) ≡ true
     first_below b bs fits le =
         let s = told k t (nothing a) bs in
-        let more = and_right (fits_cmds k m b.cmds) (fit_edges k m b.next && fit_blocks k m bs) fits in
-        let rest = told_below bs (and_right (fit_edges k m b.next) (fit_blocks k m bs) more) le in
-        block_below n k m (omega (arith, enough, told_more bs, le)) t s.fails b (and_left (fits_cmds k m b.cmds) (fit_edges k m b.next && fit_blocks k m bs) fits) (and_left (fit_edges k m b.next) (fit_blocks k m bs) more) rest.0
+        let more = and_right (cmds_below a m b.cmds) (edges_below a m b.next && blocks_below a m bs) fits in
+        let rest = told_below bs (and_right (edges_below a m b.next) (blocks_below a m bs) more) le in
+        block_below n k m a enough (omega (arith, told_more bs, le)) t s.fails b (and_left (cmds_below a m b.cmds) (edges_below a m b.next && blocks_below a m bs) fits) (and_left (edges_below a m b.next) (blocks_below a m bs) more) rest.0
 
   with_below : (f : Form) (s : Told) → let n = after f s.next in form_below n f ≡ true → clauses_below n s.clauses ≡ true → clauses_below n (with_entry f s).clauses ≡ true
   with_below f s p q =
       let n = after f s.next in
       append_below n s.clauses (emitted [] f s.next) q (emitted_below n f [] s.next refl p (omega arith))
 
-  pub entry_below : k + m ≤ a → (bs : List PassiveBlock) → fit_blocks k m bs ≡ true → clauses_below (entry_told k t a bs).next (entry_told k t a bs).clauses ≡ true
+  pub entry_below : k + m ≤ a → (bs : List FormBlock) → blocks_below a m bs ≡ true → clauses_below (entry_told k t a bs).next (entry_told k t a bs).clauses ≡ true
   entry_below enough [] fits = refl
   entry_below enough (b ∷ bs) fits =
       let s = told k t (nothing a) bs in
       let f = fail_block k t s.fails b in
       let le = after_more f s.next in
-      let more = and_right (fits_cmds k m b.cmds) (fit_edges k m b.next && fit_blocks k m bs) fits in
-      with_below f s (first_below enough (after f s.next) b bs fits le) (told_below enough (after f s.next) bs (and_right (fit_edges k m b.next) (fit_blocks k m bs) more) le).1
+      let more = and_right (cmds_below a m b.cmds) (edges_below a m b.next && blocks_below a m bs) fits in
+      with_below f s (first_below enough (after f s.next) b bs fits le) (told_below enough (after f s.next) bs (and_right (edges_below a m b.next) (blocks_below a m bs) more) le).1
 
-  pub entry_more : (bs : List PassiveBlock) → a ≤ (entry_told k t a bs).next
+  pub entry_more : (bs : List FormBlock) → a ≤ (entry_told k t a bs).next
   entry_more [] = omega arith
   entry_more (b ∷ bs) =
       let s = told k t (nothing a) bs in omega (arith, told_more bs, after_more (fail_block k t s.fails b) s.next)
@@ -226,20 +229,32 @@ units_counted n k zero le = refl
 units_counted n k (suc m) le =
     and_both (nat_lt k n) (units_below n (map Some (count_from (suc k) m))) (one_below k n (omega (arith, le))) (units_counted n (suc k) m (omega (arith, le)))
 
+-- ---- atoms of two lists
+
 -- truth variables are no rows
 no_rows : (n : ℕ) (xs : List ℕ) → rows_below n (map IsTruth xs) ≡ true
 no_rows n [] = refl
 no_rows n (x ∷ xs) = no_rows n xs
 
--- the formula is whole
-pub formula_whole : (n m : ℕ) (t : Spot) (bs : List PassiveBlock) → fit_blocks n m bs ≡ true → is_whole (formula n m t bs) ≡ true
-formula_whole n m t bs fits =
-    let s = entry_told n t (n + m) bs in
-    let units = map Some (count_from n m) in
-    let atoms = map IsTruth (count_from 0 s.next) in
-    let named = and_both (units_below s.next units) (rows_below 0 atoms) (units_counted s.next n m (omega (arith, entry_more n m t (n + m) bs))) (no_rows 0 (count_from 0 s.next)) in
-    let all = and_both (clauses_below s.next s.clauses) (units_below s.next units && rows_below 0 atoms) (entry_below n m t (n + m) (omega arith) bs fits) named in
-    subst (λ x. (clauses_below x s.clauses && (units_below x units && rows_below 0 atoms)) ≡ true) (sym (how_many_atoms 0 s.next)) all
+rows_append : (n : ℕ) (xs ys : List AtomOf) → rows_below n xs ≡ true → rows_below n ys ≡ true → rows_below n (xs ++ ys) ≡ true
+rows_append n [] ys p q = q
+rows_append n (x ∷ xs) ys p q =
+    and_both (atom_below n x) (rows_below n (xs ++ ys)) (and_left (atom_below n x) (rows_below n xs) p) (rows_append n xs ys (and_right (atom_below n x) (rows_below n xs) p) q)
+
+at_first : {A : Type 0} (xs ys : List A) (j : ℕ) → nat_lt j (length xs) ≡ true → at (xs ++ ys) j ≡ at xs j
+at_first [] ys j p = absurd (none_below j p)
+at_first (x ∷ xs) ys zero p = refl
+at_first (x ∷ xs) ys (suc j) p = at_first xs ys j (sym (below_suc j (length xs)) ∙ p)
+
+at_behind : {A : Type 0} (xs ys : List A) (i j : ℕ) → j ≡ length xs + i → at (xs ++ ys) j ≡ at ys i
+at_behind [] ys i j e = ap (at ys) (omega (arith, e))
+at_behind (x ∷ xs) ys i zero e = absurd (omega (arith, e))
+at_behind (x ∷ xs) ys i (suc j) e = at_behind xs ys i j (omega (arith, e))
+
+is_there : {A : Type 0} (xs : List A) (j : ℕ) → nat_lt j (length xs) ≡ true → (x : A) × (at xs j ≡ Some x)
+is_there [] j p = absurd (none_below j p)
+is_there (x ∷ xs) zero p = (x, refl)
+is_there (x ∷ xs) (suc j) p = is_there xs j (sym (below_suc j (length xs)) ∙ p)
 
 -- an atom that is there is the truth variable of its number
 at_count : (k n j x : ℕ) → x ≡ k + j → nat_lt j n ≡ true → at (map IsTruth (count_from k n)) j ≡ Some (IsTruth x)
@@ -247,15 +262,80 @@ at_count k zero j x e p = absurd (none_below j p)
 at_count k (suc n) zero x e p = ap (λ y. Some (IsTruth y)) (omega (arith, e))
 at_count k (suc n) (suc j) x e p = at_count (suc k) n j x (omega (arith, e)) (sym (below_suc j n) ∙ p)
 
-module _ (v : Valuation) (n : ℕ) where
-  clause_same : (ls : List Literal) → literals_below n ls ≡ true → clause_true v (map IsTruth (count_from 0 n)) ls ≡ any_in v.truths ls
+-- ---- what clauses are worth
+
+same_twice : (b s : Bool) → same b s ≡ same (same b true) s
+same_twice true s = refl
+same_twice false s = refl
+
+module _ (v : Valuation) (atoms : List AtomOf) where
+  literal_same : (l : Literal) → nat_lt l.atom (length atoms) ≡ true → literal_true v atoms l ≡ literal_in (worth_in v atoms) l
+  literal_same l p =
+      let t = is_there atoms l.atom p in
+      ap (λ o. signed v o l.sign) t.1 ∙ same_twice (atom_true v t.0) l.sign ∙ ap (λ o. same (signed v o true) l.sign) (sym t.1)
+
+  clause_same : (ls : List Literal) → literals_below (length atoms) ls ≡ true → clause_true v atoms ls ≡ any_in (worth_in v atoms) ls
   clause_same [] p = refl
   clause_same (l ∷ ls) p =
-      let here : literal_true v (map IsTruth (count_from 0 n)) l ≡ literal_in v.truths l =
-      ap (λ o. signed v o l.sign) (at_count 0 n l.atom l.atom (omega arith) (and_left (nat_lt l.atom n) (literals_below n ls) p)) in
-      rw (here, clause_same ls (and_right (nat_lt l.atom n) (literals_below n ls) p)) refl
+      rw (literal_same l (and_left (nat_lt l.atom (length atoms)) (literals_below (length atoms) ls) p), clause_same ls (and_right (nat_lt l.atom (length atoms)) (literals_below (length atoms) ls) p)) refl
 
-  pub clauses_same : (cs : List (List Literal)) → clauses_below n cs ≡ true → clauses_true v (map IsTruth (count_from 0 n)) cs ≡ all_in v.truths cs
+  pub clauses_same : (cs : List (List Literal)) → clauses_below (length atoms) cs ≡ true → clauses_true v atoms cs ≡ all_in (worth_in v atoms) cs
   clauses_same [] p = refl
   clauses_same (c ∷ cs) p =
-      rw (clause_same c (and_left (literals_below n c) (clauses_below n cs) p), clauses_same cs (and_right (literals_below n c) (clauses_below n cs) p)) refl
+      rw (clause_same c (and_left (literals_below (length atoms) c) (clauses_below (length atoms) cs) p), clauses_same cs (and_right (literals_below (length atoms) c) (clauses_below (length atoms) cs) p)) refl
+
+-- ---- the atoms of a formula
+
+module _ (n m terms : ℕ) (rows : List AtomOf) (t : Spot) (bs : List FormBlock) where
+  abbrev a : ℕ
+  a = n + m + length rows
+
+  abbrev s : Told
+  s = entry_told n t a bs
+
+  abbrev first : List AtomOf
+  first = map IsTruth (count_from 0 (n + m))
+
+  abbrev last : List AtomOf
+  last = map IsTruth (count_from a (s.next - a))
+
+  abbrev pub atoms_of : List AtomOf
+  atoms_of = first ++ (rows ++ last)
+
+  pub many : length atoms_of ≡ s.next
+  many =
+      let x = length-append first (rows ++ last) in
+      let y = length-append rows last in
+      let f = how_many_atoms 0 (n + m) in
+      let l = how_many_atoms a (s.next - a) in
+      let e = entry_more n m t a bs in
+      omega (arith, x, y, f, l, e)
+
+  pub at_truth : (j : ℕ) → nat_lt j (n + m) ≡ true → at atoms_of j ≡ Some (IsTruth j)
+  at_truth j p =
+      at_first first (rows ++ last) j (subst (λ k. nat_lt j k ≡ true) (sym (how_many_atoms 0 (n + m))) p) ∙ at_count 0 (n + m) j j (omega arith) p
+
+  pub at_row : (j x : ℕ) → x ≡ n + m + j → nat_lt j (length rows) ≡ true → at atoms_of x ≡ at rows j
+  at_row j x e p =
+      at_behind first (rows ++ last) j x (let f = how_many_atoms 0 (n + m) in omega (arith, f, e)) ∙ at_first rows last j p
+
+  pub at_name : (j x : ℕ) → x ≡ a + j → nat_lt x s.next ≡ true → at atoms_of x ≡ Some (IsTruth x)
+  at_name j x e p =
+      at_behind first (rows ++ last) (length rows + j) x (let f = how_many_atoms 0 (n + m) in omega (arith, f, e))
+      ∙ at_behind rows last j (length rows + j) refl ∙ at_count a (s.next - a) j x e (moved j x p e)
+    where
+      moved : (j x : ℕ) → nat_lt x s.next ≡ true → x ≡ a + j → nat_lt j (s.next - a) ≡ true
+      moved j x p e = grind (arith, nat_tests)
+
+  pub worth_clauses : (v : Valuation) → blocks_below a m bs ≡ true → clauses_true v atoms_of s.clauses ≡ all_in (worth_in v atoms_of) s.clauses
+  worth_clauses v fits =
+      clauses_same v atoms_of s.clauses (subst (λ k. clauses_below k s.clauses ≡ true) (sym many) (entry_below n m t a (omega arith) bs fits))
+
+  -- the formula is whole
+  pub formula_whole : blocks_below a m bs ≡ true → rows_below terms rows ≡ true → is_whole (formula n m terms rows t bs) ≡ true
+  formula_whole fits there =
+      let units = map Some (count_from n m) in
+      let all = rows_append terms first (rows ++ last) (no_rows terms (count_from 0 (n + m))) (rows_append terms rows last there (no_rows terms (count_from a (s.next - a)))) in
+      let named = and_both (units_below s.next units) (rows_below terms atoms_of) (units_counted s.next n m (let e = entry_more n m t a bs in omega (arith, e))) all in
+      let both = and_both (clauses_below s.next s.clauses) (units_below s.next units && rows_below terms atoms_of) (entry_below n m t a (omega arith) bs fits) named in
+      subst (λ x. (clauses_below x s.clauses && (units_below x units && rows_below terms atoms_of)) ≡ true) (sym many) both

@@ -1,7 +1,7 @@
 -- The clauses of blocks, from the last block back.
 use Rattle.std.specs.Prelude.{ℕ, suc, Bool, true, false, List, [], ◌∷◌, ◌++◌}
 use Rattle.bg_ast.specs.Execution.{Spot}
-use Rattle.bg_passive.specs.Passive.{PassiveBlock}
+use Rattle.bg_formed.specs.Formed.{FormBlock}
 use Rattle.bg_formula.specs.declared.atom.Literal.{Literal}
 use Rattle.bg_forms.specs.Forms.{Form, Plain, Is, is_true}
 use Rattle.bg_clause.specs.Failing.{fail_block}
@@ -34,7 +34,7 @@ abbrev pub nothing : ℕ → Told
 nothing a = record { fails = []; clauses = []; next = a }
 
 -- what is told of blocks in front of others
-abbrev pub told : ℕ → Spot → Told → List PassiveBlock → Told
+abbrev pub told : ℕ → Spot → Told → List FormBlock → Told
 told n t s [] = s
 told n t s (b ∷ bs) =
     let d = told n t s bs in let f = fail_block n t d.fails b in told_by (is_short f) f d
@@ -44,6 +44,6 @@ abbrev pub with_entry : Form → Told → Told
 with_entry f s = record s { clauses = s.clauses ++ emitted [] f s.next; next = after f s.next }
 
 -- the first block fails
-abbrev pub entry_told : ℕ → Spot → ℕ → List PassiveBlock → Told
+abbrev pub entry_told : ℕ → Spot → ℕ → List FormBlock → Told
 entry_told n t a [] = with_entry (Plain false) (nothing a)
 entry_told n t a (b ∷ bs) = let s = told n t (nothing a) bs in with_entry (fail_block n t s.fails b) s

@@ -1,34 +1,19 @@
 //! The forms that say that commands fail.
 ghost use Rattle.std.specs.Prelude.{◌≡◌, [], ◌∷◌, IfOk};
 ghost use Rattle.bg_text.specs.Views.{option_of};
-ghost use Rattle.bg_ast.specs.Meaning as m;
-ghost use Rattle.bg_ast.specs.Views.{ex_of, candidate_of};
+ghost use Rattle.bg_ast.specs.Views.{candidate_of};
 ghost use Rattle.bg_places.specs.Views.{spot_of};
-ghost use Rattle.bg_passive.specs.Passive.{spot_eq};
-ghost use Rattle.bg_incarnate.specs.Views.{passive_cmd_of, cmds_of};
-ghost use Rattle.bg_forms.specs.Forms.{both_of, any_of, denied, form_of};
+ghost use Rattle.bg_formed.specs.Formed.{said};
+ghost use Rattle.bg_formed.specs.Views.{says_of, form_cmd_of, form_cmds_of};
+ghost use Rattle.bg_forms.specs.Forms.{both_of, any_of, denied};
 ghost use Rattle.bg_clause.specs.Failing.{is_there, is_not_there, fail_cmds};
 ghost use Rattle.bg_forms.specs.Views.{form_in};
 
-use bg_ast::resolved::Expr;
 use bg_base::CandId;
-use bg_forms::{Form, any_of, both_of, denied, form_ex, is_true};
-use bg_incarnate::PassiveCmd;
+use bg_formed::{FormCmd, Says, is_spot, said};
+use bg_forms::{Form, any_of, both_of, denied, is_true};
 use bg_places::Spot;
 use std::alloc::{AllocError, Global};
-
-fn is_spot(s: Spot, t: Spot) -> bool
-    ensures { result ≡ spot_eq (spot_of s) (spot_of t) }
-{
-    match (s, t) {
-        (Spot::Assert(a), Spot::Assert(b)) => a == b,
-        (Spot::Entry(a), Spot::Entry(b)) => a == b,
-        (Spot::Turn(a), Spot::Turn(b)) => a == b,
-        (Spot::Call(s, a), Spot::Call(t, b)) => s == t && a == b,
-        (Spot::Return(s, a), Spot::Return(t, b)) => s == t && a == b,
-        _ => false,
-    }
-}
 
 /// The candidate is there.
 fn is_there(count: u32, b: Option<CandId>) -> Result<Form, AllocError>
@@ -48,14 +33,14 @@ fn supposed(
     alloc: Global,
     count: u32,
     b: Option<CandId>,
-    e: &Expr,
+    r: &Says,
     rest: Form,
 ) -> Result<Form, AllocError>
-    ensures { IfOk result (λ x. form_in x ≡ both_of (any_of (is_not_there count (option_of candidate_of b)) (form_of (m.ex_of (ex_of e.now)))) (form_in rest)) }
+    ensures { IfOk result (λ x. form_in x ≡ both_of (any_of (is_not_there count (option_of candidate_of b)) (said (says_of r.now))) (form_in rest)) }
 {
     let there = is_there(count, b)?;
     let absent = denied(alloc, there)?;
-    let says = form_ex(alloc, e)?;
+    let says = said(alloc, r)?;
     let here = any_of(alloc, absent, says)?;
     both_of(alloc, here, rest)
 }
@@ -65,13 +50,13 @@ fn claimed(
     alloc: Global,
     count: u32,
     b: Option<CandId>,
-    e: &Expr,
+    r: &Says,
     rest: Form,
 ) -> Result<Form, AllocError>
-    ensures { IfOk result (λ x. form_in x ≡ any_of (both_of (is_there count (option_of candidate_of b)) (denied (form_of (m.ex_of (ex_of e.now))))) (form_in rest)) }
+    ensures { IfOk result (λ x. form_in x ≡ any_of (both_of (is_there count (option_of candidate_of b)) (denied (said (says_of r.now)))) (form_in rest)) }
 {
     let there = is_there(count, b)?;
-    let says = form_ex(alloc, e)?;
+    let says = said(alloc, r)?;
     let not_so = denied(alloc, says)?;
     let here = both_of(alloc, there, not_so)?;
     any_of(alloc, here, rest)
@@ -82,20 +67,20 @@ fn fail_cmd(
     alloc: Global,
     count: u32,
     target: Spot,
-    k: &PassiveCmd,
+    k: &FormCmd,
     rest: Form,
 ) -> Result<Form, AllocError>
-    ensures { IfOk result (λ x. form_in x ≡ fail_cmds count (spot_of target) (passive_cmd_of k.now ∷ []) (form_in rest)) }
+    ensures { IfOk result (λ x. form_in x ≡ fail_cmds count (spot_of target) (form_cmd_of k.now ∷ []) (form_in rest)) }
 {
     match k {
-        PassiveCmd::Claims(s, b, e) => {
+        FormCmd::Claims(s, b, r) => {
             if is_spot(*s, target) {
-                claimed(alloc, count, *b, e, rest)
+                claimed(alloc, count, *b, r, rest)
             } else {
-                supposed(alloc, count, *b, e, rest)
+                supposed(alloc, count, *b, r, rest)
             }
         }
-        PassiveCmd::Supposes(b, e) => supposed(alloc, count, *b, e, rest),
+        FormCmd::Supposes(b, r) => supposed(alloc, count, *b, r, rest),
     }
 }
 
@@ -105,13 +90,13 @@ pub fn fail_cmds(
     alloc: Global,
     count: u32,
     target: Spot,
-    cmds: &[PassiveCmd],
+    cmds: &[FormCmd],
     rest: Form,
 ) -> Result<Form, AllocError>
-    ensures { IfOk result (λ x. form_in x ≡ fail_cmds count (spot_of target) (cmds_of cmds.now) (form_in rest)) }
+    ensures { IfOk result (λ x. form_in x ≡ fail_cmds count (spot_of target) (form_cmds_of cmds.now) (form_in rest)) }
 {
     let mut made = rest;
-    let mut left: &[PassiveCmd] = cmds;
+    let mut left: &[FormCmd] = cmds;
     while let Some((last, before)) = left.split_last() {
         made = fail_cmd(alloc, count, target, last, made)?;
         left = before;

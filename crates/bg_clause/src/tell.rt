@@ -1,7 +1,7 @@
 //! The clauses of blocks, from the last block back.
 ghost use Rattle.std.specs.Prelude.{◌≡◌, false, [], ◌∷◌, map, IfOk, OnOk};
 ghost use Rattle.bg_places.specs.Views.{spot_of};
-ghost use Rattle.bg_incarnate.specs.Views.{passive_block_of};
+ghost use Rattle.bg_formed.specs.Views.{form_block_of};
 ghost use Rattle.bg_clause.specs.Told.{nothing, is_short, told_by, told, with_entry, entry_told};
 ghost use Rattle.bg_forms.specs.Views.{form_in};
 ghost use Rattle.bg_clause.specs.Views.{short_in};
@@ -11,9 +11,9 @@ use crate::emit::emit;
 use crate::naming::{alone, denies, names, take_next};
 use crate::short::{Short, short_of};
 use crate::ways::fail_block;
+use bg_formed::FormBlock;
 use bg_forms::Form;
 use bg_formula::Literal;
-use bg_incarnate::PassiveBlock;
 use bg_places::Spot;
 use std::alloc::{AllocError, Global};
 use std::collections::VecDeque;
@@ -71,9 +71,9 @@ fn tell_block(
     count: u32,
     target: Spot,
     s: &mut Telling,
-    b: &PassiveBlock,
+    b: &FormBlock,
 ) -> Result<(), AllocError>
-    ensures { OnOk result (telling_of s.new ≡ told count (spot_of target) (telling_of s.old) (passive_block_of b.now ∷ [])) }
+    ensures { OnOk result (telling_of s.new ≡ told count (spot_of target) (telling_of s.old) (form_block_of b.now ∷ [])) }
 {
     let f = fail_block(alloc, count, target, &s.fails, b)?;
     tell(alloc, s, f)
@@ -86,12 +86,12 @@ fn tell_blocks(
     count: u32,
     target: Spot,
     first: u32,
-    blocks: &[PassiveBlock],
+    blocks: &[FormBlock],
 ) -> Result<Telling, AllocError>
-    ensures { IfOk result (λ s. telling_of s ≡ told count (spot_of target) (nothing first) (map passive_block_of blocks.now)) }
+    ensures { IfOk result (λ s. telling_of s ≡ told count (spot_of target) (nothing first) (map form_block_of blocks.now)) }
 {
     let mut s = nothing(alloc, first);
-    let mut left: &[PassiveBlock] = blocks;
+    let mut left: &[FormBlock] = blocks;
     while let Some((last, before)) = left.split_last() {
         tell_block(alloc, count, target, &mut s, last)?;
         left = before;
@@ -115,9 +115,9 @@ pub fn tell_entry(
     count: u32,
     target: Spot,
     first: u32,
-    blocks: &[PassiveBlock],
+    blocks: &[FormBlock],
 ) -> Result<Telling, AllocError>
-    ensures { IfOk result (λ s. telling_of s ≡ entry_told count (spot_of target) first (map passive_block_of blocks.now)) }
+    ensures { IfOk result (λ s. telling_of s ≡ entry_told count (spot_of target) first (map form_block_of blocks.now)) }
 {
     match blocks.split_first() {
         None => claim(alloc, nothing(alloc, first), Form::Plain(false)),

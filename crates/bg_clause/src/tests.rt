@@ -1,10 +1,13 @@
 //! Clauses of a few blocks, by hand.
-use crate::clauses;
+use crate::{Names, clauses};
 use bg_ast::resolved::{Expr, Link, Variable};
-use bg_base::{CandId, Pos};
-use bg_formula::Literal;
+use bg_base::{CandId, Op, OutOfRange, Pos};
+use bg_formed::{FormBlock, FormCmd, FormEdge, Says, formed};
+use bg_forms::Form;
+use bg_formula::{Clauses, Literal};
 use bg_incarnate::{Edge, PassiveBlock, PassiveCmd};
 use bg_places::Spot;
+use bg_rows::Refused;
 use bg_text::InfixSign;
 use std::alloc::{AllocError, Global};
 use std::test::Fail;
@@ -45,6 +48,26 @@ fn blocks(alloc: Global) -> Result<Vec<PassiveBlock>, AllocError> {
     Ok(made)
 }
 
+/// The clauses of blocks over so many truth values and candidates.
+fn found(
+    alloc: Global,
+    first: u32,
+    candidates: u32,
+    blocks: &[PassiveBlock],
+) -> Result<Clauses, Fail> {
+    let forms = formed(alloc, first, candidates, blocks)?.ok_or("no forms")?;
+    let names = Names {
+        first,
+        candidates,
+        terms: 0,
+        rows: &[],
+    };
+    match clauses(alloc, &names, Spot::Assert(7), &forms) {
+        Ok(f) => Ok(f),
+        Err(_) => Err("refused".into()),
+    }
+}
+
 fn lit(atom: u32, sign: bool) -> Literal {
     Literal { atom, sign }
 }
@@ -53,7 +76,7 @@ fn lit(atom: u32, sign: bool) -> Literal {
 fn clauses_of_four_blocks(rt: HostRuntime) -> Result<(), Fail> {
     let alloc = rt.alloc();
     let made = blocks(alloc)?;
-    let found = clauses(alloc, 2, 1, Spot::Assert(7), &made)?.ok_or("none")?;
+    let found = found(alloc, 2, 1, &made)?;
     // Atom 3 stands for the third block, atom 4 for the second; the last one has none.
     let expected: [&[Literal]; 5] = [
         &[lit(3, false), lit(2, true)],
@@ -72,11 +95,48 @@ fn clauses_of_four_blocks(rt: HostRuntime) -> Result<(), Fail> {
     Ok(())
 }
 
+/// One block that supposes a form, or what leaves the range, before the target's check and behind it.
+fn supposing(alloc: Global, before: Says, behind: Says) -> Result<Vec<FormBlock>, AllocError> {
+    let mut cmds = Vec::new(alloc);
+    cmds.push(FormCmd::Supposes(None, before))?;
+    cmds.push(FormCmd::Claims(Spot::Assert(7), None, Says::Form(Form::Plain(false))))?;
+    cmds.push(FormCmd::Supposes(None, behind))?;
+    let next: Vec<FormEdge> = Vec::new(alloc);
+    let mut made = Vec::new(alloc);
+    made.push(FormBlock { cmds, next })?;
+    Ok(made)
+}
+
 #[test]
-fn an_incarnation_that_is_not_there(rt: HostRuntime) -> Result<(), Fail> {
+fn an_operation_that_leaves_the_range_counts_before_the_check(rt: HostRuntime) -> Result<(), Fail> {
     let alloc = rt.alloc();
-    let made = blocks(alloc)?;
-    assert!(rt; clauses(alloc, 1, 1, Spot::Assert(7), &made)?.is_none());
+    let outside = OutOfRange {
+        op: Op::Times,
+        a: 3,
+        b: -7,
+    };
+    let names = Names {
+        first: 1,
+        candidates: 0,
+        terms: 0,
+        rows: &[],
+    };
+    let blocks = supposing(
+        alloc,
+        Says::Form(Form::Is(lit(0, true))),
+        Says::Outside(outside),
+    )?;
+    let found = clauses(alloc, &names, Spot::Assert(7), &blocks);
+    assert!(rt; found.is_ok());
+    let blocks = supposing(
+        alloc,
+        Says::Outside(outside),
+        Says::Form(Form::Is(lit(0, true))),
+    )?;
+    match clauses(alloc, &names, Spot::Assert(7), &blocks) {
+        Err(Refused::Range(e)) => assert_eq!(rt; e, outside),
+        _ => return Err("not refused".into()),
+    }
     Ok(())
 }
 
@@ -111,7 +171,7 @@ fn clauses_of_long_chains(rt: HostRuntime) -> Result<(), Fail> {
             .push(PassiveCmd::Claims(Spot::Assert(7), None, falsehood))?;
         let mut all = Vec::new(alloc);
         all.push(made)?;
-        let found = clauses(alloc, many, 0, Spot::Assert(7), &all)?.ok_or("none")?;
+        let found = found(alloc, many, 0, &all)?;
         assert_eq!(rt; found.clauses.len(), clauses_wanted);
         assert_eq!(rt; found.atoms.len(), atoms_wanted);
     }

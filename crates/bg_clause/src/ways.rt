@@ -1,7 +1,7 @@
 //! The forms that say that blocks fail.
 ghost use Rattle.std.specs.Prelude.{◌≡◌, map, IfOk};
 ghost use Rattle.bg_places.specs.Views.{spot_of};
-ghost use Rattle.bg_incarnate.specs.Views.{cmds_of, edge_of, passive_block_of};
+ghost use Rattle.bg_formed.specs.Views.{form_cmds_of, form_edge_of, form_block_of};
 ghost use Rattle.bg_forms.specs.Forms.{any_of};
 ghost use Rattle.bg_clause.specs.Failing.{fail_cmds, fail_later, fail_edges, fail_block};
 ghost use Rattle.bg_forms.specs.Views.{form_in};
@@ -9,8 +9,8 @@ ghost use Rattle.bg_clause.specs.Views.{short_in};
 
 use crate::fails::fail_cmds;
 use crate::short::{Short, form_at};
+use bg_formed::{FormBlock, FormEdge};
 use bg_forms::{Form, any_of};
-use bg_incarnate::{Edge, PassiveBlock};
 use bg_places::Spot;
 use std::alloc::{AllocError, Global};
 use std::collections::VecDeque;
@@ -31,10 +31,10 @@ fn fail_edge(
     count: u32,
     target: Spot,
     later: &VecDeque<Short>,
-    e: &Edge,
+    e: &FormEdge,
     rest: Form,
 ) -> Result<Form, AllocError>
-    ensures { IfOk result (λ x. form_in x ≡ any_of (fail_cmds count (spot_of target) (cmds_of e.now.cmds.items) (fail_later (map short_in later.now.items) e.now.to)) (form_in rest)) }
+    ensures { IfOk result (λ x. form_in x ≡ any_of (fail_cmds count (spot_of target) (form_cmds_of e.now.cmds.items) (fail_later (map short_in later.now.items) e.now.to)) (form_in rest)) }
 {
     let ahead = fail_later(later, e.to);
     let here = fail_cmds(alloc, count, target, &e.cmds, ahead)?;
@@ -48,12 +48,12 @@ fn fail_edges(
     count: u32,
     target: Spot,
     later: &VecDeque<Short>,
-    edges: &[Edge],
+    edges: &[FormEdge],
 ) -> Result<Form, AllocError>
-    ensures { IfOk result (λ x. form_in x ≡ fail_edges count (spot_of target) (map short_in later.now.items) (map edge_of edges.now)) }
+    ensures { IfOk result (λ x. form_in x ≡ fail_edges count (spot_of target) (map short_in later.now.items) (map form_edge_of edges.now)) }
 {
     let mut made = Form::Plain(false);
-    let mut left: &[Edge] = edges;
+    let mut left: &[FormEdge] = edges;
     while let Some((last, before)) = left.split_last() {
         made = fail_edge(alloc, count, target, later, last, made)?;
         left = before;
@@ -67,9 +67,9 @@ pub fn fail_block(
     count: u32,
     target: Spot,
     later: &VecDeque<Short>,
-    b: &PassiveBlock,
+    b: &FormBlock,
 ) -> Result<Form, AllocError>
-    ensures { IfOk result (λ x. form_in x ≡ fail_block count (spot_of target) (map short_in later.now.items) (passive_block_of b.now)) }
+    ensures { IfOk result (λ x. form_in x ≡ fail_block count (spot_of target) (map short_in later.now.items) (form_block_of b.now)) }
 {
     let on = fail_edges(alloc, count, target, later, &b.next)?;
     fail_cmds(alloc, count, target, &b.cmds, on)

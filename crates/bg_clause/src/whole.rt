@@ -1,30 +1,50 @@
 //! The clauses of the blocks of an implementation for one target.
-ghost use Rattle.std.specs.Prelude.{◌≡◌, ◌-◌, ◌≤◌, map, Some, IfOk};
-ghost use Rattle.bg_text.specs.Views.{option_of};
+ghost use Rattle.std.specs.Prelude.{◌≡◌, ◌+◌, ◌-◌, ◌≤◌, ◌++◌, length, map, Some, IfOk, OnOk};
 ghost use Rattle.bg_places.specs.Views.{spot_of};
 ghost use Rattle.bg_sense.specs.Variables.{count_from};
-ghost use Rattle.bg_formula.specs.Atoms.{atom_of, IsTruth};
+ghost use Rattle.bg_rows.specs.Rows.{Told, row_of};
+ghost use Rattle.bg_formula.specs.Atoms.{atom_of, view_linear, IsTruth};
 ghost use Rattle.bg_formula.specs.Formulas.{formula_of};
-ghost use Rattle.bg_incarnate.specs.Views.{passive_block_of};
+ghost use Rattle.bg_formed.specs.Views.{form_block_of};
 ghost use Rattle.bg_clause.specs.Whole.{formula, clauses_of};
 
-use crate::fitting::fit_blocks;
 use crate::tell::{Telling, tell_entry};
-use bg_formula::{Atom, Clauses};
-use bg_incarnate::PassiveBlock;
+use bg_formed::{FormBlock, refused};
+use bg_formula::{Atom, Clauses, Linear};
 use bg_places::Spot;
+use bg_rows::{Refused, copy};
 use std::alloc::{AllocError, Global};
 
-/// Truth variables as atoms of their numbers.
+/// Truth variables as atoms of their numbers, from one number on, before another.
 #[tactic(auto, using(crate::proofs::Counted::count_rules))]
-fn truths(alloc: Global, many: u32) -> Result<Vec<Atom>, AllocError>
-    ensures { IfOk result (λ made. map atom_of made.items ≡ map IsTruth (count_from 0 many)) }
+fn add_truths(atoms: &mut Vec<Atom>, first: u32, end: u32) -> Result<(), AllocError>
+    requires { first ≤ end }
+    ensures { OnOk result (map atom_of atoms.new.items ≡ map atom_of atoms.old.items ++ map IsTruth (count_from first (end - first))) }
 {
-    let mut made = Vec::new(alloc);
-    for x in 0..many {
-        made.push(Atom::Truth(x))?;
+    for x in first..end {
+        atoms.push(Atom::Truth(x))?;
     }
-    Ok(made)
+    Ok(())
+}
+
+/// The same row with its denial.
+fn copied(alloc: Global, a: &Linear) -> Result<Linear, AllocError>
+    ensures { IfOk result (λ x. view_linear x ≡ view_linear a.now) }
+{
+    let row = copy(alloc, &a.row)?;
+    let denial = copy(alloc, &a.denial)?;
+    Ok(Linear { row, denial })
+}
+
+/// Rows as atoms.
+fn add_rows(alloc: Global, atoms: &mut Vec<Atom>, rows: &[Linear]) -> Result<(), AllocError>
+    ensures { OnOk result (map atom_of atoms.new.items ≡ map atom_of atoms.old.items ++ map view_linear rows.now) }
+{
+    for a in rows {
+        let x = copied(alloc, a)?;
+        atoms.push(Atom::Holds(x))?;
+    }
+    Ok(())
 }
 
 /// The atoms from one number on, before another.
@@ -40,50 +60,81 @@ fn atoms_from(alloc: Global, first: u32, end: u32) -> Result<Vec<Option<u32>>, A
     Ok(made)
 }
 
+/// The sum; more than 2^32 - 1 counts as want of memory.
+fn sum(a: u32, b: u32) -> Result<u32, AllocError>
+    ensures { IfOk result (λ c. c ≡ a + b) }
+{
+    match a.checked_add(b) {
+        Some(c) => Ok(c),
+        None => Err(AllocError),
+    }
+}
+
+/// How many rows there are; more than 2^32 - 1 count as want of memory.
+fn count(rows: &[Linear]) -> Result<u32, AllocError>
+    ensures { IfOk result (λ n. n ≡ length (map view_linear rows.now)) }
+{
+    match u32::try_from(rows.len()) {
+        Ok(n) => Ok(n),
+        Err(_) => Err(AllocError),
+    }
+}
+
 /// The formula. 2^32 atoms count as want of memory.
 fn formula(
     alloc: Global,
-    count: u32,
-    candidates: u32,
+    names: &Names<'_>,
     target: Spot,
-    blocks: &[PassiveBlock],
+    blocks: &[FormBlock],
 ) -> Result<Clauses, AllocError>
-    ensures { IfOk result (λ made. formula_of made ≡ formula count candidates (spot_of target) (map passive_block_of blocks.now)) }
+    ensures { IfOk result (λ made. formula_of made ≡ formula names.now.first names.now.candidates names.now.terms (map view_linear names.now.rows.now) (spot_of target) (map form_block_of blocks.now)) }
 {
-    let first = match count.checked_add(candidates) {
-        Some(n) => n,
-        None => return Err(AllocError),
-    };
+    let truths = sum(names.first, names.candidates)?;
+    let free = sum(truths, count(names.rows)?)?;
     let Telling {
         fails: _,
         clauses,
         next,
-    } = tell_entry(alloc, count, target, first, blocks)?;
-    let atoms = truths(alloc, next)?;
-    let units = atoms_from(alloc, count, first)?;
+    } = tell_entry(alloc, names.first, target, free, blocks)?;
+    let mut atoms = Vec::new(alloc);
+    add_truths(&mut atoms, 0, truths)?;
+    add_rows(alloc, &mut atoms, names.rows)?;
+    add_truths(&mut atoms, free, next)?;
+    let candidates = atoms_from(alloc, names.first, truths)?;
     Ok(Clauses {
-        terms: 0,
+        terms: names.terms,
         atoms,
         clauses,
-        candidates: units,
+        candidates,
     })
 }
 
-/// The clauses that say that the first block is not well for the target. An incarnation has the atom of its number, and a candidate
-/// the one of its number behind them. None where the blocks hold other than formulas over truth values that name incarnations
-/// below `count` and candidates below `candidates`. 2^32 atoms count as want of memory.
+/// What the atoms of forms are: truth variables below `first`, behind them one for each candidate, and then the rows, which name terms
+/// below `terms`.
+#[derive(Clone, Copy)]
+pub struct Names<'a> {
+    pub first: u32,
+    pub candidates: u32,
+    pub terms: u32,
+    pub rows: &'a [Linear],
+}
+
+/// The clauses that say that the first block is not well for the target. Atoms behind the rows are names of parts of forms.
+///
+/// # Errors
+/// `Range` with the first operation that leaves 128 bits in a form of a command from which the target's check is reached; and want
+/// of memory, as which 2^32 atoms count.
 pub fn clauses(
     alloc: Global,
-    count: u32,
-    candidates: u32,
+    names: &Names<'_>,
     target: Spot,
-    blocks: &[PassiveBlock],
-) -> Result<Option<Clauses>, AllocError>
-    ensures { IfOk result (λ made. option_of formula_of made ≡ clauses_of count candidates (spot_of target) (map passive_block_of blocks.now)) }
+    blocks: &[FormBlock],
+) -> Result<Clauses, Refused>
+    ensures { Told formula_of result (clauses_of names.now.first names.now.candidates names.now.terms (map view_linear names.now.rows.now) (spot_of target) (map form_block_of blocks.now)) }
 {
-    if !fit_blocks(count as usize, candidates as usize, blocks) {
-        return Ok(None);
+    if let Some(e) = refused(alloc, target, blocks)? {
+        return Err(Refused::Range(e));
     }
-    let made = formula(alloc, count, candidates, target, blocks)?;
-    Ok(Some(made))
+    let made = formula(alloc, names, target, blocks)?;
+    Ok(made)
 }

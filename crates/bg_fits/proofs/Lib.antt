@@ -1,4 +1,4 @@
 pub mod Chains
 pub mod Empties
 pub mod Statements
-pub mod Bools
+pub mod Synonyms

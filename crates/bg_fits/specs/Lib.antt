@@ -1,3 +1,4 @@
 pub mod Truths
 pub mod Written
 pub mod Scalars
+pub mod Holdings

@@ -1,17 +1,14 @@
 -- The same of forms of writing, part by part.
-use Rattle.std.specs.Prelude.{ℕ, Bool, true, false, ◌&&◌, List, [], ◌∷◌}
+use Rattle.std.specs.Prelude.{Bool, true, false, ◌&&◌, List, [], ◌∷◌}
 use Rattle.bg_base.specs.declared.pos.Pos.{Pos}
 use Rattle.bg_text.specs.declared.expr.InfixSign.{InfixSign}
 use Rattle.bg_text.specs.declared.expr.InfixSign.TheVariants as sign
 use Rattle.bg_text.specs.declared.expr.PrefixSign.{PrefixSign}
 use Rattle.bg_text.specs.declared.expr.PrefixSign.TheVariants as prefix
 use Rattle.bg_text.specs.declared.expr.TreePrefix.{TreePrefix}
-use Rattle.bg_ast.specs.Values as v
 use Rattle.bg_ast.specs.Resolved as r
 use Rattle.bg_ast.specs.Meaning.{ex_of, guard_of, sts_of}
 use Rattle.bg_fits.specs.Truths.{is_plain, is_plain_guard, is_plain_st, is_empty}
-use Rattle.bg_fits.specs.declared.types.Kind.{Kind}
-use Rattle.bg_fits.specs.declared.types.Kind.TheVariants as kind
 
 -- a sign that may stand between truth values, and gives one
 abbrev pub is_truth_sign : InfixSign → Bool
@@ -47,9 +44,3 @@ are_plain_values (t ∷ ts) (r.More e es) = is_empty t.brackets && (is_plain (ex
 abbrev pub are_plain_arms : r.Arms → Bool
 are_plain_arms r.NoArm = true
 are_plain_arms (r.Arm g body arms) = is_plain_guard (guard_of g) && (is_plain_st (sts_of body) && are_plain_arms arms)
-
--- whether a type of this kind is `bool`, where each declared one is what the first argument says
-abbrev pub is_bool_kind : (ℕ → v.Ty) → Kind → Bool
-is_bool_kind named kind.Truth = true
-is_bool_kind named (kind.Named k) = v.is_bool (named k)
-is_bool_kind named kind.Other = false

@@ -8,4 +8,4 @@ mod program;
 mod types;
 
 pub use program::is_over_truths;
-pub use types::are_truths;
+pub use types::{Holding, are_truths, push_holdings};

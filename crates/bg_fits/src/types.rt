@@ -1,47 +1,57 @@
-//! Declarations of truth values.
-ghost use Rattle.std.specs.Prelude.{◌≡◌, ◌&&◌, ℕ, map, slice_get};
+//! Declarations of truth values and whole numbers.
+ghost use Rattle.std.specs.Prelude.{◌≡◌, ◌++◌, ℕ, map, slice_get, if◌then◌else◌, OnOk};
 ghost use Rattle.bg_ast.specs.Values as v;
 ghost use Rattle.bg_ast.specs.Meaning.{type_in, synonym_or, named_of, decl_of};
 ghost use Rattle.bg_ast.specs.Views.{type_of, type_name_of, declared_of};
 ghost use Rattle.bg_fits.specs.Truths.{is_truth_decl, are_truth_decls};
-ghost use Rattle.bg_fits.specs.Written.{is_bool_kind};
+ghost use Rattle.bg_fits.specs.Holdings.{holding_of, holding_by, holdings_of};
 
 use crate::plain::is_empty;
 use bg_ast::resolved::{Declared, TypeName, WrittenType};
+use std::alloc::AllocError;
 
-/// What a type is: `bool`, a declared one, or another, perhaps in parentheses.
+/// What a variable of a type holds: truth values, whole numbers, or something else.
+#[derive(Clone, Copy, PartialEq, Eq, Debug)]
+pub enum Holding {
+    Truths,
+    Numbers,
+    Others,
+}
+
+/// What a type is: `bool`, `int`, a declared one, or another, perhaps in parentheses.
 #[derive(Clone, Copy)]
 pub enum Kind {
     Truth,
+    Number,
     Named(u32),
     Other,
 }
 
 /// The kind, where there is no bracket before it.
 fn beside(is_bare: bool, kind: Kind) -> Kind
-    ensures { (named : ℕ → v.Ty) → is_bool_kind named result ≡ (is_bare && is_bool_kind named kind) }
+    ensures { (named : ℕ → v.Ty) → holding_by named result ≡ (if is_bare then holding_by named kind else Holding.Others) }
 {
     if is_bare { kind } else { Kind::Other }
 }
 
 /// What a written type is.
 #[cycle(kind_of)]
-#[tactic(auto, using(crate::proofs::Bools::bool_map))]
+#[tactic(auto, using(crate::proofs::Synonyms::holding_map))]
 fn kind_of(ty: &WrittenType) -> Kind
-    ensures { (named : ℕ → v.Ty) → is_bool_kind named result ≡ v.is_bool (type_in named (type_of ty.now)) }
+    ensures { (named : ℕ → v.Ty) → holding_by named result ≡ holding_of (type_in named (type_of ty.now)) }
 {
     match ty {
         WrittenType::Bool(_) => Kind::Truth,
+        WrittenType::Int(_) => Kind::Number,
         WrittenType::Parens(_, inner) => kind_of(inner),
         WrittenType::Declared(_, k) => Kind::Named(*k),
-        WrittenType::Int(_) => Kind::Other,
         WrittenType::Map(brackets, inner) => beside(is_empty(brackets), kind_of(inner)),
     }
 }
 
 /// What the type stands for that is declared with this number.
 fn step(types: &[TypeName], k: u32) -> Kind
-    ensures { (named : ℕ → v.Ty) → is_bool_kind named result ≡ v.is_bool (synonym_or (v.UserTy k) (type_in named) (slice_get (map type_name_of types.now) k)) }
+    ensures { (named : ℕ → v.Ty) → holding_by named result ≡ holding_of (synonym_or (v.UserTy k) (type_in named) (slice_get (map type_name_of types.now) k)) }
 {
     match types.get(k as usize) {
         None => Kind::Other,
@@ -52,29 +62,57 @@ fn step(types: &[TypeName], k: u32) -> Kind
     }
 }
 
-/// Whether a declared type stands for `bool`.
-fn is_bool_named(types: &[TypeName], k: u32) -> bool
-    ensures { result ≡ v.is_bool (named_of (map type_name_of types.now) k) }
+/// What a variable of a declared type holds.
+fn named_holding(types: &[TypeName], k: u32) -> Holding
+    ensures { result ≡ holding_of (named_of (map type_name_of types.now) k) }
 {
     let mut at = k;
     for _ in 0..types.len() + 1 {
         match step(types, at) {
-            Kind::Truth => return true,
-            Kind::Other => return false,
+            Kind::Truth => return Holding::Truths,
+            Kind::Number => return Holding::Numbers,
+            Kind::Other => return Holding::Others,
             Kind::Named(next) => at = next,
         }
     }
-    false
+    Holding::Others
+}
+
+/// What a variable holds, by what its type stands for.
+fn held_by(types: &[TypeName], d: &Declared) -> Holding
+    ensures { result ≡ holding_of (decl_of (named_of (map type_name_of types.now)) (declared_of d.now)).ty }
+{
+    match kind_of(&d.ty) {
+        Kind::Truth => Holding::Truths,
+        Kind::Number => Holding::Numbers,
+        Kind::Other => Holding::Others,
+        Kind::Named(k) => named_holding(types, k),
+    }
+}
+
+/// Adds what each variable holds, by what its type stands for where these types are declared.
+pub fn push_holdings(
+    types: &[TypeName],
+    declared: &[Declared],
+    made: &mut Vec<Holding>,
+) -> Result<(), AllocError>
+    ensures { OnOk result (made.new.items ≡ made.old.items ++ holdings_of (map (decl_of (named_of (map type_name_of types.now))) (map declared_of declared.now))) }
+{
+    for d in declared {
+        made.push(held_by(types, d))?;
+    }
+    Ok(())
 }
 
 /// Whether a variable is of type `bool`.
+#[tactic(auto, using(crate::proofs::Synonyms::truths_alone))]
 fn is_truth(types: &[TypeName], d: &Declared) -> bool
     ensures { result ≡ is_truth_decl (decl_of (named_of (map type_name_of types.now)) (declared_of d.now)) }
 {
-    match kind_of(&d.ty) {
-        Kind::Truth => true,
-        Kind::Other => false,
-        Kind::Named(k) => is_bool_named(types, k),
+    match held_by(types, d) {
+        Holding::Truths => true,
+        Holding::Numbers => false,
+        Holding::Others => false,
     }
 }
 

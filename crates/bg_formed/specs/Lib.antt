@@ -6,3 +6,4 @@ pub mod Fitting
 pub mod Views
 pub mod Truths
 pub mod Seen
+pub mod Agree

@@ -63,7 +63,8 @@ fn in_front(r: &Says, u: Use) -> Use
     }
 }
 
-fn use_cmd(target: Spot, k: &FormCmd, u: Use) -> Use
+/// One command in front of what is behind it.
+pub fn use_cmd(target: Spot, k: &FormCmd, u: Use) -> Use
     ensures { use_of result ≡ use_cmds (spot_of target) (form_cmd_of k.now ∷ []) (use_of u) }
 {
     match k {
@@ -94,7 +95,8 @@ fn use_cmds(target: Spot, cmds: &[FormCmd], u: Use) -> Use
     made
 }
 
-fn use_later(later: &VecDeque<Use>, to: usize) -> Use
+/// What is reached at a later block; nothing where there is none.
+pub fn use_later(later: &VecDeque<Use>, to: usize) -> Use
     ensures { use_of result ≡ use_later (map use_of later.now.items) to }
 {
     match later.get(to) {
@@ -116,8 +118,9 @@ fn use_edge(target: Spot, later: &VecDeque<Use>, e: &FormEdge, rest: Use) -> Use
     }
 }
 
+/// What is reached on some way.
 #[tactic(auto, using(crate::proofs::Onward::use_rules))]
-fn use_edges(target: Spot, later: &VecDeque<Use>, edges: &[FormEdge]) -> Use
+pub fn use_edges(target: Spot, later: &VecDeque<Use>, edges: &[FormEdge]) -> Use
     ensures { use_of result ≡ use_edges (spot_of target) (map use_of later.now.items) (map form_edge_of edges.now) }
 {
     let mut made = unused();
@@ -136,8 +139,9 @@ fn use_block(target: Spot, later: &VecDeque<Use>, b: &FormBlock) -> Use
     use_cmds(target, &b.cmds, on)
 }
 
+/// What is reached from each block on.
 #[tactic(auto, using(crate::proofs::Onward::uses_rules))]
-fn uses(alloc: Global, target: Spot, blocks: &[FormBlock]) -> Result<VecDeque<Use>, AllocError>
+pub fn uses(alloc: Global, target: Spot, blocks: &[FormBlock]) -> Result<VecDeque<Use>, AllocError>
     ensures { IfOk result (λ made. map use_of made.items ≡ uses (spot_of target) (map form_block_of blocks.now)) }
 {
     let mut made = VecDeque::new(alloc);

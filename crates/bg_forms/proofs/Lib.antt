@@ -1,3 +1,4 @@
 pub mod Meaning
 pub mod Chains
 pub mod ChainForms
+mod Spines

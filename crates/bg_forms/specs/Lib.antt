@@ -4,3 +4,4 @@ pub mod Fitting
 pub mod Chains
 pub mod ChainForms
 pub mod Worth
+pub mod Spines

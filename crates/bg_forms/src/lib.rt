@@ -1,6 +1,7 @@
 //! Formulas over truth values as forms: conjunctions, denials, and pairs that are worth the same.
 #![tactic(auto)]
 
+mod copies;
 mod fits;
 mod form;
 mod formed;
@@ -9,6 +10,7 @@ pub mod laws;
 mod tests;
 mod worth;
 
+pub use copies::copy;
 pub use fits::fits_ex;
 pub use form::{Form, Parts, any_of, both_of, denied, is_true, opposite, same_of};
 pub use formed::form_ex;

@@ -2,7 +2,7 @@
 use Rattle.std.proofs.Common.{◌≡◌, ℕ, List, [], ◌∷◌, ◌++◌, Bool, true, false, Option, Some, None, if◌then◌else◌, MatchOption, option_map, refl, sym, ap, ◌∙◌}
 use Rattle.bg_base.specs.declared.pos.Pos.{Pos}
 use Rattle.bg_text.specs.Tokens.{Tok}
-use Rattle.bg_front.specs.Later.{Spot, word_of, behind, is_refused, spot_from, first_from, AreJudgedFrom, IsUnjudgedFrom}
+use Rattle.bg_front.specs.Later.{Spot, behind, is_refused, spot_from, first_from, AreJudgedFrom, IsUnjudgedFrom}
 
 -- one judged token in front
 judged_more : (s : Spot) (t : Tok) (ts : List Tok) → is_refused s t.kind ≡ false → AreJudgedFrom (behind s t.kind) ts → AreJudgedFrom s (t ∷ ts)
@@ -26,8 +26,8 @@ none_judged s [] h = judged_none s
 none_judged s (t ∷ ts) h = by (none_judged (behind s t.kind) ts) (is_refused s t.kind) refl
   where
     by : (first_from (behind s t.kind) ts ≡ None → AreJudgedFrom (behind s t.kind) ts) → (c : Bool) → is_refused s t.kind ≡ c → AreJudgedFrom s (t ∷ ts)
-    by more true e = let k : Some (t.pos, word_of t.kind t.text) ≡ None = ap (λ (c : Bool). if c then Some (t.pos, word_of t.kind t.text) else first_from (behind s t.kind) ts) (sym e) ∙ h in cc
-    by more false e = judged_more s t ts e (more (ap (λ (c : Bool). if c then Some (t.pos, word_of t.kind t.text) else first_from (behind s t.kind) ts) (sym e) ∙ h))
+    by more true e = let k : Some (t.pos, t.text) ≡ None = ap (λ (c : Bool). if c then Some (t.pos, t.text) else first_from (behind s t.kind) ts) (sym e) ∙ h in cc
+    by more false e = judged_more s t ts e (more (ap (λ (c : Bool). if c then Some (t.pos, t.text) else first_from (behind s t.kind) ts) (sym e) ∙ h))
 
 pub some_unjudged : (s : Spot) (ts : List Tok) (p : Pos) (w : List ℕ) → first_from s ts ≡ Some (p, w) → IsUnjudgedFrom s ts p w
 some_unjudged s [] p w h = absurd (let e : None ≡ Some (p, w) = h in cc)
@@ -35,27 +35,27 @@ some_unjudged s (t ∷ ts) p w h = by (some_unjudged (behind s t.kind) ts p w) (
   where
     by : (first_from (behind s t.kind) ts ≡ Some (p, w) → IsUnjudgedFrom (behind s t.kind) ts p w) → (c : Bool) → is_refused s t.kind ≡ c → IsUnjudgedFrom s (t ∷ ts) p w
     by more true e =
-        let k : Some (t.pos, word_of t.kind t.text) ≡ Some (p, w) = ap (λ (c : Bool). if c then Some (t.pos, word_of t.kind t.text) else first_from (behind s t.kind) ts) (sym e) ∙ h in
-        let both : (t.pos, word_of t.kind t.text) ≡ (p, w) = cc in
+        let k : Some (t.pos, t.text) ≡ Some (p, w) = ap (λ (c : Bool). if c then Some (t.pos, t.text) else first_from (behind s t.kind) ts) (sym e) ∙ h in
+        let both : (t.pos, t.text) ≡ (p, w) = cc in
         record { front = []; token = t; rest = ts; cut = refl; refused = e; at = sym (ap (λ (x : Pos × List ℕ). x.0) both); named = sym (ap (λ (x : Pos × List ℕ). x.1) both); before = judged_none s }
-    by more false e = unjudged_more s t ts p w e (more (ap (λ (c : Bool). if c then Some (t.pos, word_of t.kind t.text) else first_from (behind s t.kind) ts) (sym e) ∙ h))
+    by more false e = unjudged_more s t ts p w e (more (ap (λ (c : Bool). if c then Some (t.pos, t.text) else first_from (behind s t.kind) ts) (sym e) ∙ h))
 
 -- and the other way round
 pub judged_is_none : (s : Spot) (ts : List Tok) → AreJudgedFrom s ts → first_from s ts ≡ None
 judged_is_none s [] h = refl
 judged_is_none s (t ∷ ts) h =
-    ap (λ (c : Bool). if c then Some (t.pos, word_of t.kind t.text) else first_from (behind s t.kind) ts) (h [] t ts refl)
+    ap (λ (c : Bool). if c then Some (t.pos, t.text) else first_from (behind s t.kind) ts) (h [] t ts refl)
     ∙ judged_is_none (behind s t.kind) ts (λ front u rest c. h (t ∷ front) u rest (ap (λ (x : List Tok). t ∷ x) c))
 
-found_at : (s : Spot) (front : List Tok) (t : Tok) (rest : List Tok) → AreJudgedFrom s front → is_refused (spot_from s front) t.kind ≡ true → first_from s (front ++ t ∷ rest) ≡ Some (t.pos, word_of t.kind t.text)
-found_at s [] t rest h e = ap (λ (c : Bool). if c then Some (t.pos, word_of t.kind t.text) else first_from (behind s t.kind) rest) e
+found_at : (s : Spot) (front : List Tok) (t : Tok) (rest : List Tok) → AreJudgedFrom s front → is_refused (spot_from s front) t.kind ≡ true → first_from s (front ++ t ∷ rest) ≡ Some (t.pos, t.text)
+found_at s [] t rest h e = ap (λ (c : Bool). if c then Some (t.pos, t.text) else first_from (behind s t.kind) rest) e
 found_at s (u ∷ front) t rest h e =
-    ap (λ (c : Bool). if c then Some (u.pos, word_of u.kind u.text) else first_from (behind s u.kind) (front ++ t ∷ rest)) (h [] u front refl)
+    ap (λ (c : Bool). if c then Some (u.pos, u.text) else first_from (behind s u.kind) (front ++ t ∷ rest)) (h [] u front refl)
     ∙ found_at (behind s u.kind) front t rest (λ a v b c. h (u ∷ a) v b (ap (λ (x : List Tok). u ∷ x) c)) e
 
 pub unjudged_is_some : (s : Spot) (ts : List Tok) (p : Pos) (w : List ℕ) → IsUnjudgedFrom s ts p w → first_from s ts ≡ Some (p, w)
 unjudged_is_some s ts p w h =
-    ap (first_from s) h.cut ∙ found_at s h.front h.token h.rest h.before h.refused ∙ ap (λ (x : Pos × List ℕ). Some x) (ap (λ (x : Pos). (x, word_of h.token.kind h.token.text)) (sym h.at) ∙ ap (λ (x : List ℕ). (p, x)) (sym h.named))
+    ap (first_from s) h.cut ∙ found_at s h.front h.token h.rest h.before h.refused ∙ ap (λ (x : Pos × List ℕ). Some x) (ap (λ (x : Pos). (x, h.token.text)) (sym h.at) ∙ ap (λ (x : List ℕ). (p, x)) (sym h.named))
 
 is_there : Option (Pos × List ℕ) → Bool
 is_there None = false

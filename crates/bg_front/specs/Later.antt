@@ -1,5 +1,5 @@
 -- What isn't judged yet: tokens that no program may have.
-use Rattle.std.specs.Prelude.{◌≡◌, ℕ, List, [], ◌∷◌, ◌++◌, Bool, true, false, not, ◌&&◌, ◌||◌, if◌then◌else◌, Option, Some, None, codes}
+use Rattle.std.specs.Prelude.{◌≡◌, ℕ, List, [], ◌∷◌, ◌++◌, Bool, true, false, not, ◌&&◌, ◌||◌, if◌then◌else◌, Option, Some, None}
 use Rattle.bg_base.specs.declared.pos.Pos.{Pos}
 use Rattle.bg_text.specs.declared.token.Kind.{Kind}
 use Rattle.bg_text.specs.declared.token.Kind.TheVariants as kinds
@@ -12,15 +12,8 @@ is_unjudged kinds.Type = true
 is_unjudged kinds.Const = true
 is_unjudged kinds.Function = true
 is_unjudged kinds.Axiom = true
-is_unjudged kinds.Int = true
-is_unjudged (kinds.Number z) = true
 is_unjudged kinds.OpenBracket = true
 is_unjudged _ = false
-
--- what is named: the word `number` for a number, else the token as it is written
-abbrev pub word_of : Kind → List ℕ → List ℕ
-word_of (kinds.Number z) text = codes "number"
-word_of _ text = text
 
 -- where a token stands: whether the token before it opened a brace, and whether it stands in an attribute
 pub record Spot : Type 0 where
@@ -54,7 +47,7 @@ is_refused s k = not s.inside && is_unjudged k
 abbrev pub AreJudgedFrom : Spot → List Tok → Type 0
 AreJudgedFrom s ts = (front : List Tok) (t : Tok) (rest : List Tok) → ts ≡ front ++ t ∷ rest → is_refused (spot_from s front) t.kind ≡ false
 
--- the token at this position, of this word, isn't judged yet, and those before it are
+-- the token at this position, which is written so, isn't judged yet, and those before it are
 pub record IsUnjudgedFrom (s : Spot) (ts : List Tok) (pos : Pos) (word : List ℕ) : Type 0 where
   pub front : List Tok
   pub token : Tok
@@ -62,7 +55,7 @@ pub record IsUnjudgedFrom (s : Spot) (ts : List Tok) (pos : Pos) (word : List �
   pub cut : ts ≡ front ++ token ∷ rest
   pub refused : is_refused (spot_from s front) token.kind ≡ true
   pub at : pos ≡ token.pos
-  pub named : word ≡ word_of token.kind token.text
+  pub named : word ≡ token.text
   pub before : AreJudgedFrom s front
 
 abbrev pub AreJudged : List Tok → Type 0
@@ -74,4 +67,4 @@ IsUnjudged = IsUnjudgedFrom outside
 -- the first of the tokens that isn't judged yet
 abbrev pub first_from : Spot → List Tok → Option (Pos × List ℕ)
 first_from s [] = None
-first_from s (t ∷ ts) = if is_refused s t.kind then Some (t.pos, word_of t.kind t.text) else first_from (behind s t.kind) ts
+first_from s (t ∷ ts) = if is_refused s t.kind then Some (t.pos, t.text) else first_from (behind s t.kind) ts

@@ -1,7 +1,7 @@
 //! What isn't judged yet: one list of tokens that no program may have.
 ghost use Rattle.std.specs.Prelude.{◌≡◌, MatchOption, option_map};
 ghost use Rattle.bg_text.specs.Tokens.{views};
-ghost use Rattle.bg_front.specs.Later.{is_unjudged, spot_of, word_of, behind, is_refused, outside, first_from, AreJudged, IsUnjudged};
+ghost use Rattle.bg_front.specs.Later.{is_unjudged, spot_of, behind, is_refused, outside, first_from, AreJudged, IsUnjudged};
 
 use bg_base::Pos;
 use bg_text::{Kind, Token};
@@ -23,22 +23,9 @@ fn is_unjudged(kind: Kind) -> bool
         Kind::Const => true,
         Kind::Function => true,
         Kind::Axiom => true,
-        // whole numbers
-        Kind::Int => true,
-        Kind::Number(_) => true,
         // maps
         Kind::OpenBracket => true,
         _ => false,
-    }
-}
-
-/// What is named: the word `number` for a number, else the token as it is written.
-fn word_of<'a>(kind: Kind, text: &'a [u8]) -> &'a [u8]
-    ensures { result.now ≡ word_of kind text.entry.now }
-{
-    match kind {
-        Kind::Number(_) => b"number".as_slice(),
-        _ => text,
     }
 }
 
@@ -81,14 +68,14 @@ fn first_of<'a>(tokens: &[Token<'a>]) -> Option<(Pos, &'a [u8])>
     for i in 0..tokens.len() {
         let token = tokens[i];
         if is_refused(spot, token.kind) {
-            return Some((token.pos, word_of(token.kind, token.text)));
+            return Some((token.pos, token.text));
         }
         spot = behind(spot, token.kind);
     }
     None
 }
 
-/// The position and the word of the first token outside attributes that isn't judged yet, where there is one.
+/// The position and the text of the first token outside attributes that isn't judged yet, where there is one.
 pub fn first_unjudged<'a>(tokens: &[Token<'a>]) -> Option<(Pos, &'a [u8])>
     ensures { MatchOption result (AreJudged (views tokens.now)) (λ r. IsUnjudged (views tokens.now) r.0 r.1.now) }
 {

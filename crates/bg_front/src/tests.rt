@@ -113,12 +113,12 @@ const TYPES: [(&[u8], &[u8]); 9] = [
 
 const LATER: [(&[u8], &[u8]); 8] = [
     (
-        b"procedure {:n 1} P(x: int) { }",
-        b"error: 1:23 unsupported int\n",
+        b"procedure {:n 1} P(x: [int]int) { }",
+        b"error: 1:23 unsupported [\n",
     ),
     (
-        b"procedure P() { assert 12 == 13; }",
-        b"error: 1:24 unsupported number\n",
+        b"procedure P() { assert 12 == 13; } const c: int;",
+        b"error: 1:36 unsupported const\n",
     ),
     (
         b"procedure P() { } const c: bool;",
@@ -140,7 +140,9 @@ const LATER: [(&[u8], &[u8]); 8] = [
     (b"axiom true;", b"error: 1:1 unsupported axiom\n"),
 ];
 
-const JUDGED: [&[u8]; 6] = [
+const JUDGED: [&[u8]; 8] = [
+    b"procedure {:n 1} P(x: int) { }",
+    b"procedure P() { assert 12 == 13; }",
     b"procedure P() { while (true) invariant false; { break; } }",
     b"procedure P() { if (*) { goto A; } else { return; } A: }",
     b"procedure P() { } var g: bool;",

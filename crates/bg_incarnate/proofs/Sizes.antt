@@ -62,7 +62,7 @@ module _ (g f : ℕ) where
   longer true j n m xs ys h k = ap (λ i. suc i) h
   longer false j n m xs ys h k = ap (λ i. suc i) k
 
-  length_merge : (n : ℕ) (js : List ℕ) (os : List (List ℕ)) → length (merge n js os) ≡ length js
+  pub length_merge : (n : ℕ) (js : List ℕ) (os : List (List ℕ)) → length (merge n js os) ≡ length js
   length_merge n [] os = refl
   length_merge n (j ∷ js) os = longer (all_begin j os) j n (length js) _ _ (length_merge n js (tails os)) (length_merge (suc n) js (tails os))
 
@@ -72,7 +72,7 @@ module _ (g f : ℕ) where
       let n1 = after_merge n v.globals (globals_in (v ∷ vs)) in
       (length_merge n v.globals (globals_in (v ∷ vs)) ∙ s.0.0, length_merge n1 v.frame (frames_in (v ∷ vs)) ∙ s.0.1)
 
-  here_sized : (ways : Ways) → WaysSized g f ways → AreSized g f (ways_here ways)
+  pub here_sized : (ways : Ways) → WaysSized g f ways → AreSized g f (ways_here ways)
   here_sized [] s = tt
   here_sized (vs ∷ ways) s = s.0
 
@@ -100,13 +100,13 @@ module _ (g f : ℕ) where
   counted_one true n after m t h = h n
   counted_one false n after m t h = let e = h (suc n) in omega (arith, e)
 
-  merge_counted : (js : List ℕ) (os : List (List ℕ)) (ts : List Ty) (n : ℕ) → length js ≡ length ts → after_merge n js os ≡ n + length (merge_types js os ts)
+  pub merge_counted : (js : List ℕ) (os : List (List ℕ)) (ts : List Ty) (n : ℕ) → length js ≡ length ts → after_merge n js os ≡ n + length (merge_types js os ts)
   merge_counted [] os ts n e = omega arith
   merge_counted (j ∷ js) os [] n e = absurd (omega (arith, e))
   merge_counted (j ∷ js) os (t ∷ ts) n e =
       counted_one (all_begin j os) n (λ k. after_merge k js (tails os)) (merge_types js (tails os) ts) t (λ k. merge_counted js (tails os) ts k (omega (arith, e)))
 
-  arrive_counted : (gts fts : List Ty) (entry : Env) (vs : List Env) (n : ℕ) → length gts ≡ g → length fts ≡ f → AreSized g f vs → (arrive_at entry vs n).next ≡ n + length (arrive_types gts fts vs)
+  pub arrive_counted : (gts fts : List Ty) (entry : Env) (vs : List Env) (n : ℕ) → length gts ≡ g → length fts ≡ f → AreSized g f vs → (arrive_at entry vs n).next ≡ n + length (arrive_types gts fts vs)
   arrive_counted gts fts entry [] n h k s = omega arith
   arrive_counted gts fts entry (v ∷ vs) n h k s =
       let gs = merge_types v.globals (globals_in (v ∷ vs)) gts in
@@ -117,7 +117,7 @@ module _ (g f : ℕ) where
       let l = length-append gs bs in
       omega (arith, a, b, l)
 
-  types_counted : (ds : List Decl) → length (types_of ds) ≡ length ds
+  pub types_counted : (ds : List Decl) → length (types_of ds) ≡ length ds
   types_counted [] = refl
   types_counted (d ∷ ds) = ap (λ n. suc n) (types_counted ds)
 
@@ -152,7 +152,7 @@ module _ (g f : ℕ) where
       omega (arith, a, b, c, d, e, h, i, j, l)
   cmd_counted tys Finish v n h = omega arith
 
-  cmds_counted : (tys : Var → Ty) (ks : List Cmd) (v : Env) (n : ℕ) → AreEven ks → (pass_all ks v n).next ≡ n + length (cmds_types tys ks)
+  pub cmds_counted : (tys : Var → Ty) (ks : List Cmd) (v : Env) (n : ℕ) → AreEven ks → (pass_all ks v n).next ≡ n + length (cmds_types tys ks)
   cmds_counted tys [] v n h = omega arith
   cmds_counted tys (k ∷ ks) v n h =
       let a = cmd_counted tys k v n h.0 in
@@ -176,7 +176,7 @@ module _ (g f : ℕ) where
       let m = length-append cs rest in
       omega (arith, r, a, c, l, m)
 
-length_count : (k n : ℕ) → length (count_from k n) ≡ n
+pub length_count : (k n : ℕ) → length (count_from k n) ≡ n
 length_count k zero = refl
 length_count k (suc n) = ap (λ m. suc m) (length_count (suc k) n)
 

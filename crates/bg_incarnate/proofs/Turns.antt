@@ -11,10 +11,11 @@ use Rattle.bg_passive.specs.Incarnations.{Env, Arrival, edges, entry_env, passiv
 use Rattle.bg_passive.specs.Arrivals.{Ways, way_to, ways_to, ways_here, ways_on, arrive_at, arrived}
 use Rattle.bg_incarnate.specs.declared.arrived.Arrived.{Arrived}
 use Rattle.bg_incarnate.specs.declared.blocks.PassiveBlock as code
+use Rattle.bg_incarnate.specs.declared.blocks.Incarnations.{Incarnations}
 use Rattle.bg_incarnate.specs.declared.held.Held.{Held}
-use Rattle.bg_incarnate.specs.Views.{held_env, passive_block_of, onto}
+use Rattle.bg_incarnate.specs.Views.{held_env, passive_block_of, incarnations_of, incarnations_at, onto}
 use Rattle.bg_incarnate.specs.Arrived.{arrival_of, ways_of}
-use Rattle.bg_incarnate.specs.Walked.{Walked, walked_of, ways_in, open_of, passed_at, walked_at, ways_after, walk, walk_after, arrival_in, first_in, next_in, finished}
+use Rattle.bg_incarnate.specs.Walked.{Walked, walked_of, ways_in, open_of, passed_at, walked_at, ways_after, walk, walk_after, arrival_in, first_in, next_in, finished, arrived_with}
 use Rattle.bg_incarnate.proofs.Meeting.{last_first}
 use Rattle.bg_incarnate.proofs.Passing.{drop_item}
 use Rattle.bg_incarnate.proofs.Walks.{open_grown, arrivals_are, passives_are, count_step}
@@ -103,6 +104,41 @@ finish_end f bs ws made whole h known =
 pub finish_short : (bs : List Block) (ws : List Arrived) (made : List code.PassiveBlock) (whole : List PassiveBlock) → ws ≡ [] → map passive_block_of made ++ finished (map walked_of ws) bs ≡ whole → map passive_block_of made ≡ whole
 finish_short bs ws made whole h known =
     sym (append-nil (map passive_block_of made)) ∙ ap (λ l. map passive_block_of made ++ finished (map walked_of l) bs) (sym h) ∙ known
+
+-- the incarnations at one more arrival
+pub arrive_step : {A : Type 0} (bs : List A) (i : ℕ) (b : A) (ws rest : List Arrived) (w : Arrived) (made new : List Incarnations) (a : Incarnations) (whole : List (List ℕ × List ℕ)) → i < length bs → b ≡ get_or bs i b → ws ≡ w ∷ rest → new ≡ made ++ a ∷ [] → incarnations_of a ≡ incarnations_at (arrival_of w) → map incarnations_of made ++ arrived_with (map walked_of ws) (drop i bs) ≡ whole → map incarnations_of new ++ arrived_with (map walked_of rest) (drop (i + 1) bs) ≡ whole
+arrive_step bs i b ws rest w made new a whole h at is more same known =
+    let end = arrived_with (map walked_of rest) (drop (i + 1) bs) in
+    let made' = map incarnations_of made in
+    ap (λ l. l ++ end) (ap (map incarnations_of) more ∙ map-append incarnations_of made (a ∷ []))
+    ∙ append_assoc made' (incarnations_of a ∷ []) end
+    ∙ ap (λ l. made' ++ l ∷ end) same
+    ∙ ap (λ l. made' ++ arrived_with (map walked_of l) (b ∷ drop (i + 1) bs)) (sym is)
+    ∙ ap (λ l. made' ++ arrived_with (map walked_of ws) l) (sym (drop_item bs i b h at))
+    ∙ known
+
+with_none : {A : Type 0} (bs : List A) (ws : List Walked) → bs ≡ [] → arrived_with ws bs ≡ []
+with_none bs [] h = refl
+with_none [] (w ∷ ws) h = refl
+with_none (b ∷ bs) (w ∷ ws) h = absurd (let bad : ⊥ = cc in bad)
+
+pub arrive_end : {A : Type 0} (bs : List A) (ws : List Arrived) (made : List Incarnations) (whole : List (List ℕ × List ℕ)) → bs ≡ [] → map incarnations_of made ++ arrived_with (map walked_of ws) bs ≡ whole → map incarnations_of made ≡ whole
+arrive_end bs ws made whole h known =
+    sym (append-nil (map incarnations_of made)) ∙ ap (λ l. map incarnations_of made ++ l) (sym (with_none bs (map walked_of ws) h)) ∙ known
+
+-- a walk has an arrival for each block
+with_each : {A : Type 0} (f : A → Block) (entry : Env) (bs : List A) (ways : Ways) (n : ℕ) → arrived_with (walk entry (map f bs) ways n) bs ≡ map incarnations_at (map arrival_in (walk entry (map f bs) ways n))
+with_each f entry [] ways n = refl
+with_each f entry (b ∷ bs) ways n =
+    ap (λ l. incarnations_at (walked_at entry (f b) ways n).arrival ∷ l) (with_each f entry bs (ways_after entry (f b) ways n) (passed_at entry (f b) ways n).next)
+
+pub whole_arrivals : {A : Type 0} (f : A → Block) (p : Prog) (ds : List Decl) (bs : List A) (entry : Env) (n : ℕ) (ws : List Walked) (old new : List Incarnations) → entry ≡ entry_env p ds → n ≡ length p.globals + length ds → ws ≡ walk entry (map f bs) [] n → map incarnations_of new ≡ map incarnations_of old ++ arrived_with ws bs → old ≡ [] → map incarnations_of new ≡ map incarnations_at (arrived p ds (map f bs)).arrivals
+whole_arrivals f p ds bs entry n ws old new h k w m none =
+    m
+    ∙ ap (λ l. map incarnations_of l ++ arrived_with ws bs) none
+    ∙ ap (λ l. arrived_with l bs) (w ∙ rw (h, k) refl)
+    ∙ with_each f (entry_env p ds) bs [] (length p.globals + length ds)
+    ∙ ap (map incarnations_at) (sym (arrivals_are p ds (map f bs) [] (length p.globals + length ds)))
 
 -- the whole, where the entry has each variable's first incarnation
 pub whole_blocks : (p : Prog) (ds : List Decl) (bs : List Block) (entry : Env) (n : ℕ) (ws : List Walked) (made : List PassiveBlock) → entry ≡ entry_env p ds → n ≡ length p.globals + length ds → ws ≡ walk entry bs [] n → made ≡ finished ws bs → made ≡ passives (arrived p ds bs).arrivals bs

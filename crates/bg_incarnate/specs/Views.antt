@@ -11,12 +11,13 @@ use Rattle.bg_blocks.specs.declared.block.Kept.{Kept}
 use Rattle.bg_blocks.specs.declared.block.Kept.TheVariants as kept
 use Rattle.bg_blocks.specs.Views.{procedure_in}
 use Rattle.bg_passive.specs.Passive.{PassiveCmd, Claims, Supposes, Edge, PassiveBlock}
-use Rattle.bg_passive.specs.Incarnations.{Env, Passed}
+use Rattle.bg_passive.specs.Incarnations.{Env, Passed, Arrival}
 use Rattle.bg_incarnate.specs.declared.held.Held.{Held}
 use Rattle.bg_incarnate.specs.declared.blocks.PassiveCmd as code
 use Rattle.bg_incarnate.specs.declared.blocks.PassiveCmd.TheVariants as cmd
 use Rattle.bg_incarnate.specs.declared.blocks.Edge as way
 use Rattle.bg_incarnate.specs.declared.blocks.PassiveBlock as whole
+use Rattle.bg_incarnate.specs.declared.blocks.Incarnations.{Incarnations}
 
 abbrev pub passive_cmd_of : code.PassiveCmd → PassiveCmd
 passive_cmd_of (cmd.Claims s b e) = Claims (spot_of s) (option_of candidate_of b) (m.ex_of (ex_of e))
@@ -30,6 +31,14 @@ edge_of e = record { cmds = cmds_of e.cmds.items; to = e.to }
 
 abbrev pub passive_block_of : whole.PassiveBlock → PassiveBlock
 passive_block_of b = record { cmds = cmds_of b.cmds.items; next = map edge_of b.next.items }
+
+-- the incarnations of the globals, and those of the frame
+abbrev pub incarnations_of : Incarnations → List ℕ × List ℕ
+incarnations_of h = (h.globals.items, h.frame.items)
+
+-- the same at an arrival
+abbrev pub incarnations_at : Arrival → List ℕ × List ℕ
+incarnations_at a = (a.env.globals, a.env.frame)
 
 abbrev pub held_env : Held → Env
 held_env h = record { globals = h.globals.items; before = h.before.now; frame = h.frame.items }

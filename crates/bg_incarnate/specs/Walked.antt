@@ -7,7 +7,7 @@ use Rattle.bg_passive.specs.Incarnations.{Env, Passed, pass_all, Arrival, target
 use Rattle.bg_passive.specs.Arrivals.{Ways, arrive_at, ways_here, ways_on, ways_to}
 use Rattle.bg_incarnate.specs.declared.arrived.Arrived as code
 use Rattle.bg_incarnate.specs.declared.held.Held.{Held}
-use Rattle.bg_incarnate.specs.Views.{cmds_of, held_env}
+use Rattle.bg_incarnate.specs.Views.{cmds_of, held_env, incarnations_at}
 use Rattle.bg_incarnate.specs.Arrived.{arrival_of, ways_of}
 
 pub record Walked : Type 0 where
@@ -64,3 +64,9 @@ abbrev pub finished : List Walked → List Block → List PassiveBlock
 finished [] bs = []
 finished (w ∷ ws) [] = []
 finished (w ∷ ws) (b ∷ bs) = record { cmds = w.cmds; next = edges w.end (map arrival_in ws) b.exit } ∷ finished ws bs
+
+-- the incarnations at the arrivals of a walk, as many as there are blocks
+abbrev pub arrived_with : {A : Type 0} → List Walked → List A → List (List ℕ × List ℕ)
+arrived_with [] bs = []
+arrived_with (w ∷ ws) [] = []
+arrived_with (w ∷ ws) (b ∷ bs) = incarnations_at w.arrival ∷ arrived_with ws bs

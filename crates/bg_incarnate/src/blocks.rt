@@ -24,10 +24,18 @@ pub struct PassiveBlock {
     pub next: Vec<Edge>,
 }
 
-/// Passive blocks, the first new incarnation at each arrival, and how many incarnations are given out.
+/// The incarnation of each global, and of each variable of the frame.
+#[derive(Drop)]
+pub struct Incarnations {
+    pub globals: Vec<u32>,
+    pub frame: Vec<u32>,
+}
+
+/// Passive blocks, the incarnations and the first new one at each arrival, and how many incarnations are given out.
 #[derive(Drop)]
 pub struct Passive {
     pub blocks: Vec<PassiveBlock>,
+    pub arrivals: Vec<Incarnations>,
     pub firsts: Vec<u32>,
     pub count: u32,
 }

@@ -14,5 +14,5 @@ mod walk;
 mod whole;
 mod worth;
 
-pub use blocks::{Edge, Passive, PassiveBlock, PassiveCmd};
+pub use blocks::{Edge, Incarnations, Passive, PassiveBlock, PassiveCmd};
 pub use whole::passive;

@@ -7,7 +7,6 @@ use Rattle.bg_text.specs.Tokens.{Tok}
 use Rattle.bg_text.specs.Trees.{Decl}
 use Rattle.bg_text.specs.Types.{All}
 use Rattle.bg_text.specs.Declarations.{IsDecl}
-use Rattle.bg_ast.specs.Syntax.{Prog}
 use Rattle.bg_ast.specs.Resolved as r
 use Rattle.bg_ast.specs.Meaning.{meaning_of}
 use Rattle.bg_resolve.specs.Program.{plain_faults, named}
@@ -16,23 +15,16 @@ use Rattle.bg_sense.specs.Typed.{IsTyped}
 use Rattle.bg_typed.specs.Programs.{IsNamedProgram}
 use Rattle.bg_front.specs.Later.{is_unjudged, outside, spot_from}
 use Rattle.bg_front.specs.Programs.{IsMeaningOf, IsProgramOf}
-use Rattle.bg_fits.specs.Truths.{is_plain, is_over_truths}
 use Rattle.bg_fits.specs.Scalars.{passes, is_scalar_type, is_scalar, is_over_scalars}
 use Rattle.bg_judged.specs.Within.{is_beyond, AreWithin}
 use Rattle.bg_judged.proofs.Marks.{never}
 use Rattle.bg_judged.proofs.Exprs.{few}
 use Rattle.bg_judged.proofs.Programs.{tokens_good}
-use Rattle.bg_judged.proofs.Typed.{scalar_turn, plain_turn}
+use Rattle.bg_judged.proofs.Typed.{scalar_turn}
 use Rattle.bg_judged.proofs.Turns.{program_turn}
-use Rattle.bg_judged.proofs.Same.{program_same}
 
--- without numbers, a typed program over scalars is one over truth values
-pub scalars_are_truths : (p : Prog) → IsTyped p → is_over_scalars false p ≡ true → is_over_truths p ≡ true
-scalars_are_truths p h k =
-    sym (program_same p) ∙ program_turn false (is_scalar false) is_plain plain_turn p h k
-
--- a token that is beyond without numbers isn't judged
-beyond_unjudged : (k : Kind) → is_unjudged k ≡ false → is_beyond false k ≡ false
+-- a token that is beyond isn't judged
+beyond_unjudged : (k : Kind) → is_unjudged k ≡ false → is_beyond true k ≡ false
 beyond_unjudged kinds.Name h = refl
 beyond_unjudged kinds.Quoted h = refl
 beyond_unjudged kinds.Assert h = refl
@@ -51,7 +43,7 @@ beyond_unjudged kinds.Goto h = refl
 beyond_unjudged kinds.Havoc h = refl
 beyond_unjudged kinds.If h = refl
 beyond_unjudged kinds.Implementation h = refl
-beyond_unjudged kinds.Int h = never h
+beyond_unjudged kinds.Int h = refl
 beyond_unjudged kinds.Invariant h = refl
 beyond_unjudged kinds.Modifies h = refl
 beyond_unjudged kinds.Old h = refl
@@ -90,7 +82,7 @@ beyond_unjudged kinds.Not h = refl
 beyond_unjudged kinds.Plus h = refl
 beyond_unjudged kinds.Minus h = refl
 beyond_unjudged kinds.Times h = refl
-beyond_unjudged (kinds.Number z) h = never h
+beyond_unjudged (kinds.Number z) h = refl
 
 judged_here : (inside : Bool) (k : Kind) → inside ≡ false → (not inside && is_unjudged k) ≡ false → is_unjudged k ≡ false
 judged_here true k out h = never out
@@ -106,7 +98,7 @@ module _ (are_named : (ds : List Decl) → All IsDecl ds → plain_faults ds ≡
       let good = subst (λ q. passes (is_scalar_type numbers) (few numbers) (meaning_of q) ≡ true) (sym h.meant) (tokens_good numbers ts h.decls within h.tree.1.spells.1 h.names.0) in
       program_turn numbers (few numbers) (is_scalar numbers) (scalar_turn numbers) (meaning_of p) (meaning_typed bytes ts p h typed) good
 
-  pub judged_truths : (bytes : List ℕ) (p : r.Program) → IsProgramOf bytes p → is_over_truths (meaning_of p) ≡ true
-  judged_truths bytes p h =
-      let within : AreWithin false h.tokens = λ front t rest cut out. beyond_unjudged t.kind (judged_here (spot_from outside front).inside t.kind out (h.judged front t rest cut)) in
-      scalars_are_truths (meaning_of p) (meaning_typed bytes h.tokens p h.spelled h.typed) (within_scalars false bytes h.tokens p h.spelled h.typed within)
+  pub judged_scalars : (bytes : List ℕ) (p : r.Program) → IsProgramOf bytes p → is_over_scalars true (meaning_of p) ≡ true
+  judged_scalars bytes p h =
+      let within : AreWithin true h.tokens = λ front t rest cut out. beyond_unjudged t.kind (judged_here (spot_from outside front).inside t.kind out (h.judged front t rest cut)) in
+      within_scalars true bytes h.tokens p h.spelled h.typed within

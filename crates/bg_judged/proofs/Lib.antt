@@ -8,5 +8,4 @@ pub mod Spaces
 pub mod Programs
 pub mod Typed
 pub mod Turns
-pub mod Same
 pub mod Judging

@@ -5,7 +5,6 @@ use Rattle.bg_ast.specs.Values.{Ty, IntTy, BoolTy}
 use Rattle.bg_ast.specs.Syntax.{Global, Local, Op, And, Or, Implies, Iff, Equal, Unequal, Less, AtMost, Greater, AtLeast, Plus, Minus, Times, Ex, Number, Fact, Constant, Read, Not, Negative, Binary, Apply, Select, Update, Old}
 use Rattle.bg_sense.specs.Typing.{Sig, OpHasType, HasType}
 use Rattle.bg_sense.proofs.Bools.{both, and_left, and_right}
-use Rattle.bg_fits.specs.Truths.{is_truth_op, is_plain}
 use Rattle.bg_fits.specs.Scalars.{is_scalar_type, is_scalar}
 use Rattle.bg_judged.proofs.Exprs.{few}
 
@@ -81,47 +80,3 @@ module _ (w : Bool) (s : Sig) (fine : Fine w s) where
 
   pub scalar_turn : (e : Ex) (t : Ty) → HasType e s t → few w e ≡ true → is_scalar w e ≡ true
   scalar_turn e t h k = (typed_scalar e t h k).0
-
-no_number : {A : Type 0} → is_scalar_type false IntTy ≡ true → A
-no_number h = absurd (let bad : false ≡ true = h in cc)
-
--- without numbers an operator is one on truth values
-truth_op : (o : Op) (a b : Ty → Type 0) (t : Ty) → ((u : Ty) → a u → is_scalar_type false u ≡ true) → OpHasType o a b t → is_truth_op o ≡ true
-truth_op And a b t first h = refl
-truth_op Or a b t first h = refl
-truth_op Implies a b t first h = refl
-truth_op Iff a b t first h = refl
-truth_op Equal a b t first h = refl
-truth_op Unequal a b t first h = refl
-truth_op Less a b t first h = no_number (first IntTy h.1)
-truth_op AtMost a b t first h = no_number (first IntTy h.1)
-truth_op Greater a b t first h = no_number (first IntTy h.1)
-truth_op AtLeast a b t first h = no_number (first IntTy h.1)
-truth_op Plus a b t first h = no_number (first IntTy h.1)
-truth_op Minus a b t first h = no_number (first IntTy h.1)
-truth_op Times a b t first h = no_number (first IntTy h.1)
-
-module _ (s : Sig) (fine : Fine false s) where
-  typed_plain : (e : Ex) (t : Ty) → HasType e s t → is_scalar false e ≡ true → (is_plain e ≡ true) × (is_scalar_type false t ≡ true)
-  typed_plain (Number z) t h k = absurd (let bad : false ≡ true = k in cc)
-  typed_plain (Fact b) t h k = (refl, of_type false t BoolTy h refl)
-  typed_plain (Constant c) t h k = absurd (let bad : false ≡ true = k in cc)
-  typed_plain (Read (Global y)) t h k = (refl, fine.globals y t h)
-  typed_plain (Read (Local y)) t h k = (refl, fine.frame y t h)
-  typed_plain (Not e) t h k = ((typed_plain e BoolTy h.1 k).0, of_type false t BoolTy h.0 refl)
-  typed_plain (Negative e) t h k = no_number (typed_plain e IntTy h.1 k).1
-  typed_plain (Binary o a b) t h k =
-      let first = and_left (is_scalar false a) (is_scalar false b) k in
-      let second = and_right (is_scalar false a) (is_scalar false b) k in
-      let z = sides o (HasType a s) (HasType b s) t h in
-      let left : (u : Ty) → HasType a s u → is_scalar_type false u ≡ true = λ u i. (typed_plain a u i first).1 in (
-        both (is_truth_op o) (is_plain a && is_plain b) (truth_op o (HasType a s) (HasType b s) t left h) (both (is_plain a) (is_plain b) (typed_plain a z.0.0 z.0.1 first).0 (typed_plain b z.1.0 z.1.1 second).0),
-        value_of false o (HasType a s) (HasType b s) t left h,
-      )
-  typed_plain (Apply f es) t h k = absurd (let bad : false ≡ true = k in cc)
-  typed_plain (Select a es) t h k = absurd (let bad : false ≡ true = k in cc)
-  typed_plain (Update a es e) t h k = absurd (let bad : false ≡ true = k in cc)
-  typed_plain (Old e) t h k = typed_plain e t h k
-
-  pub plain_turn : (e : Ex) (t : Ty) → HasType e s t → is_scalar false e ≡ true → is_plain e ≡ true
-  plain_turn e t h k = (typed_plain e t h k).0

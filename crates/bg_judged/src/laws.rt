@@ -1,20 +1,12 @@
 //! What the tokens of a text say of its program.
-ghost use Rattle.std.specs.Prelude.{◌≡◌, ℕ, Bool, true, false, List};
+ghost use Rattle.std.specs.Prelude.{◌≡◌, ℕ, Bool, true, List};
 ghost use Rattle.bg_text.specs.Tokens.{Tok};
-ghost use Rattle.bg_ast.specs.Syntax.{Prog};
 ghost use Rattle.bg_ast.specs.Resolved.{Program};
 ghost use Rattle.bg_ast.specs.Meaning.{meaning_of};
 ghost use Rattle.bg_types.specs.Verdicts.{IsWellTyped};
-ghost use Rattle.bg_sense.specs.Typed.{IsTyped};
 ghost use Rattle.bg_front.specs.Programs.{IsMeaningOf, IsProgramOf};
-ghost use Rattle.bg_fits.specs.Truths.{is_over_truths};
 ghost use Rattle.bg_fits.specs.Scalars.{is_over_scalars};
 ghost use Rattle.bg_judged.specs.Within.{AreWithin};
-
-/// Where no number may stand, a typed program over scalars is one over truth values: nothing else has a type.
-pub fn scalars_without_numbers_are_truths()
-    ensures { (p : Prog) → IsTyped p → is_over_scalars false p ≡ true → is_over_truths p ≡ true }
-{}
 
 /// A well-typed program without a token of types, constants, functions, axioms or maps, attributes apart, is one over truth values
 /// and whole numbers; without a token of whole numbers either, no number stands in it and no variable is one.
@@ -25,9 +17,9 @@ pub fn tokens_of_scalars_spell_programs_over_scalars()
     bg_typed::laws::well_typed_programs_are_typed();
 }
 
-/// What the reader lets through is a program over truth values.
-pub fn judged_programs_are_over_truths()
-    ensures { (bytes : List ℕ) (p : Program) → IsProgramOf bytes p → is_over_truths (meaning_of p) ≡ true }
+/// What the reader lets through is a program over truth values and whole numbers.
+pub fn judged_programs_are_over_scalars()
+    ensures { (bytes : List ℕ) (p : Program) → IsProgramOf bytes p → is_over_scalars true (meaning_of p) ≡ true }
 {
     bg_named::laws::resolved_programs_are_named();
     bg_typed::laws::well_typed_programs_are_typed();

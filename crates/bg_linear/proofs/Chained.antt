@@ -21,7 +21,7 @@ use Rattle.bg_linear.specs.Lins.{LinOf, negative}
 use Rattle.bg_linear.specs.Forms.{nothing, linear}
 use Rattle.bg_linear.specs.Chains.{sign_form, is_implies, chain_forms, prefix_form, signed_form}
 
-chain_is : (ls : r.Links) (a : s.Ex) → linear (m.chained a ls) ≡ chain_forms (linear a) ls
+pub chain_is : (ls : r.Links) (a : s.Ex) → linear (m.chained a ls) ≡ chain_forms (linear a) ls
 chain_is r.NoLink a = refl
 chain_is (r.Link p op.Implies e ls) a = refl
 chain_is (r.Link p op.Iff e ls) a = chain_is ls (m.infix_of op.Iff a (m.ex_of e))

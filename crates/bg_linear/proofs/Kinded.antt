@@ -24,7 +24,7 @@ use Rattle.bg_linear.specs.ChainKinds.{sign_kind, chain_kinds, folded, all_so_fa
 use Rattle.bg_linear.proofs.Chained.{drop_item}
 
 module _ (sorts : List Sort) where
-  chain_is : (ls : r.Links) (a : s.Ex) → kind_ex sorts (m.chained a ls) ≡ chain_kinds sorts (kind_ex sorts a) ls
+  pub chain_is : (ls : r.Links) (a : s.Ex) → kind_ex sorts (m.chained a ls) ≡ chain_kinds sorts (kind_ex sorts a) ls
   chain_is r.NoLink a = refl
   chain_is (r.Link p op.Implies e ls) a = ap (both_truths (kind_ex sorts a)) (chain_is ls (m.ex_of e))
   chain_is (r.Link p op.Iff e ls) a = chain_is ls (m.infix_of op.Iff a (m.ex_of e))

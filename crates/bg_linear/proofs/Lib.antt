@@ -9,3 +9,4 @@ pub mod Worth
 pub mod Rising
 pub mod Exact
 pub mod Kinded
+pub mod Inside

@@ -85,6 +85,16 @@ fn form(alloc: Global, e: &Expr) -> Result<Made, AllocError>
     }
 }
 
+/// The linear form of a chain of these links behind an expression, as `linear` has it.
+#[tactic(auto, using(crate::proofs::Chained::chain_is))]
+pub fn linear_of_chain(alloc: Global, first: &Expr, links: &[Link]) -> Result<Lin, Refused>
+    ensures { Told lin_of result (linear (m.chained (m.ex_of (ex_of first.now)) (links_of (map link_view links.now)))) }
+{
+    let f = form(alloc, first)?;
+    let made = chain(alloc, links, f)?;
+    made.list(alloc)
+}
+
 /// The linear form of an expression over incarnations, of which incarnation j is variable j.
 ///
 /// It is made from the inside out and from left to right: in each step the coefficients by variable number, then the constant.

@@ -18,8 +18,8 @@ mod terms;
 #[cfg(test)]
 mod tests;
 
-pub use formed::linear;
+pub use formed::{linear, linear_of_chain};
 pub use lin::Lin;
-pub use relate::{related, relation};
+pub use relate::{related, relation, relation_of_chain};
 pub use scalar::{Kind, Sort};
-pub use sorted::{kind, sort};
+pub use sorted::{kind, kind_of_chain, sort};

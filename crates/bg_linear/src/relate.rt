@@ -1,7 +1,7 @@
 //! Rows of relations.
 ghost use Rattle.std.specs.Prelude.{◌≡◌, [], map};
 ghost use Rattle.bg_ast.specs.Meaning as m;
-ghost use Rattle.bg_ast.specs.Views.{ex_of};
+ghost use Rattle.bg_ast.specs.Views.{ex_of, links_of, link_view};
 ghost use Rattle.bg_rows.specs.Rows.{row_of, Told};
 ghost use Rattle.bg_formula.specs.Atoms.{view_linear};
 ghost use Rattle.bg_linear.specs.Lins.{together};
@@ -9,10 +9,10 @@ ghost use Rattle.bg_linear.specs.Views.{lin_of, sum_in};
 ghost use Rattle.bg_linear.specs.Relations.{bounded, compared, alone, both_ways, related, relation, op_of};
 ghost use Rattle.bg_base.specs.declared.exact.Op.TheVariants as arith;
 
-use crate::formed::linear;
+use crate::formed::{linear, linear_of_chain};
 use crate::lin::Lin;
 use crate::sum::Sum;
-use bg_ast::resolved::Expr;
+use bg_ast::resolved::{Expr, Link};
 use bg_base::{Op, sub};
 use bg_formula::{Linear, deny_row};
 use bg_rows::{Refused, Row};
@@ -108,6 +108,21 @@ pub fn relation(
     ensures { Told (λ v. map view_linear v.items) result (relation (op_of sign) (m.ex_of (ex_of left.now)) (m.ex_of (ex_of right.now))) }
 {
     let f = linear(alloc, left)?;
+    let g = linear(alloc, right)?;
+    related(alloc, sign, &f, &g)
+}
+
+/// The rows of a relation of which the left side is a chain of these links behind an expression, as `relation` has them.
+pub fn relation_of_chain(
+    alloc: Global,
+    sign: InfixSign,
+    first: &Expr,
+    links: &[Link],
+    right: &Expr,
+) -> Result<Vec<Linear>, Refused>
+    ensures { Told (λ v. map view_linear v.items) result (relation (op_of sign) (m.chained (m.ex_of (ex_of first.now)) (links_of (map link_view links.now))) (m.ex_of (ex_of right.now))) }
+{
+    let f = linear_of_chain(alloc, first, links)?;
     let g = linear(alloc, right)?;
     related(alloc, sign, &f, &g)
 }

@@ -113,6 +113,15 @@ pub fn kind(sorts: &[Sort], e: &Expr) -> Option<Kind>
     }
 }
 
+/// The kind of a chain of these links behind an expression, as `kind` has it.
+#[tactic(auto, using(crate::proofs::Kinded::chain_is))]
+pub fn kind_of_chain(sorts: &[Sort], first: &Expr, links: &[Link]) -> Option<Kind>
+    ensures { result ≡ kind_ex sorts.now (m.chained (m.ex_of (ex_of first.now)) (links_of (map link_view links.now))) }
+{
+    let made = kind(sorts, first);
+    chain_kind(sorts, links, made)
+}
+
 /// The sort of an expression over incarnations of these sorts: a truth value or a number. None where it isn't well sorted, has
 /// another sort, or names an incarnation that isn't there. One side of a product is made of numbers alone.
 pub fn sort(sorts: &[Sort], e: &Expr) -> Option<Sort>

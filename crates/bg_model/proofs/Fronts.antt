@@ -1,6 +1,6 @@
 -- A walk through passive blocks that fails at the target gives choices up to the check that fails, by which a run fails there.
 use Rattle.std.proofs.Common.{◌≡◌, ℕ, zero, suc, Bool, true, false, List, [], ◌∷◌, ◌++◌, map, Some, refl, sym, ap, ◌∙◌, subst}
-use Rattle.std.specs.Prelude.{◌||◌, ◌&&◌, if◌then◌else◌, slice_get}
+use Rattle.std.specs.Prelude.{◌||◌, if◌then◌else◌, slice_get}
 use Rattle.bg_ast.specs.Values.{Val, Ty, truth_of}
 use Rattle.bg_ast.specs.Syntax.{Var, Global, Local, Prog, Proc, Impl, Decl}
 use Rattle.bg_sense.specs.Eval.{Scope, ev, evs, value_at}
@@ -16,16 +16,26 @@ use Rattle.bg_flow.specs.Blocks.{Block, Table, at_table, enter, index, leave, ta
 use Rattle.bg_passive.specs.Passive.{PassiveCmd, Walked, On, Stopped, Hit, is_absent, walk_cmds, walk_at, follow, walks}
 use Rattle.bg_passive.specs.Incarnations.{Env, rename, hold_next, after_vars, after_exs, each_ex, each_decl, claims_in, supposes_in, set_to, pass_call, pass, pass_all, Arrival, edges, passives, FitsCmd, FitsCmds, FitsBlocks, MakesPassive, ValuesFrom, first_state, entry_env, ty_of, incarnations, passive_scope}
 use Rattle.bg_passive.specs.ReadBack.{cmd_choices, choices_at, follow_choices}
-use Rattle.bg_clause.specs.Fitting.{fits_cmds, fit_edges, fit_blocks}
-use Rattle.bg_forms.specs.Worth.{truth_values}
 use Rattle.bg_calls.proofs.CoreRuns.{then_assoc}
 use Rattle.bg_flow.proofs.BlockRuns.{blocks_same}
-use Rattle.bg_sense.proofs.Bools.{and_left, and_right}
 use Rattle.bg_passive.proofs.Renaming.{values, seen, same_scopes, Met, met_scope, MetBy}
 use Rattle.bg_passive.proofs.Walks.{Hits, hits_map, walk_hits, split_walk}
 use Rattle.bg_passive.proofs.PassiveBackward.{with_choices, checks_back, sets_off, cmd_back, exit_back}
-use Rattle.bg_model.specs.Fronts.{cmd_truths, if_on, front_cmds, front_walks}
-use Rattle.bg_model.proofs.Values.{cmd_chosen, fits_front, fits_behind}
+use Rattle.bg_model.specs.Fronts.{if_on}
+
+-- the choices of commands up to the one that fails, by how a walk through the passive commands of each goes; `rest` where none fails
+abbrev pub front_cmds : (List PassiveCmd → Walked) → List Val → List Cmd → Env → ℕ → List Choice → List Choice
+front_cmds walked vs [] v n rest = rest
+front_cmds walked vs (k ∷ ks) v n rest =
+    if_on (walked (pass k v n).cmds) (cmd_choices k n vs ++ front_cmds walked vs ks (pass k v n).env (pass k v n).next rest)
+
+-- the choices along a walk, from each block on
+abbrev pub front_walks : (List PassiveCmd → Walked) → List Val → List Arrival → List Block → List (List ℕ → List Choice)
+front_walks walked vs later [] = []
+front_walks walked vs [] (b ∷ bs) = []
+front_walks walked vs (a ∷ later) (b ∷ bs) =
+    let behind = front_walks walked vs later bs in
+    (λ walk. front_cmds walked vs b.cmds a.env a.next (follow_choices behind b.exit walk)) ∷ behind
 
 -- what is supposed is no check
 suppose_none : (x : Bool) (p : Walked) → (Hits p ⊥ → ⊥) → Hits (if x then p else Stopped) ⊥ → ⊥
@@ -99,58 +109,47 @@ module _ (incs : List Ty) (c : Ctx) (t : Spot) (Tb : Table) where
     cmd_hit (Perform k) v n w f m L x = call_hit k v n w V m L x
     cmd_hit Finish v n w f m L x = absurd x
 
-module _ (incs : List Ty) (c : Ctx) (t : Spot) (tys : Var → Ty) (same : (x : Var) → tys x ≡ type_in (decl_of c x)) (truth : ℕ → Bool) (many : ℕ) (h : are_of incs (truth_values truth many) ≡ true) (walked : List PassiveCmd → Walked) (n m : ℕ) (agree : (ks : List PassiveCmd) → fits_cmds n m ks ≡ true → walked ks ≡ walk_cmds c.set t (values c (truth_values truth many)) ks) where
-  abbrev V : List Val
-  V = truth_values truth many
-
+module _ (incs : List Ty) (c : Ctx) (t : Spot) (tys : Var → Ty) (same : (x : Var) → tys x ≡ type_in (decl_of c x)) (V : List Val) (h : are_of incs V ≡ true) where
   abbrev went : List PassiveCmd → Walked
   went ks = walk_cmds c.set t (values c V) ks
 
   abbrev ends : Table → Flow → Type 0
   ends Tb f = enter Tb index f ≡ Failed t
 
-  cmds_front : (Tb : Table) (ks : List Cmd) (v : Env) (j : ℕ) (w : World) (rest : List Choice) → FitsCmds incs tys ks v j → fits_cmds n m (pass_all ks v j).cmds ≡ true → Met c V v w.globals w.frame → (L : World → Flow) (R : Type 0) → (R → (u : World) → Met c V (pass_all ks v j).env u.globals u.frame → ends Tb (L (with_choices u rest))) → Hits (went (pass_all ks v j).cmds) R → ends Tb (and_then (act_all c ks (with_choices w (front_cmds walked truth ks v j rest))) L)
-  cmds_front Tb [] v j w rest f fit met L R next x = next x w met
-  cmds_front Tb (k ∷ ks) v j w rest f fit met L R next x =
-      let p = pass k v j in
-      let more = (pass_all ks p.env p.next).cmds in
-      let own = front_cmds walked truth ks p.env p.next rest in
-      let y = split_walk c.set t (values c V) p.cmds more R x in
-      let fit_own = fits_front n m p.cmds more fit in
-      let fit_more = fits_behind n m p.cmds more fit in
-      subst (λ g. ends Tb (and_then (act_all c (k ∷ ks) (with_choices w (if_on g (cmd_truths truth k j ++ own)))) L)) (sym (agree p.cmds fit_own)) (on (went p.cmds) refl y (λ z u m2. cmds_front Tb ks p.env p.next u rest f.1 fit_more m2 L R next z))
+  cmds_front : (Tb : Table) (ks : List Cmd) (v : Env) (j : ℕ) (w : World) (rest : List Choice) → FitsCmds incs tys ks v j → Met c V v w.globals w.frame → (L : World → Flow) (R : Type 0) → (R → (u : World) → Met c V (pass_all ks v j).env u.globals u.frame → ends Tb (L (with_choices u rest))) → Hits (went (pass_all ks v j).cmds) R → ends Tb (and_then (act_all c ks (with_choices w (front_cmds went V ks v j rest))) L)
+  cmds_front Tb [] v j w rest f met L R next x = next x w met
+  cmds_front Tb (k ∷ ks) v j w rest f met L R next x =
+      on (went (pass k v j).cmds) refl (split_walk c.set t (values c V) (pass k v j).cmds (pass_all ks (pass k v j).env (pass k v j).next).cmds R x) (λ z u m2. cmds_front Tb ks (pass k v j).env (pass k v j).next u rest f.1 m2 L R next z)
     where
-      on : (g : Walked) → went (pass k v j).cmds ≡ g → Hits g (Hits (went (pass_all ks (pass k v j).env (pass k v j).next).cmds) R) → (Hits (went (pass_all ks (pass k v j).env (pass k v j).next).cmds) R → (u : World) → Met c V (pass k v j).env u.globals u.frame → ends Tb (and_then (act_all c ks (with_choices u (front_cmds walked truth ks (pass k v j).env (pass k v j).next rest))) L)) → ends Tb (and_then (act_all c (k ∷ ks) (with_choices w (if_on g (cmd_truths truth k j ++ front_cmds walked truth ks (pass k v j).env (pass k v j).next rest)))) L)
+      own : List Choice
+      own = front_cmds went V ks (pass k v j).env (pass k v j).next rest
+
+      Behind : Type 0
+      Behind = Hits (went (pass_all ks (pass k v j).env (pass k v j).next).cmds) R
+
+      on : (g : Walked) → went (pass k v j).cmds ≡ g → Hits g Behind → (Behind → (u : World) → Met c V (pass k v j).env u.globals u.frame → ends Tb (and_then (act_all c ks (with_choices u own)) L)) → ends Tb (and_then (act_all c (k ∷ ks) (with_choices w (if_on g (cmd_choices k j V ++ own)))) L)
       on On e y ih =
-          let own = front_cmds walked truth ks (pass k v j).env (pass k v j).next rest in
-          let more = (pass_all ks (pass k v j).env (pass k v j).next).cmds in
-          ap (λ cs. enter Tb index (and_then (act_all c (k ∷ ks) (with_choices w (cs ++ own))) L)) (sym (cmd_chosen incs truth many h tys k j f.0))
-          ∙ (ap (enter Tb index) (then_assoc (act c k (with_choices w (cmd_choices k j V ++ own))) (act_all c ks) L)
-          ∙ cmd_back incs c t Tb tys same k v j w own V f.0 h met (λ u. and_then (act_all c ks u) L) (Hits (went more) R) ih (subst (λ g. Hits g (Hits (went more) R)) (sym e) y))
+          ap (enter Tb index) (then_assoc (act c k (with_choices w (cmd_choices k j V ++ own))) (act_all c ks) L)
+          ∙ cmd_back incs c t Tb tys same k v j w own V f.0 h met (λ u. and_then (act_all c ks u) L) Behind ih (subst (λ g. Hits g Behind) (sym e) y)
       on Stopped e y ih = absurd y
       on Hit e y ih =
           ap (enter Tb index) (then_assoc (act c k (with_choices w [])) (act_all c ks) L)
           ∙ cmd_hit incs c t Tb tys same V h k v j w f.0 met (λ u. and_then (act_all c ks u) L) (subst (λ g. Hits g ⊥) (sym e) tt)
 
   -- from each block on, by the choices up to the check that fails
-  pub blocks_front : (bs : List Block) (later : List Arrival) → FitsBlocks incs tys later bs → fit_blocks n m (passives later bs) ≡ true → (k : ℕ) (w : World) → MetBy c (slice_get later k) V w → (choices : List ℕ) → walk_at (slice_get (walks c.set t (values c V) (passives later bs)) k) choices ≡ true → at_table (table c [] bs) k (with_choices w (choices_at (slice_get (front_walks walked truth later bs) k) choices)) ≡ Failed t
-  blocks_front [] later f fit k w met choices r = absurd (let bad : ⊥ = cc in bad)
-  blocks_front (b ∷ bs) [] f fit k w met choices r = absurd f
-  blocks_front (b ∷ bs) (a ∷ later) f fit zero w met choices r =
+  pub blocks_front : (bs : List Block) (later : List Arrival) → FitsBlocks incs tys later bs → (k : ℕ) (w : World) → MetBy c (slice_get later k) V w → (choices : List ℕ) → walk_at (slice_get (walks c.set t (values c V) (passives later bs)) k) choices ≡ true → at_table (table c [] bs) k (with_choices w (choices_at (slice_get (front_walks (walk_cmds c.set t (values c V)) V later bs) k) choices)) ≡ Failed t
+  blocks_front [] later f k w met choices r = absurd (let bad : ⊥ = cc in bad)
+  blocks_front (b ∷ bs) [] f k w met choices r = absurd f
+  blocks_front (b ∷ bs) (a ∷ later) f zero w met choices r =
       let Tb = table c [] bs in
       let p = pass_all b.cmds a.env a.next in
       let pbs = passives later bs in
       let F = follow c.set t (values c V) (walks c.set t (values c V) pbs) (edges p.env later b.exit) in
-      let behind = front_walks walked truth later bs in
-      let fit1 = and_right (fits_cmds n m p.cmds) (fit_edges n m (edges p.env later b.exit) && fit_blocks n m pbs) fit in
-      cmds_front Tb b.cmds a.env a.next w (follow_choices behind b.exit choices) f.1 (and_left (fits_cmds n m p.cmds) (fit_edges n m (edges p.env later b.exit) && fit_blocks n m pbs) fit) met (leave c b.exit) (F choices ≡ true)
-      (λ y u m2. exit_back incs c t Tb tys same later pbs V h behind (λ k' w' m' ch r'. blocks_front bs later f.3 (and_right (fit_edges n m (edges p.env later b.exit)) (fit_blocks n m pbs) fit1) k' w' m' ch r') b.exit p.env p.next u choices f.2 m2 y)
+      let behind = front_walks went V later bs in
+      cmds_front Tb b.cmds a.env a.next w (follow_choices behind b.exit choices) f.1 met (leave c b.exit) (F choices ≡ true)
+      (λ y u m2. exit_back incs c t Tb tys same later pbs V h behind (λ k' w' m' ch r'. blocks_front bs later f.3 k' w' m' ch r') b.exit p.env p.next u choices f.2 m2 y)
       (walk_hits (walk_cmds c.set t (values c V) p.cmds) F choices r)
-  blocks_front (b ∷ bs) (a ∷ later) f fit (suc k) w met choices r =
-      let p = pass_all b.cmds a.env a.next in
-      let pbs = passives later bs in
-      let fit1 = and_right (fits_cmds n m p.cmds) (fit_edges n m (edges p.env later b.exit) && fit_blocks n m pbs) fit in
-      blocks_front bs later f.3 (and_right (fit_edges n m (edges p.env later b.exit)) (fit_blocks n m pbs) fit1) k w met choices r
+  blocks_front (b ∷ bs) (a ∷ later) f (suc k) w met choices r = blocks_front bs later f.3 k w met choices r
 
 module _ (p : Prog) (set : ℕ → Bool) (i : Interp) (k : ℕ) (m : Impl) (q : Proc) (s : State) (em : slice_get p.implementations k ≡ Some m) (eq : procedure_of p m.procedure ≡ Some q) where
   abbrev ds : List Decl
@@ -167,11 +166,10 @@ module _ (p : Prog) (set : ℕ → Bool) (i : Interp) (k : ℕ) (m : Impl) (q : 
   first_met V e = (ap (λ x. x.globals) e, ap (λ x. x.frame) e, ap (λ x. x.globals) e)
 
   -- the induction run fails by the choices up to the check that fails
-  pub fronts_fail : (others : List Ty) (t : Spot) (later : List Arrival) → MakesPassive p ds others later (blocks_of (routine_of p k m q)) → (truth : ℕ → Bool) (many : ℕ) → ValuesFrom p ds others s (truth_values truth many) → (walked : List PassiveCmd → Walked) (n l : ℕ) → ((ks : List PassiveCmd) → fits_cmds n l ks ≡ true → walked ks ≡ walk_cmds set t (passive_scope p i (truth_values truth many)) ks) → fit_blocks n l (passives later (blocks_of (routine_of p k m q))) ≡ true → (walk : List ℕ) → walk_at (slice_get (walks set t (passive_scope p i (truth_values truth many)) (passives later (blocks_of (routine_of p k m q)))) 0) walk ≡ true → induction_run p set i k s (choices_at (slice_get (front_walks walked truth later (blocks_of (routine_of p k m q))) 0) walk) ≡ Failed t
-  fronts_fail others t [] f truth many v walked n l agree fit walk x = absurd f.0
-  fronts_fail others t (a ∷ later) f truth many v walked n l agree fit walk x =
-      let V = truth_values truth many in
+  pub fronts_fail : (others : List Ty) (t : Spot) (later : List Arrival) → MakesPassive p ds others later (blocks_of (routine_of p k m q)) → (V : List Val) → ValuesFrom p ds others s V → (walk : List ℕ) → walk_at (slice_get (walks set t (passive_scope p i V) (passives later (blocks_of (routine_of p k m q)))) 0) walk ≡ true → induction_run p set i k s (choices_at (slice_get (front_walks (walk_cmds set t (passive_scope p i V)) V later (blocks_of (routine_of p k m q))) 0) walk) ≡ Failed t
+  fronts_fail others t [] f V v walk x = absurd f.0
+  fronts_fail others t (a ∷ later) f V v walk x =
       let bs = blocks_of (routine_of p k m q) in
       let met : Met c V a.env s.globals s.frame = subst (λ u. Met c V u s.globals s.frame) (sym f.0) (first_met V v.first) in
-      sym (blocks_same p set i k m q s (choices_at (slice_get (front_walks walked truth (a ∷ later) bs) 0) walk) em eq)
-      ∙ blocks_front (incarnations p ds others) c t (ty_of p ds) same truth many v.typed walked n l agree bs (a ∷ later) f.1 fit 0 (start s [] 0) met walk x
+      sym (blocks_same p set i k m q s (choices_at (slice_get (front_walks (walk_cmds set t (passive_scope p i V)) V (a ∷ later) bs) 0) walk) em eq)
+      ∙ blocks_front (incarnations p ds others) c t (ty_of p ds) same V v.typed bs (a ∷ later) f.1 0 (start s [] 0) met walk x

@@ -3,20 +3,21 @@ use Rattle.std.proofs.Common.{◌≡◌, ℕ, zero, suc, ◌+◌, ◌-◌, ◌<�
 use Rattle.std.specs.Prelude.{min}
 use Rattle.bg_ast.specs.Execution as e
 use Rattle.bg_calls.specs.Core.{Cmd}
-use Rattle.bg_incarnate.specs.declared.blocks.PassiveCmd as code
-use Rattle.bg_incarnate.specs.Views.{passive_cmd_of, cmds_of}
+use Rattle.bg_passive.specs.ReadBack.{cmd_choices}
 use Rattle.bg_incarnate.proofs.Passing.{drop_item}
-use Rattle.bg_replay.specs.declared.choice.Choice.{Choice}
-use Rattle.bg_replay.specs.Moments.{choice_of}
+use Rattle.bg_formed.specs.declared.blocks.FormCmd as code
+use Rattle.bg_formed.specs.Views.{form_cmd_of, form_cmds_of}
+use Rattle.bg_scalar.specs.declared.choice.Choice.{Choice}
+use Rattle.bg_scalar.specs.Choices.{choice_of}
 use Rattle.bg_model.specs.declared.trial.Trial.{Trial}
 use Rattle.bg_model.specs.declared.front.Front.{Front}
 use Rattle.bg_model.specs.declared.share.Share.{Share}
 use Rattle.bg_model.specs.declared.walk.Went.{Went}
 use Rattle.bg_model.specs.declared.walk.Went.TheVariants as went
-use Rattle.bg_model.specs.Fronts.{chosen_from, cmd_truths, if_on}
+use Rattle.bg_model.specs.Fronts.{chosen_from, if_on}
 use Rattle.bg_model.specs.Turns.{width, next_after, front_of}
 use Rattle.bg_model.specs.Shares.{IsShare}
-use Rattle.bg_model.specs.Views.{walked_of, truth_in, walk_in, if_goes, made_by, next_by}
+use Rattle.bg_model.specs.Views.{walked_of, values_in, walk_in, if_goes, made_by, next_by}
 
 take_whole : {A : Type 0} (xs : List A) → take (length xs) xs ≡ xs
 take_whole [] = refl
@@ -47,15 +48,15 @@ module _ {A : Type 0} {B : Type 0} (f : A → B) where
   take_rest (x ∷ xs) zero = let h : suc (length xs) - 0 ≡ suc (length xs) = omega arith in rw h (ap (λ l. x ∷ l) (take_whole xs))
   take_rest (x ∷ xs) (suc n) = let h : suc (length xs) - suc n ≡ length xs - n = omega arith in rw h (take_rest xs n)
 
-module _ (t : Trial) (f : Front) (k : Cmd) (ks : List Cmd) (rest : List e.Choice) (s : Share) (w : ℕ) (g : Went) (own : List code.PassiveCmd) (is : IsShare k s) (low : w ≡ min s.cmds (length f.left.now)) (taken : own ≡ take w f.left.now) (told : walked_of g ≡ walk_in t (cmds_of own)) where
-  own_told : walk_in t (take (width k) (cmds_of f.left.now)) ≡ walked_of g
+module _ (t : Trial) (f : Front) (k : Cmd) (ks : List Cmd) (rest : List e.Choice) (s : Share) (w : ℕ) (g : Went) (own : List code.FormCmd) (is : IsShare k s) (low : w ≡ min s.cmds (length f.left.now)) (taken : own ≡ take w f.left.now) (told : walked_of g ≡ walk_in t (form_cmds_of own)) where
+  own_told : walk_in t (take (width k) (form_cmds_of f.left.now)) ≡ walked_of g
   own_told =
-      ap (λ n. walk_in t (take n (cmds_of f.left.now))) is.cmds
-      ∙ (ap (walk_in t) (take_own passive_cmd_of f.left.now s.cmds w low) ∙ (ap (λ l. walk_in t (cmds_of l)) (sym taken) ∙ sym told))
+      ap (λ n. walk_in t (take n (form_cmds_of f.left.now))) is.cmds
+      ∙ (ap (walk_in t) (take_own form_cmd_of f.left.now s.cmds w low) ∙ (ap (λ l. walk_in t (form_cmds_of l)) (sym taken) ∙ sym told))
 
   abbrev behind : List e.Choice
   behind =
-      cmd_truths (truth_in t) k f.next ++ front_of (walk_in t) (truth_in t) ks (drop (width k) (cmds_of f.left.now)) (next_after k f.next) rest
+      cmd_choices k f.next (values_in t) ++ front_of (walk_in t) (values_in t) ks (drop (width k) (form_cmds_of f.left.now)) (next_after k f.next) rest
 
   pub stops : g ≡ went.Stopped → made_by f (next_by t (k ∷ ks) f rest) ≡ made_by f []
   stops e = ap (λ o. made_by f (if_on o behind)) (own_told ∙ ap walked_of e)
@@ -63,17 +64,17 @@ module _ (t : Trial) (f : Front) (k : Cmd) (ks : List Cmd) (rest : List e.Choice
   pub hits : g ≡ went.Hit → made_by f (next_by t (k ∷ ks) f rest) ≡ made_by f []
   hits e = ap (λ o. made_by f (if_on o behind)) (own_told ∙ ap walked_of e)
 
-  pub goes : g ≡ went.On → (made' : List Choice) (left' : List code.PassiveCmd) (first next' : ℕ) → map choice_of made' ≡ map choice_of f.made.items ++ chosen_from (truth_in t) first s.chooses → first ≡ f.next + s.skips → next' ≡ first + s.chooses → left' ≡ drop w f.left.now → made_by f (next_by t (k ∷ ks) f rest) ≡ map choice_of made' ++ front_of (walk_in t) (truth_in t) ks (cmds_of left') next' rest
+  pub goes : g ≡ went.On → (made' : List Choice) (left' : List code.FormCmd) (first next' : ℕ) → map choice_of made' ≡ map choice_of f.made.items ++ chosen_from (values_in t) first s.chooses → first ≡ f.next + s.skips → next' ≡ first + s.chooses → left' ≡ drop w f.left.now → made_by f (next_by t (k ∷ ks) f rest) ≡ map choice_of made' ++ front_of (walk_in t) (values_in t) ks (form_cmds_of left') next' rest
   goes on made' left' first next' more at next left =
-      let own = chosen_from (truth_in t) first s.chooses in
+      let own = chosen_from (values_in t) first s.chooses in
       let n : next_after k f.next ≡ next' = is.next f.next ∙ (ap (λ j. j + s.chooses) (sym at) ∙ sym next) in
-      let l : drop (width k) (cmds_of f.left.now) ≡ cmds_of left' = ap (λ j. drop j (cmds_of f.left.now)) is.cmds ∙ (drop_own passive_cmd_of f.left.now s.cmds w low ∙ ap cmds_of (sym left)) in
-      let c : cmd_truths (truth_in t) k f.next ≡ own = is.chosen (truth_in t) f.next ∙ ap (λ j. chosen_from (truth_in t) j s.chooses) (sym at) in
-      let then = front_of (walk_in t) (truth_in t) ks (cmds_of left') next' rest in
+      let l : drop (width k) (form_cmds_of f.left.now) ≡ form_cmds_of left' = ap (λ j. drop j (form_cmds_of f.left.now)) is.cmds ∙ (drop_own form_cmd_of f.left.now s.cmds w low ∙ ap form_cmds_of (sym left)) in
+      let c : cmd_choices k f.next (values_in t) ≡ own = is.chosen (values_in t) f.next ∙ ap (λ j. chosen_from (values_in t) j s.chooses) (sym at) in
+      let then = front_of (walk_in t) (values_in t) ks (form_cmds_of left') next' rest in
       ap (λ o. made_by f (if_on o behind)) (own_told ∙ ap walked_of on)
-      ∙ (ap (λ x. made_by f (x ++ front_of (walk_in t) (truth_in t) ks (drop (width k) (cmds_of f.left.now)) (next_after k f.next) rest)) c
-      ∙ (ap (λ x. made_by f (own ++ front_of (walk_in t) (truth_in t) ks x (next_after k f.next) rest)) l
-      ∙ (ap (λ x. made_by f (own ++ front_of (walk_in t) (truth_in t) ks (cmds_of left') x rest)) n
+      ∙ (ap (λ x. made_by f (x ++ front_of (walk_in t) (values_in t) ks (drop (width k) (form_cmds_of f.left.now)) (next_after k f.next) rest)) c
+      ∙ (ap (λ x. made_by f (own ++ front_of (walk_in t) (values_in t) ks x (next_after k f.next) rest)) l
+      ∙ (ap (λ x. made_by f (own ++ front_of (walk_in t) (values_in t) ks (form_cmds_of left') x rest)) n
       ∙ (sym (append_assoc (map choice_of f.made.items) own then) ∙ ap (λ x. x ++ then) (sym more)))))
 
 -- one turn of the loop over commands

@@ -1,6 +1,7 @@
-pub mod Values
-pub mod Fronts
+pub mod Alike
+pub mod Denied
 pub mod Paths
+pub mod Fronts
 pub mod Aligned
 pub mod Last
 pub mod Steps

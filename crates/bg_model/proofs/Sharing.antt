@@ -1,9 +1,9 @@
 -- What commands have of their block's passive commands and of the incarnations.
-use Rattle.std.proofs.Common.{◌≡◌, ℕ, zero, suc, ◌+◌, Bool, List, [], ◌∷◌, ◌++◌, length, map, refl, sym, ap, ◌∙◌, arith, length-append}
+use Rattle.std.proofs.Common.{◌≡◌, ℕ, zero, suc, ◌+◌, List, [], ◌∷◌, ◌++◌, length, map, refl, sym, ap, ◌∙◌, arith, length-append}
 use Rattle.std.specs.Prelude.{min}
 use Rattle.std.proofs.lemmas.List.{length-map}
 use Rattle.bg_ast.specs.Values as v
-use Rattle.bg_ast.specs.Values.{Truth}
+use Rattle.bg_ast.specs.Values.{Val}
 use Rattle.bg_ast.specs.Syntax as s
 use Rattle.bg_ast.specs.Resolved as r
 use Rattle.bg_ast.specs.Meaning as m
@@ -19,12 +19,14 @@ use Rattle.bg_ast.specs.declared.resolved.Variable.{Variable}
 use Rattle.bg_calls.specs.Core.{Plan, Forget, Put, Perform, demands, sayings, each_one}
 use Rattle.bg_blocks.specs.Views.{clauses_in}
 use Rattle.bg_passive.specs.Incarnations.{Env, Passed, hold_next, after_vars, after_exs, each_ex, claims_in, supposes_in, set_to, pass}
+use Rattle.bg_passive.specs.ReadBack.{vars_choices, decls_choices, cmd_choices}
+use Rattle.bg_sense.specs.Eval.{value_at}
 use Rattle.bg_sense.specs.Variables.{count_from}
 use Rattle.bg_incarnate.specs.Even.{how_many}
 use Rattle.bg_incarnate.specs.Views.{plan_in}
 use Rattle.bg_incarnate.proofs.Calls.{called, plan_is}
 use Rattle.bg_model.specs.declared.share.Share.{Share}
-use Rattle.bg_model.specs.Fronts.{chosen_from, cmd_truths}
+use Rattle.bg_model.specs.Fronts.{chosen_from}
 use Rattle.bg_model.specs.Turns.{width, next_after}
 use Rattle.bg_model.specs.Shares.{IsShare, assigned}
 use Rattle.bg_model.proofs.Aligned.{length_claims, length_supposes, length_sets, width_is}
@@ -40,6 +42,15 @@ exs_next (s.More e es) n = let h = exs_next es (suc n) in omega (arith, h)
 plus_none : (n : ℕ) → n + 0 ≡ n
 plus_none n = omega arith
 
+-- what variables and results choose are the values of incarnations in a row
+vars_chosen : (xs : List s.Var) (n : ℕ) (vs : List Val) → vars_choices xs n vs ≡ chosen_from vs n (length xs)
+vars_chosen [] n vs = refl
+vars_chosen (x ∷ xs) n vs = ap (λ l. e.Chosen (value_at vs n) ∷ l) (vars_chosen xs (suc n) vs)
+
+decls_chosen : (ds : List s.Decl) (n : ℕ) (vs : List Val) → decls_choices ds n vs ≡ chosen_from vs n (length ds)
+decls_chosen [] n vs = refl
+decls_chosen (d ∷ ds) n vs = ap (λ l. e.Chosen (value_at vs n) ∷ l) (decls_chosen ds (suc n) vs)
+
 -- variables that take any values
 pub forget_is : (xs : List Variable) (n : ℕ) → n ≡ length xs → IsShare (Forget (map var_of xs)) (record { cmds = 0; skips = 0; chooses = n })
 forget_is xs n e =
@@ -47,7 +58,7 @@ forget_is xs n e =
     record {
       cmds = refl;
       next = λ k. let h = vars_next (map var_of xs) k in omega (arith, h, l);
-      chosen = λ truth k. ap (chosen_from truth k) l ∙ ap (λ j. chosen_from truth j n) (sym (plus_none k));
+      chosen = λ vs k. vars_chosen (map var_of xs) k vs ∙ (ap (chosen_from vs k) l ∙ ap (λ j. chosen_from vs j n) (sym (plus_none k)));
     }
 
 exs_many : (es : List Expr) → how_many (m.exs_of (exs_in es)) ≡ length es
@@ -66,27 +77,27 @@ put_is xs ts es n e =
     record {
       cmds = l;
       next = λ k. let h = exs_next (m.values_of (map target_of ts) (exs_in es)) k in omega (arith, h, l);
-      chosen = λ truth k. refl;
+      chosen = λ vs k. refl;
     }
 
 says_many : (cs : List Clause) → length (sayings each_one (clauses_in cs)) ≡ length cs
 says_many [] = refl
 says_many (c ∷ cs) = ap (λ n. suc n) (says_many cs)
 
-chosen_append : (truth : ℕ → Bool) (n a b : ℕ) → chosen_from truth n a ++ chosen_from truth (n + a) b ≡ chosen_from truth n (a + b)
-chosen_append truth n zero b =
-    ap (λ j. chosen_from truth j b) (plus_none n) ∙ ap (chosen_from truth n) (let h : b ≡ 0 + b = omega arith in h)
-chosen_append truth n (suc a) b =
+chosen_append : (vs : List Val) (n a b : ℕ) → chosen_from vs n a ++ chosen_from vs (n + a) b ≡ chosen_from vs n (a + b)
+chosen_append vs n zero b =
+    ap (λ j. chosen_from vs j b) (plus_none n) ∙ ap (chosen_from vs n) (let h : b ≡ 0 + b = omega arith in h)
+chosen_append vs n (suc a) b =
     let h : n + suc a ≡ suc n + a = omega arith in
     let k : suc (a + b) ≡ suc a + b = omega arith in
-    ap (λ j. chosen_from truth n (suc a) ++ chosen_from truth j b) h
-    ∙ ap (λ l. e.Chosen (Truth (truth n)) ∷ l) (chosen_append truth (suc n) a b)
-    ∙ ap (chosen_from truth n) k
+    ap (λ j. chosen_from vs n (suc a) ++ chosen_from vs j b) h
+    ∙ ap (λ l. e.Chosen (value_at vs n) ∷ l) (chosen_append vs (suc n) a b)
+    ∙ ap (chosen_from vs n) k
 
-two_chosen : (truth : ℕ → Bool) (n1 n2 a b j c : ℕ) → n1 ≡ j → n2 ≡ n1 + a → a + b ≡ c → chosen_from truth n1 a ++ chosen_from truth n2 b ≡ chosen_from truth j c
-two_chosen truth n1 n2 a b j c e f g =
-    ap (λ n. chosen_from truth n1 a ++ chosen_from truth n b) f
-    ∙ (chosen_append truth n1 a b ∙ (ap (chosen_from truth n1) g ∙ ap (λ n. chosen_from truth n c) e))
+two_chosen : (vs : List Val) (n1 n2 a b j c : ℕ) → n1 ≡ j → n2 ≡ n1 + a → a + b ≡ c → chosen_from vs n1 a ++ chosen_from vs n2 b ≡ chosen_from vs j c
+two_chosen vs n1 n2 a b j c e f g =
+    ap (λ n. chosen_from vs n1 a ++ chosen_from vs n b) f
+    ∙ (chosen_append vs n1 a b ∙ (ap (chosen_from vs n1) g ∙ ap (λ n. chosen_from vs n c) e))
 
 -- a call
 pub call_is : (p : r.Program) (k : Call) (q : Procedure) (xs : List Variable) (sh : Share) (n : ℕ) → length (demands (AtCall k.site) (clauses_in q.requires_.items)) ≡ n → sh.skips ≡ length k.args.items → sh.cmds ≡ length k.args.items + n + length q.ensures_.items → sh.chooses ≡ length xs + length q.results.items → IsShare (Perform (plan_in p (call_of k) (proc_of q) xs)) sh
@@ -144,12 +155,17 @@ call_is p k q xs sh n needs skips cmds chooses =
         let h4 = length-map xs var_of in
         omega (arith, b, h1, h2, h3, h4, skips, chooses)
 
-    chosen_of : (truth : ℕ → Bool) (j : ℕ) → cmd_truths truth (Perform plan) j ≡ chosen_from truth (j + sh.skips) sh.chooses
-    chosen_of truth j =
+    chosen_of : (vs : List Val) (j : ℕ) → cmd_choices (Perform plan) j vs ≡ chosen_from vs (j + sh.skips) sh.chooses
+    chosen_of vs j =
         let h1 = exs_next args j in
         let h2 = vars_next (map var_of xs) (after_exs args j) in
         let h3 = exs_many k.args.items in
         let h4 = length-map xs var_of in
         let h5 = length-map (map declared_of q.results.items) (m.decl_of named) in
         let h6 = length-map q.results.items declared_of in
-        two_chosen truth (after_exs args j) (after_vars (map var_of xs) (after_exs args j)) (length (map var_of xs)) (length (map (m.decl_of named) (map declared_of q.results.items))) (j + sh.skips) sh.chooses (omega (arith, h1, h3, skips)) h2 (omega (arith, h4, h5, h6, chooses))
+        let n1 = after_exs args j in
+        let n2 = after_vars (map var_of xs) n1 in
+        let results = map (m.decl_of named) (map declared_of q.results.items) in
+        ap (λ l. l ++ decls_choices results n2 vs) (vars_chosen (map var_of xs) n1 vs)
+        ∙ ap (λ l. chosen_from vs n1 (length (map var_of xs)) ++ l) (decls_chosen results n2 vs)
+        ∙ two_chosen vs n1 n2 (length (map var_of xs)) (length results) (j + sh.skips) sh.chooses (omega (arith, h1, h3, skips)) h2 (omega (arith, h4, h5, h6, chooses))

@@ -1,18 +1,14 @@
--- Walks through passive commands over truth values of the incarnations.
-use Rattle.std.specs.Prelude.{ℕ, Bool, ◌||◌, if◌then◌else◌, List, [], ◌∷◌, Option}
-use Rattle.bg_ast.specs.Syntax.{Ex}
+-- Walks through commands of forms over truth values of the atoms.
+use Rattle.std.specs.Prelude.{ℕ, Bool, if◌then◌else◌, List, [], ◌∷◌}
 use Rattle.bg_ast.specs.Execution.{Spot}
-use Rattle.bg_passive.specs.Passive.{PassiveCmd, Claims, Supposes, spot_eq, is_absent, Walked, On, Stopped, Hit}
-use Rattle.bg_forms.specs.Forms.{form_true, form_of}
+use Rattle.bg_passive.specs.Passive.{spot_eq, Walked, On, Stopped, Hit}
+use Rattle.bg_formed.specs.Formed.{FormCmd, Asks, Takes}
+use Rattle.bg_formed.specs.Wells.{is_met}
 
--- a clause is absent or holds
-abbrev pub is_met : (ℕ → Bool) → (ℕ → Bool) → Option ℕ → Ex → Bool
-is_met set truth b e = is_absent set b || form_true truth (form_of e)
-
--- how a walk goes, where the incarnations have these truth values
-abbrev pub walk_over : (ℕ → Bool) → Spot → (ℕ → Bool) → List PassiveCmd → Walked
-walk_over set t truth [] = On
-walk_over set t truth (Claims s b e ∷ ks) =
-    if is_met set truth b e then walk_over set t truth ks
+-- how a walk goes, where the atoms have these truth values
+abbrev pub walk_over : (ℕ → Bool) → Spot → (ℕ → Bool) → List FormCmd → Walked
+walk_over set t w [] = On
+walk_over set t w (Asks s b r ∷ ks) =
+    if is_met set w b r then walk_over set t w ks
     else if spot_eq s t then Hit else Stopped
-walk_over set t truth (Supposes b e ∷ ks) = if is_met set truth b e then walk_over set t truth ks else Stopped
+walk_over set t w (Takes b r ∷ ks) = if is_met set w b r then walk_over set t w ks else Stopped

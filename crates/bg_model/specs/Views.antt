@@ -1,13 +1,15 @@
 -- How the code's walks are read.
-use Rattle.std.specs.Prelude.{ℕ, Bool, true, false, List, [], ◌++◌, map}
+use Rattle.std.specs.Prelude.{ℕ, Bool, true, false, List, [], ◌++◌, map, slice_get, unwrap_or}
+use Rattle.bg_ast.specs.Values.{Val}
 use Rattle.bg_ast.specs.Execution.{Choice}
 use Rattle.bg_places.specs.Views.{spot_of}
 use Rattle.bg_calls.specs.Core.{Cmd}
-use Rattle.bg_passive.specs.Passive.{PassiveCmd, Walked, On, Stopped, Hit}
-use Rattle.bg_incarnate.specs.Views.{cmds_of}
+use Rattle.bg_passive.specs.Passive.{Walked, On, Stopped, Hit}
 use Rattle.bg_forms.specs.Worth.{bools_at}
-use Rattle.bg_replay.specs.Moments.{choice_of}
-use Rattle.bg_replay.specs.Views.{set_of}
+use Rattle.bg_formed.specs.Formed.{FormCmd}
+use Rattle.bg_formed.specs.Views.{form_cmds_of}
+use Rattle.bg_scalar.specs.Values.{val_of}
+use Rattle.bg_scalar.specs.Choices.{choice_of}
 use Rattle.bg_model.specs.declared.front.Front.{Front}
 use Rattle.bg_model.specs.declared.trial.Trial.{Trial}
 use Rattle.bg_model.specs.declared.walk.Went.{Went}
@@ -20,12 +22,16 @@ walked_of went.On = On
 walked_of went.Stopped = Stopped
 walked_of went.Hit = Hit
 
--- the truth values of the incarnations
-abbrev pub truth_in : Trial → ℕ → Bool
-truth_in t = bools_at t.truths.now
+-- the candidates that are there; one without an entry isn't
+abbrev pub set_of : List Bool → ℕ → Bool
+set_of bs b = unwrap_or (slice_get bs b) false
+
+-- the values of the incarnations
+abbrev pub values_in : Trial → List Val
+values_in t = map val_of t.values.now
 
 -- how a walk goes
-abbrev pub walk_in : Trial → List PassiveCmd → Walked
+abbrev pub walk_in : Trial → List FormCmd → Walked
 walk_in t = walk_over (set_of t.set.now) (spot_of t.target) (bools_at t.truths.now)
 
 -- what is chosen behind commands, where the walk goes on there
@@ -39,4 +45,4 @@ made_by f rest = map choice_of f.made.items ++ rest
 
 -- the choices of these commands, which come next
 abbrev pub next_by : Trial → List Cmd → Front → List Choice → List Choice
-next_by t ks f rest = front_of (walk_in t) (truth_in t) ks (cmds_of f.left.now) f.next rest
+next_by t ks f rest = front_of (walk_in t) (values_in t) ks (form_cmds_of f.left.now) f.next rest

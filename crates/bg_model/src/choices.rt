@@ -4,10 +4,10 @@ ghost use Rattle.bg_ast.specs.Execution as e;
 ghost use Rattle.bg_ast.specs.Resolved.{Program};
 ghost use Rattle.bg_flow.specs.Blocks as f;
 ghost use Rattle.bg_blocks.specs.Views.{block_of, cmd_of, exit_of};
-ghost use Rattle.bg_incarnate.specs.Views.{cmds_of, passive_block_of};
-ghost use Rattle.bg_replay.specs.Moments.{choice_of};
+ghost use Rattle.bg_formed.specs.Views.{form_cmds_of, form_block_of};
+ghost use Rattle.bg_scalar.specs.Choices.{choice_of};
 ghost use Rattle.bg_model.specs.Turns.{front_of, turn_choices, choices_on, taken};
-ghost use Rattle.bg_model.specs.Views.{walk_in, truth_in, made_by};
+ghost use Rattle.bg_model.specs.Views.{walk_in, values_in, made_by};
 
 use crate::commands::commands;
 use crate::exit::exit;
@@ -15,8 +15,8 @@ use crate::front::Front;
 use crate::trial::Trial;
 use crate::turn::Turn;
 use bg_blocks::{Block, Exit};
-use bg_incarnate::{Passive, PassiveBlock};
-use bg_replay::Choice;
+use bg_formed::FormBlock;
+use bg_scalar::Choice;
 use std::alloc::AllocError;
 use std::collections::VecDeque;
 
@@ -39,13 +39,13 @@ fn block<'a>(
     trial: Trial<'_>,
     front: &mut Front<'a>,
     b: &Block<'_>,
-    q: &'a PassiveBlock,
+    forms: &'a FormBlock,
     first: u32,
     turn: Turn,
 ) -> Result<Option<usize>, AllocError>
-    ensures { IfOk result (λ to. (p : Program) (behind : ℕ → List e.Choice) → made_by front.old (front_of (walk_in trial.entry) (truth_in trial.entry) (map (cmd_of p) b.now.cmds.items) (cmds_of q.now.cmds.items) first (turn_choices turn (exit_of b.now.exit) behind)) ≡ made_by front.new (choices_on to behind)) }
+    ensures { IfOk result (λ to. (p : Program) (behind : ℕ → List e.Choice) → made_by front.old (front_of (walk_in trial.entry) (values_in trial.entry) (map (cmd_of p) b.now.cmds.items) (form_cmds_of forms.now.cmds.items) first (turn_choices turn (exit_of b.now.exit) behind)) ≡ made_by front.new (choices_on to behind)) }
 {
-    front.left = &q.cmds;
+    front.left = &forms.cmds;
     front.next = first as usize;
     if !commands(trial, front, &b.cmds)? {
         return Ok(None);
@@ -54,21 +54,23 @@ fn block<'a>(
     Ok(to)
 }
 
-/// Adds the choices of the block of this number, as `block` does; none where its passive block, first incarnation or turn isn't there.
+/// Adds the choices of the block of this number, as `block` does; none where its block of forms, first incarnation or turn isn't
+/// there.
 fn visit<'a>(
     trial: Trial<'_>,
     front: &mut Front<'a>,
     b: &Block<'_>,
-    passive: &'a Passive,
+    forms: &'a [FormBlock],
+    firsts: &[u32],
     turns: &VecDeque<Turn>,
     i: usize,
 ) -> Result<Option<usize>, AllocError>
-    ensures { IfOk result (λ to. (p : Program) (bs : List f.Block) → made_by front.old (taken (walk_in trial.entry) (truth_in trial.entry) (block_of p b.now ∷ bs) (map passive_block_of (drop i passive.now.blocks.items)) (drop i passive.now.firsts.items) (drop i turns.now.items) 0) ≡ made_by front.new (choices_on to (taken (walk_in trial.entry) (truth_in trial.entry) bs (map passive_block_of (drop (i + 1) passive.now.blocks.items)) (drop (i + 1) passive.now.firsts.items) (drop (i + 1) turns.now.items)))) }
+    ensures { IfOk result (λ to. (p : Program) (bs : List f.Block) → made_by front.old (taken (walk_in trial.entry) (values_in trial.entry) (block_of p b.now ∷ bs) (map form_block_of (drop i forms.now)) (drop i firsts.now) (drop i turns.now.items) 0) ≡ made_by front.new (choices_on to (taken (walk_in trial.entry) (values_in trial.entry) bs (map form_block_of (drop (i + 1) forms.now)) (drop (i + 1) firsts.now) (drop (i + 1) turns.now.items)))) }
 {
-    let Some(q) = passive.blocks.get(i) else {
+    let Some(q) = forms.get(i) else {
         return Ok(None);
     };
-    let Some(first) = passive.firsts.get(i) else {
+    let Some(first) = firsts.get(i) else {
         return Ok(None);
     };
     let Some(turn) = turns.get(i) else {
@@ -82,10 +84,11 @@ fn visit<'a>(
 pub fn choices(
     trial: Trial<'_>,
     blocks: &[Block<'_>],
-    passive: &Passive,
+    forms: &[FormBlock],
+    firsts: &[u32],
     turns: &VecDeque<Turn>,
 ) -> Result<Vec<Choice>, AllocError>
-    ensures { IfOk result (λ made. (p : Program) → map choice_of made.items ≡ taken (walk_in trial.entry) (truth_in trial.entry) (map (block_of p) blocks.now) (map passive_block_of passive.now.blocks.items) passive.now.firsts.items turns.now.items 0) }
+    ensures { IfOk result (λ made. (p : Program) → map choice_of made.items ≡ taken (walk_in trial.entry) (values_in trial.entry) (map (block_of p) blocks.now) (map form_block_of forms.now) firsts.now turns.now.items 0) }
 {
     let mut front = Front {
         made: Vec::new(trial.alloc),
@@ -97,7 +100,7 @@ pub fn choices(
         if skip > 0 {
             skip -= 1;
         } else {
-            match visit(trial, &mut front, b, passive, turns, i)? {
+            match visit(trial, &mut front, b, forms, firsts, turns, i)? {
                 None => return Ok(front.made),
                 Some(k) => skip = k,
             }

@@ -20,13 +20,13 @@ fn command(trial: Trial<'_>, front: &mut Front<'_>, k: &Cmd<'_>) -> Result<bool,
 {
     let s = share_of(k)?;
     let width = s.cmds.min(front.left.len());
-    match walk(trial, &front.left[..width])? {
+    match walk(trial, &front.left[..width]) {
         Went::On => {}
         Went::Stopped => return Ok(false),
         Went::Hit => return Ok(false),
     }
     let first = add(front.next, s.skips)?;
-    choose(&mut front.made, trial.truths, first, s.chooses)?;
+    choose(&mut front.made, trial.values, first, s.chooses)?;
     front.next = add(first, s.chooses)?;
     front.left = &front.left[width..];
     Ok(true)

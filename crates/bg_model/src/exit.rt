@@ -5,11 +5,11 @@ ghost use Rattle.bg_flow.specs.Blocks.{Leap};
 ghost use Rattle.bg_passive.specs.Incarnations.{targets_of};
 ghost use Rattle.bg_passive.specs.ReadBack.{exit_choices};
 ghost use Rattle.bg_blocks.specs.Views.{exit_of};
-ghost use Rattle.bg_replay.specs.Moments.{choice_of};
+ghost use Rattle.bg_scalar.specs.Choices.{choice_of};
 
 use bg_ast::resolved::Guard;
 use bg_blocks::Exit;
-use bg_replay::Choice;
+use bg_scalar::Choice;
 use std::alloc::AllocError;
 
 /// The number of a branch; 2^32 of them count as want of memory.

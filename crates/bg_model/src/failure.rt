@@ -1,11 +1,11 @@
 //! Counterexamples.
-use bg_replay::Choice;
+use bg_scalar::{Choice, Scalar};
 
 /// A run that fails: entry values of the globals, of the frame (parameters, results, locals), and the choices that it takes up to
 /// the check that fails.
 #[derive(Debug, Drop)]
 pub struct Counterexample {
-    pub globals: Vec<bool>,
-    pub frame: Vec<bool>,
+    pub globals: Vec<Scalar>,
+    pub frame: Vec<Scalar>,
     pub choices: Vec<Choice>,
 }

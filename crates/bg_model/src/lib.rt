@@ -1,4 +1,4 @@
-//! From truth values under which the equations of a check deny the entry block to a run that fails there.
+//! From truth values of atoms, under which the equations of a check deny the entry block, to a run that fails there.
 #![tactic(auto)]
 
 mod choices;
@@ -9,7 +9,6 @@ mod failure;
 mod find;
 mod front;
 mod share;
-mod spot;
 #[cfg(test)]
 mod tests;
 mod trial;

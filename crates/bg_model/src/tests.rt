@@ -1,11 +1,12 @@
 //! Counterexamples of blocks that are made by hand, with ample memory.
-use crate::counterexample;
+use crate::{Counterexample, counterexample};
 use bg_ast::resolved::{Clause, Expr, Resolved, Variable};
 use bg_base::Pos;
 use bg_blocks::{Block, Cmd, Exit};
+use bg_formed::formed;
 use bg_incarnate::passive;
 use bg_places::{Group, Spot};
-use bg_replay::Choice;
+use bg_scalar::{Choice, Scalar};
 use std::alloc::{AllocError, Global};
 use std::test::Fail;
 
@@ -73,52 +74,83 @@ fn blocks<'a>(
     Ok(made)
 }
 
-type Case<'a> = (u32, &'a [bool], Option<&'a [Choice]>);
+const YES: Scalar = Scalar::Truth(true);
 
-#[test]
-fn choices_end_at_the_check_that_fails(rt: HostRuntime) -> Result<(), Fail> {
-    let alloc = rt.alloc();
+const NO: Scalar = Scalar::Truth(false);
+
+/// A check, truth values of the atoms, values of the incarnations, and the choices that are wanted.
+type Case<'a> = (u32, &'a [bool], &'a [Scalar], Option<&'a [Choice]>);
+
+fn is_wanted(found: Option<Counterexample>, values: &[Scalar], want: Option<&[Choice]>) -> bool {
+    match (found, want) {
+        (None, None) => true,
+        (Some(cex), Some(choices)) => {
+            cex.choices.as_slice() == choices
+                && cex.globals.is_empty()
+                && cex.frame.len() == 1
+                && !values.is_empty()
+                && cex.frame[0] == values[0]
+        }
+        (_, _) => false,
+    }
+}
+
+fn passes(alloc: Global, case: Case<'_>) -> Result<bool, AllocError> {
+    let (id, truths, values, want) = case;
     let program = no_declarations(alloc);
     let claims = ([claim(0)], [claim(1)], [claim(2)]);
     let blocks = blocks(alloc, &claims.0, &claims.1, &claims.2)?;
     let passive = passive(alloc, &program, 1, &blocks)?;
-    let cases: [Case<'_>; 5] = [
-        (0, &[false, false, false], Some(&[])),
-        (1, &[true, false, false], Some(&[Choice::Chosen(false)])),
+    let Some(forms) = formed(alloc, passive.count, 0, &passive.blocks)? else {
+        return Ok(false);
+    };
+    let found = counterexample(
+        alloc,
+        &program,
+        1,
+        &blocks,
+        &passive.firsts,
+        &forms,
+        Spot::Assert(id),
+        &[],
+        truths,
+        values,
+    )?;
+    Ok(is_wanted(found, values, want))
+}
+
+#[test]
+fn choices_end_at_the_check_that_fails(rt: HostRuntime) -> Result<(), Fail> {
+    let cases: [Case<'_>; 6] = [
+        (0, &[false, false, false], &[NO, NO, NO], Some(&[])),
+        (
+            1,
+            &[true, false, false],
+            &[YES, NO, NO],
+            Some(&[Choice::Chosen(NO)]),
+        ),
         (
             2,
             &[true, true, false],
+            &[YES, YES, NO],
+            Some(&[Choice::Chosen(YES), Choice::Branch(0), Choice::Chosen(NO)]),
+        ),
+        (2, &[true, true, true], &[YES, YES, YES], None),
+        (1, &[false, false, false], &[NO, NO, NO], None),
+        (
+            2,
+            &[true, true, false],
+            &[Scalar::Number(-7), Scalar::Number(8)],
             Some(&[
-                Choice::Chosen(true),
+                Choice::Chosen(Scalar::Number(8)),
                 Choice::Branch(0),
-                Choice::Chosen(false),
+                Choice::Chosen(Scalar::Number(0)),
             ]),
         ),
-        (2, &[true, true, true], None),
-        (1, &[false, false, false], None),
     ];
-    for (id, truths, want) in cases {
-        let found = counterexample(
-            alloc,
-            &program,
-            1,
-            &blocks,
-            &passive,
-            Spot::Assert(id),
-            &[],
-            truths,
-        )?;
-        match (found, want) {
-            (None, None) => {}
-            (Some(cex), Some(choices)) => {
-                assert!(rt; cex.choices.as_slice() == choices);
-                assert!(rt; cex.globals.is_empty());
-                assert!(rt;
-                    cex.frame.len() == 1 && !truths.is_empty() && cex.frame[0] == truths[0]
-                );
-            }
-            (_, _) => return Err("another answer".into()),
-        }
+    for case in cases {
+        let is_right = passes(rt.alloc(), case)?;
+        assert!(rt; is_right);
     }
     Ok(())
 }

@@ -1,13 +1,13 @@
 //! The turns of blocks.
 ghost use Rattle.std.specs.Prelude.{◌≡◌, map, slice_get, IfOk};
-ghost use Rattle.bg_incarnate.specs.Views.{edge_of, passive_block_of};
+ghost use Rattle.bg_formed.specs.Views.{form_edge_of, form_block_of};
 ghost use Rattle.bg_model.specs.Turns as spec;
 ghost use Rattle.bg_model.specs.Views.{walk_in};
 
 use crate::trial::Trial;
 use crate::turn::Turn;
 use crate::walk::{Went, walk};
-use bg_incarnate::{Edge, PassiveBlock};
+use bg_formed::{FormBlock, FormEdge};
 use std::alloc::AllocError;
 use std::collections::VecDeque;
 
@@ -24,48 +24,48 @@ pub fn fails(later: &VecDeque<Turn>, k: usize) -> bool
 }
 
 /// Whether some walk fails along an edge.
-fn edge_fails(trial: Trial<'_>, later: &VecDeque<Turn>, e: &Edge) -> Result<bool, AllocError>
-    ensures { IfOk result (λ b. b ≡ spec.edge_fails (walk_in trial.entry) later.now.items (edge_of e.now)) }
+fn edge_fails(trial: Trial<'_>, later: &VecDeque<Turn>, e: &FormEdge) -> bool
+    ensures { result ≡ spec.edge_fails (walk_in trial.entry) later.now.items (form_edge_of e.now) }
 {
-    match walk(trial, &e.cmds)? {
-        Went::On => Ok(fails(later, e.to)),
-        Went::Stopped => Ok(false),
-        Went::Hit => Ok(true),
+    match walk(trial, &e.cmds) {
+        Went::On => fails(later, e.to),
+        Went::Stopped => false,
+        Went::Hit => true,
     }
 }
 
 /// The lowest edge along which some walk fails.
-fn lowest(trial: Trial<'_>, later: &VecDeque<Turn>, edges: &[Edge]) -> Result<Turn, AllocError>
-    ensures { IfOk result (λ t. t ≡ spec.lowest (walk_in trial.entry) later.now.items 0 (map edge_of edges.now)) }
+fn lowest(trial: Trial<'_>, later: &VecDeque<Turn>, edges: &[FormEdge]) -> Turn
+    ensures { result ≡ spec.lowest (walk_in trial.entry) later.now.items 0 (map form_edge_of edges.now) }
 {
     for (j, e) in edges.iter().enumerate() {
-        if edge_fails(trial, later, e)? {
-            return Ok(Turn::Leads(j));
+        if edge_fails(trial, later, e) {
+            return Turn::Leads(j);
         }
     }
-    Ok(Turn::Well)
+    Turn::Well
 }
 
 /// Where a failing walk goes from a block, where it goes so from the later ones.
-fn turn_at(trial: Trial<'_>, later: &VecDeque<Turn>, b: &PassiveBlock) -> Result<Turn, AllocError>
-    ensures { IfOk result (λ t. t ≡ spec.turn_at (walk_in trial.entry) later.now.items (passive_block_of b.now)) }
+fn turn_at(trial: Trial<'_>, later: &VecDeque<Turn>, b: &FormBlock) -> Turn
+    ensures { result ≡ spec.turn_at (walk_in trial.entry) later.now.items (form_block_of b.now) }
 {
-    match walk(trial, &b.cmds)? {
+    match walk(trial, &b.cmds) {
         Went::On => lowest(trial, later, &b.next),
-        Went::Stopped => Ok(Turn::Well),
-        Went::Hit => Ok(Turn::Ends),
+        Went::Stopped => Turn::Well,
+        Went::Hit => Turn::Ends,
     }
 }
 
 /// Where a failing walk goes from each block, told from the last one back.
 #[tactic(auto, using(crate::proofs::Last::onto_last))]
-pub fn turns(trial: Trial<'_>, blocks: &[PassiveBlock]) -> Result<VecDeque<Turn>, AllocError>
-    ensures { IfOk result (λ made. made.items ≡ spec.turns (walk_in trial.entry) (map passive_block_of blocks.now)) }
+pub fn turns(trial: Trial<'_>, blocks: &[FormBlock]) -> Result<VecDeque<Turn>, AllocError>
+    ensures { IfOk result (λ made. made.items ≡ spec.turns (walk_in trial.entry) (map form_block_of blocks.now)) }
 {
     let mut later = VecDeque::new(trial.alloc);
     let mut left = blocks;
     while let Some((last, before)) = left.split_last() {
-        let t = turn_at(trial, &later, last)?;
+        let t = turn_at(trial, &later, last);
         later.push_front(t)?;
         left = before;
     }

@@ -1,9 +1,10 @@
--- Calls over truth values, and commands in order.
+-- Calls over scalars, and commands in order.
 use Rattle.std.proofs.Common.{◌≡◌, ℕ, Bool, true, false, List, [], ◌∷◌, ◌++◌, length, drop, map, Option, Some, None, refl, ap, ◌∙◌}
-use Rattle.std.specs.Prelude.{◌&&◌}
-use Rattle.bg_ast.specs.Values.{Val, Ty, BoolTy, Truth, is_bool}
+use Rattle.std.specs.Prelude.{◌&&◌, if◌then◌else◌}
+use Rattle.bg_ast.specs.Values.{Val, is_of}
 use Rattle.bg_ast.specs.Syntax.{Var, Decl, Prog}
 use Rattle.bg_ast.specs.Execution as e
+use Rattle.bg_fits.specs.Holdings.{holding_of, holdings_of}
 use Rattle.bg_sense.specs.Eval.{evs, functions_of}
 use Rattle.bg_sense.specs.Flow as f
 use Rattle.bg_sense.specs.Flow.{World, BadChoice, Flow, Next, and_then}
@@ -11,49 +12,50 @@ use Rattle.bg_sense.specs.Context.{Ctx, scope, callee_scope}
 use Rattle.bg_sense.specs.Variables as v
 use Rattle.bg_sense.specs.Choices.{forget_all, choose_all}
 use Rattle.bg_calls.specs.Core.{Saying, Plan, Cmd, Check, Suppose, Forget, Put, Perform, Finish, check_these, suppose_these, act, act_all}
-use Rattle.bg_replay.specs.Truths.{Seen, truths_in, cons_o}
+use Rattle.bg_scalar.specs.Worths.{Seen}
+use Rattle.bg_scalar.specs.Lists.{Listed, Are, Leave, NoScalars, worths}
+use Rattle.bg_scalar.specs.Values.{val_of}
+use Rattle.bg_scalar.specs.declared.choice.Choice.{Choice}
+use Rattle.bg_scalar.specs.declared.choice.Choice.TheVariants as choice
+use Rattle.bg_scalar.specs.declared.scalar.Scalar.{Scalar}
+use Rattle.bg_scalar.proofs.Listing.{AllAgree, all_agree}
+use Rattle.bg_replay.specs.Holds.{holds, hold_scalars}
 use Rattle.bg_replay.specs.Moments.{Moment, Around, Goes, and_so, world_of, seen_at}
 use Rattle.bg_replay.specs.Said.{on_said, checks, supposes}
-use Rattle.bg_replay.specs.Acts.{put_each, forgotten, assigned, chosen, skipped, given_back, called_with, called, acts}
-use Rattle.bg_replay.specs.Bools.{are_bools}
+use Rattle.bg_replay.specs.Acts.{put_each, forgotten, assigned, cons_o, chosen, skipped, given_back, called_with, called, acts}
 use Rattle.bg_replay.specs.Ways.{acts_each}
-use Rattle.bg_replay.specs.declared.choice.Choice.{Choice}
-use Rattle.bg_replay.specs.declared.choice.Choice.TheVariants as choice
-use Rattle.bg_replay.proofs.Worths.{AllWorth, truths_is}
-use Rattle.bg_replay.proofs.Agreeing.{Agrees, so_then, put_each_is, AreTruths, ctx, Declares, checks_are, supposes_are, forgets}
+use Rattle.bg_replay.proofs.Agreeing.{Agrees, so_then, put_each_is, holds_is, known_if, ctx, Declares, checks_are, supposes_are, forgets}
 
-map_join : (xs ys : List Bool) → map Truth xs ++ map Truth ys ≡ map Truth (xs ++ ys)
+pub map_join : (xs ys : List Scalar) → map val_of xs ++ map val_of ys ≡ map val_of (xs ++ ys)
 map_join [] ys = refl
-map_join (x ∷ xs) ys = ap (λ (l : List Val). Truth x ∷ l) (map_join xs ys)
+map_join (x ∷ xs) ys = ap (λ (l : List Val). val_of x ∷ l) (map_join xs ys)
 
 -- what follows once these values are chosen
-abbrev after : Option (List Bool) → List Choice → Moment → (List Val → World → Flow) → Flow
+abbrev after : Option (List Scalar) → List Choice → Moment → (List Val → World → Flow) → Flow
 after None cs m go_on = f.Over BadChoice
-after (Some bs) cs m go_on = go_on (map Truth bs) (world_of (record m { choices = drop (length bs) cs }))
+after (Some xs) cs m go_on = go_on (map val_of xs) (world_of (record m { choices = drop (length xs) cs }))
 
-after_cons : (b : Bool) (o : Option (List Bool)) (c : Choice) (cs : List Choice) (m : Moment) (go_on : List Val → World → Flow) → after o cs m (λ vs x. go_on (Truth b ∷ vs) x) ≡ after (cons_o (Some b) o) (c ∷ cs) m go_on
-after_cons b None c cs m go_on = refl
-after_cons b (Some bs) c cs m go_on = refl
+after_cons : (x : Scalar) (o : Option (List Scalar)) (c : Choice) (cs : List Choice) (m : Moment) (go_on : List Val → World → Flow) → after o cs m (λ vs y. go_on (val_of x ∷ vs) y) ≡ after (cons_o (Some x) o) (c ∷ cs) m go_on
+after_cons x None c cs m go_on = refl
+after_cons x (Some xs) c cs m go_on = refl
 
-chooses : (ds : List Decl) → AreTruths ds → (cs : List Choice) (m : Moment) (go_on : List Val → World → Flow) → choose_all ds (world_of (record m { choices = cs })) go_on ≡ after (chosen (length ds) cs) cs m go_on
-chooses [] h cs m go_on = refl
-chooses (d ∷ ds) h [] m go_on = refl
-chooses (d ∷ ds) h (choice.Branch k ∷ cs) m go_on = refl
-chooses (d ∷ ds) h (choice.Chosen b ∷ cs) m go_on =
-    rw h.0 (chooses ds h.1 cs m (λ vs x. go_on (Truth b ∷ vs) x) ∙ after_cons b (chosen (length ds) cs) (choice.Chosen b) cs m go_on)
+after_if : (a b : Bool) (x : Scalar) (o : Option (List Scalar)) (c : Choice) (cs : List Choice) (m : Moment) (go_on : List Val → World → Flow) (w : Flow) → a ≡ b → w ≡ after o cs m (λ vs y. go_on (val_of x ∷ vs) y) → (if b then w else f.Over BadChoice) ≡ after (cons_o (if a then Some x else None) o) (c ∷ cs) m go_on
+after_if true true x o c cs m go_on w e h = h ∙ after_cons x o c cs m go_on
+after_if true false x o c cs m go_on w e h = absurd cc
+after_if false true x o c cs m go_on w e h = absurd cc
+after_if false false x o c cs m go_on w e h = refl
+
+chooses : (ds : List Decl) (cs : List Choice) (m : Moment) (go_on : List Val → World → Flow) → choose_all ds (world_of (record m { choices = cs })) go_on ≡ after (chosen (holdings_of ds) cs) cs m go_on
+chooses [] cs m go_on = refl
+chooses (d ∷ ds) [] m go_on = refl
+chooses (d ∷ ds) (choice.Branch k ∷ cs) m go_on = refl
+chooses (d ∷ ds) (choice.Chosen x ∷ cs) m go_on =
+    after_if (holds (holding_of d.ty) x) (is_of d.ty (val_of x)) x (chosen (holdings_of ds) cs) (choice.Chosen x) cs m go_on (choose_all ds (world_of (record m { choices = cs })) (λ vs y. go_on (val_of x ∷ vs) y)) (holds_is d.ty x)
+    (chooses ds cs m (λ vs y. go_on (val_of x ∷ vs) y))
 
 pub both_true : (a b : Bool) → (a && b) ≡ true → (a ≡ true) × (b ≡ true)
 both_true true b h = (refl, h)
 both_true false b h = absurd cc
-
-bool_type : (t : Ty) → is_bool t ≡ true → t ≡ BoolTy
-bool_type BoolTy h = refl
-bool_type t h = absurd (let bad : ⊥ = cc in bad)
-
-pub bools_are : (ds : List Decl) → are_bools ds ≡ true → AreTruths ds
-bools_are [] h = tt
-bools_are (d ∷ ds) h =
-    let b = both_true (is_bool d.ty) (are_bools ds) h in (bool_type d.ty b.0, bools_are ds b.1)
 
 module _ (p : Prog) (i : e.Interp) (number : ℕ) (ds : List Decl) (a : Around) where
   abbrev c : Ctx
@@ -64,56 +66,58 @@ module _ (p : Prog) (i : e.Interp) (number : ℕ) (ds : List Decl) (a : Around) 
   gives was args qs takes results t =
       and_then (suppose_these c (callee_scope c was (args ++ results)) qs t) (λ s. Next (v.put_all takes results s))
 
-  gives_is : (o : Option (List Bool)) (was args : List Bool) (qs : List Saying) (takes : List Var) (u : Moment) → Agrees (given_back o a was args qs takes u) (after o u.choices u (gives (map Truth was) (map Truth args) qs takes))
+  gives_is : (o : Option (List Scalar)) (was args : List Scalar) (qs : List Saying) (takes : List Var) (u : Moment) → Agrees (given_back o a was args qs takes u) (after o u.choices u (gives (map val_of was) (map val_of args) qs takes))
   gives_is None was args qs takes u = refl
-  gives_is (Some bs) was args qs takes u =
-      let t = skipped (length bs) u in
-      let s : Seen = record { globals = t.globals; before = was; frame = args ++ bs } in
-      let sees = callee_scope c (map Truth was) (map Truth args ++ map Truth bs) in
-      so_then (on_said (supposes a.set s qs) t) (suppose_these c sees qs (world_of t)) (λ n. Goes (put_each takes bs n)) (λ n. Next (v.put_all takes (map Truth bs) n))
-      (supposes_are p i number ds a s sees qs t (ap (λ (l : List Val). callee_scope c (map Truth was) l (world_of t)) (map_join args bs)))
-      (λ n. ap Next (put_each_is takes bs n))
+  gives_is (Some xs) was args qs takes u =
+      let t = skipped xs u in
+      let s : Seen = record { globals = t.globals; before = was; frame = args ++ xs } in
+      let sees = callee_scope c (map val_of was) (map val_of args ++ map val_of xs) in
+      so_then (on_said (supposes a.set s qs) t) (suppose_these c sees qs (world_of t)) (λ n. Goes (put_each takes xs n)) (λ n. Next (v.put_all takes (map val_of xs) n))
+      (supposes_are p i number ds a s sees qs t (ap (λ (l : List Val). callee_scope c (map val_of was) l (world_of t)) (map_join args xs)))
+      (λ n. ap Next (put_each_is takes xs n))
 
   abbrev performs : Plan → List Val → World → Flow
   performs k args w =
       and_then (check_these c (callee_scope c w.globals args) k.needs w) (λ x. and_then (forget_all c k.modifies x) (λ u. choose_all k.results u (gives x.globals args k.gives k.takes)))
 
-  calls_with : Declares p i number ds a → (o : Option (List Bool)) (vs : List Val) (k : Plan) (m : Moment) → AreTruths k.results → AllWorth o vs → Agrees (called_with o a k.needs k.modifies (length k.results) k.gives k.takes m) (performs k vs (world_of m))
-  calls_with d None vs k m t h = tt
-  calls_with d (Some bs) vs k m t h =
-      let s : Seen = record { globals = m.globals; before = m.globals; frame = bs } in
-      let sees = callee_scope c (map Truth m.globals) (map Truth bs) in
+  calls_with : Declares p i number ds a → (o : Listed) (vs : List Val) (k : Plan) (m : Moment) → AllAgree o vs → Agrees (called_with o a k.needs k.modifies (holdings_of k.results) k.gives k.takes m) (performs k vs (world_of m))
+  calls_with d (Leave l) vs k m h = tt
+  calls_with d NoScalars vs k m h = tt
+  calls_with d (Are xs) vs k m h =
+      let s : Seen = record { globals = m.globals; before = m.globals; frame = xs } in
+      let sees = callee_scope c (map val_of m.globals) (map val_of xs) in
       rw h
       (so_then (on_said (checks a.set s k.needs) m) (check_these c sees k.needs (world_of m))
-      (λ n. and_so (forgotten a k.modifies n) (λ u. given_back (chosen (length k.results) u.choices) a n.globals bs k.gives k.takes u))
-      (λ x. and_then (forget_all c k.modifies x) (λ u. choose_all k.results u (gives x.globals (map Truth bs) k.gives k.takes)))
+      (λ n. and_so (forgotten a k.modifies n) (λ u. given_back (chosen (holdings_of k.results) u.choices) a n.globals xs k.gives k.takes u))
+      (λ x. and_then (forget_all c k.modifies x) (λ u. choose_all k.results u (gives x.globals (map val_of xs) k.gives k.takes)))
       (checks_are p i number ds a s sees k.needs m refl)
       (λ n. so_then (forgotten a k.modifies n) (forget_all c k.modifies (world_of n))
-      (λ u. given_back (chosen (length k.results) u.choices) a n.globals bs k.gives k.takes u)
-      (λ u. choose_all k.results u (gives (map Truth n.globals) (map Truth bs) k.gives k.takes))
+      (λ u. given_back (chosen (holdings_of k.results) u.choices) a n.globals xs k.gives k.takes u)
+      (λ u. choose_all k.results u (gives (map val_of n.globals) (map val_of xs) k.gives k.takes))
       (forgets p i number ds a d k.modifies n)
-      (λ u. rw (chooses k.results t u.choices u (gives (map Truth n.globals) (map Truth bs) k.gives k.takes))
-      (gives_is (chosen (length k.results) u.choices) n.globals bs k.gives k.takes u))))
+      (λ u. rw (chooses k.results u.choices u (gives (map val_of n.globals) (map val_of xs) k.gives k.takes))
+      (gives_is (chosen (holdings_of k.results) u.choices) n.globals xs k.gives k.takes u))))
 
-  calls_if : Declares p i number ds a → (b : Bool) (k : Plan) (m : Moment) → (b ≡ true → AreTruths k.results) → Agrees (called b a k.args k.needs k.modifies (length k.results) k.gives k.takes m) (performs k (evs k.args (scope c (world_of m))) (world_of m))
-  calls_if d true k m h =
-      calls_with d (truths_in k.args (seen_at a m)) (evs k.args (scope c (world_of m))) k m (h refl) (truths_is (functions_of p i) i.constants k.args (seen_at a m))
-  calls_if d false k m h = tt
+  calls : Declares p i number ds a → (k : Plan) (m : Moment) → Agrees (called a k.args k.needs k.modifies (holdings_of k.results) k.gives k.takes m) (performs k (evs k.args (scope c (world_of m))) (world_of m))
+  calls d k m =
+      known_if (hold_scalars (holdings_of k.results)) (called_with (worths k.args (seen_at a m)) a k.needs k.modifies (holdings_of k.results) k.gives k.takes m) (performs k (evs k.args (scope c (world_of m))) (world_of m))
+      (calls_with d (worths k.args (seen_at a m)) (evs k.args (scope c (world_of m))) k m (all_agree (functions_of p i) i.constants k.args (seen_at a m)))
 
-  assigns : (o : Option (List Bool)) (vs : List Val) (xs : List Var) (m : Moment) → AllWorth o vs → Agrees (assigned o xs m) (Next (v.put_all xs vs (world_of m)))
-  assigns None vs xs m h = tt
-  assigns (Some bs) vs xs m h = rw h (ap Next (put_each_is xs bs m))
+  assigns : (o : Listed) (vs : List Val) (xs : List Var) (m : Moment) → AllAgree o vs → Agrees (assigned o xs m) (Next (v.put_all xs vs (world_of m)))
+  assigns (Leave l) vs xs m h = tt
+  assigns NoScalars vs xs m h = tt
+  assigns (Are ys) vs xs m h = rw h (ap Next (put_each_is xs ys m))
 
   acts_agree : Declares p i number ds a → (k : Cmd) (m : Moment) → Agrees (acts a k m) (act c k (world_of m))
   acts_agree d (Check qs) m = checks_are p i number ds a (seen_at a m) (scope c) qs m refl
   acts_agree d (Suppose qs) m = supposes_are p i number ds a (seen_at a m) (scope c) qs m refl
   acts_agree d (Forget xs) m = forgets p i number ds a d xs m
   acts_agree d (Put xs es) m =
-      assigns (truths_in es (seen_at a m)) (evs es (scope c (world_of m))) xs m (truths_is (functions_of p i) i.constants es (seen_at a m))
-  acts_agree d (Perform k) m = calls_if d (are_bools k.results) k m (bools_are k.results)
+      assigns (worths es (seen_at a m)) (evs es (scope c (world_of m))) xs m (all_agree (functions_of p i) i.constants es (seen_at a m))
+  acts_agree d (Perform k) m = calls d k m
   acts_agree d Finish m = refl
 
-  pub all_agree : Declares p i number ds a → (ks : List Cmd) (m : Moment) → Agrees (acts_each a ks m) (act_all c ks (world_of m))
-  all_agree d [] m = refl
-  all_agree d (k ∷ ks) m =
-      so_then (acts a k m) (act c k (world_of m)) (acts_each a ks) (act_all c ks) (acts_agree d k m) (all_agree d ks)
+  pub all_acts_agree : Declares p i number ds a → (ks : List Cmd) (m : Moment) → Agrees (acts_each a ks m) (act_all c ks (world_of m))
+  all_acts_agree d [] m = refl
+  all_acts_agree d (k ∷ ks) m =
+      so_then (acts a k m) (act c k (world_of m)) (acts_each a ks) (act_all c ks) (acts_agree d k m) (all_acts_agree d ks)

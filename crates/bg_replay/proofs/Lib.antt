@@ -1,14 +1,13 @@
-pub mod Chains
-pub mod Bools
 pub mod Puts
+pub mod Holdings
 pub mod Written
 pub mod Plans
 pub mod Runs
 pub mod Less
-pub mod Worths
 pub mod Agreeing
 pub mod Calling
 pub mod Running
-pub mod Replays
 pub mod Known
+pub mod Typed
 pub mod Tracks
+pub mod Replays

@@ -1,7 +1,6 @@
 -- Commands of the program: one assumption, and a call's plan.
-use Rattle.std.proofs.Common.{◌≡◌, ℕ, zero, suc, Bool, Option, Some, None, true, false, List, [], ◌∷◌, map, length, refl, sym, ap, ◌∙◌}
+use Rattle.std.proofs.Common.{◌≡◌, ℕ, zero, suc, Bool, true, false, List, [], ◌∷◌, map, refl, sym, ap}
 use Rattle.std.specs.Prelude.{slice_get}
-use Rattle.std.proofs.lemmas.List.{length-map}
 use Rattle.bg_ast.specs.Values as v
 use Rattle.bg_ast.specs.Syntax as s
 use Rattle.bg_ast.specs.Resolved as r
@@ -15,14 +14,17 @@ use Rattle.bg_sense.specs.Flow.{Blocked}
 use Rattle.bg_sense.specs.Variables.{wheres_of, wheres_at, wheres_in, modified}
 use Rattle.bg_calls.specs.Core.{Saying, Plan, Perform, demands, sayings, plain, each_one, plan_of, still}
 use Rattle.bg_blocks.specs.Views.{clauses_in, procedure_in}
-use Rattle.bg_replay.specs.Truths.{Seen, truth_in}
-use Rattle.bg_replay.specs.Bools.{are_bools, decls_in}
+use Rattle.bg_scalar.specs.Worths.{Seen, worth}
+use Rattle.bg_scalar.specs.declared.scalar.Scalar.TheVariants.{Truth, Number}
+use Rattle.bg_scalar.specs.declared.scalar.Worth.{Worth}
+use Rattle.bg_scalar.specs.declared.scalar.Worth.TheVariants.{Is, Leaves, NoScalar}
+use Rattle.bg_replay.specs.Holds.{results_in}
 use Rattle.bg_replay.specs.Moments.{Moment, Around, Out, and_so}
 use Rattle.bg_replay.specs.Said.{or_stops, then_said, Fine, supposes, on_said}
 use Rattle.bg_replay.specs.Acts.{called, acts}
 use Rattle.bg_replay.specs.Views.{said_by}
-use Rattle.bg_replay.specs.declared.choice.Ending.{Ending}
-use Rattle.bg_replay.specs.declared.choice.Ending.TheVariants as ends
+use Rattle.bg_replay.specs.declared.ending.Ending.{Ending}
+use Rattle.bg_replay.specs.declared.ending.Ending.TheVariants as ends
 
 -- a run that is over goes no further
 pub so_over : (e : Ending) (n : Moment) (g : Moment → Out) → and_so (on_said (said_by e) n) g ≡ on_said (said_by e) n
@@ -30,16 +32,19 @@ so_over ends.Ended n g = refl
 so_over ends.Blocked n g = refl
 so_over (ends.Failed x) n g = refl
 so_over ends.BadChoice n g = refl
-so_over ends.NotTruths n g = refl
+so_over (ends.OutOfRange o) n g = refl
+so_over ends.NoScalars n g = refl
 
-then_fine : (a : Option Bool) → then_said (or_stops Blocked a) Fine ≡ or_stops Blocked a
-then_fine None = refl
-then_fine (Some true) = refl
-then_fine (Some false) = refl
+then_fine : (a : Worth) → then_said (or_stops Blocked a) Fine ≡ or_stops Blocked a
+then_fine (Is (Truth true)) = refl
+then_fine (Is (Truth false)) = refl
+then_fine (Is (Number z)) = refl
+then_fine (Leaves o) = refl
+then_fine NoScalar = refl
 
 -- one assumption
-pub assumes_one : (set : ℕ → Bool) (w : Seen) (e : s.Ex) → supposes set w (plain (e ∷ []) []) ≡ or_stops Blocked (truth_in e w)
-assumes_one set w e = then_fine (truth_in e w)
+pub assumes_one : (set : ℕ → Bool) (w : Seen) (e : s.Ex) → supposes set w (plain (e ∷ []) []) ≡ or_stops Blocked (worth e w)
+assumes_one set w e = then_fine (worth e w)
 
 -- a resolved program has no `where` clauses
 no_wheres_of : (named : ℕ → v.Ty) (ds : List r.Declared) → wheres_of (map (m.decl_of named) ds) ≡ []
@@ -59,16 +64,12 @@ no_wheres_at p (s.Local k ∷ xs) = no_wheres_at p xs
 gives_is : (xs ys : List s.Ex) (gives : List Saying) → xs ≡ [] → ys ≡ [] → plain xs (plain ys gives) ≡ gives
 gives_is xs ys gives h k = rw (h, k) refl
 
--- a call, where no `where` clause is left and so many results are declared
-pub plan_called : (p : r.Program) (k : Call) (q : Procedure) (xs : List Variable) (a : Around) (n : Moment) → called (are_bools (decls_in p (map declared_of q.results.items))) a (m.exs_of (exs_in k.args.items)) (demands (AtCall k.site) (clauses_in q.requires_.items)) (map var_of xs) (length q.results.items) (sayings each_one (clauses_in q.ensures_.items)) (map m.variable_of (map placed_of k.takes.items)) n ≡ acts a (Perform (record (plan_of (m.meaning_of p) (procedure_in p (proc_of q)) (m.call_of (call_of k))) { modifies = map var_of xs })) n
+-- a call, where no `where` clause is left
+pub plan_called : (p : r.Program) (k : Call) (q : Procedure) (xs : List Variable) (a : Around) (n : Moment) → called a (m.exs_of (exs_in k.args.items)) (demands (AtCall k.site) (clauses_in q.requires_.items)) (map var_of xs) (results_in p (map declared_of q.results.items)) (sayings each_one (clauses_in q.ensures_.items)) (map m.variable_of (map placed_of k.takes.items)) n ≡ acts a (Perform (record (plan_of (m.meaning_of p) (procedure_in p (proc_of q)) (m.call_of (call_of k))) { modifies = map var_of xs })) n
 plan_called p k q xs a n =
-    let b = are_bools (decls_in p (map declared_of q.results.items)) in
     let named = m.named_of p.types in
     let plan : Plan = plan_of (m.meaning_of p) (procedure_in p (proc_of q)) (m.call_of (call_of k)) in
     let says = sayings each_one (clauses_in q.ensures_.items) in
     let gives : plan.gives ≡ says =
     gives_is _ _ says (no_wheres_at p (modified (m.meaning_of p) (procedure_in p (proc_of q)))) (no_wheres_of named (map declared_of q.results.items)) in
-    let count : length plan.results ≡ length q.results.items =
-    length-map (map declared_of q.results.items) (m.decl_of named) ∙ length-map q.results.items declared_of in
-    ap (λ (l : List Saying). called b a plan.args plan.needs (map var_of xs) (length q.results.items) l plan.takes n) (sym gives)
-    ∙ ap (λ (l : ℕ). called b a plan.args plan.needs (map var_of xs) l plan.gives plan.takes n) (sym count)
+    ap (λ (l : List Saying). called a plan.args plan.needs (map var_of xs) (results_in p (map declared_of q.results.items)) l plan.takes n) (sym gives)

@@ -1,4 +1,4 @@
--- Runs of blocks over truth values are their runs.
+-- Runs of blocks over scalars are their runs.
 use Rattle.std.proofs.Common.{◌≡◌, ℕ, zero, suc, Bool, true, false, List, [], ◌∷◌, length, map, Option, Some, None, refl}
 use Rattle.std.specs.Prelude.{if◌then◌else◌, ◌==◌, slice_get, nat_lt, unwrap_or}
 use Rattle.bg_ast.specs.Values.{Val, truth_of}
@@ -11,28 +11,34 @@ use Rattle.bg_sense.specs.Context.{Ctx, scope}
 use Rattle.bg_sense.specs.Choices.{branch_from, decide}
 use Rattle.bg_calls.specs.Core.{act_all}
 use Rattle.bg_flow.specs.Blocks.{Block, Exit, Leap, Either, Table, at_table, enter, index, leave, table}
-use Rattle.bg_replay.specs.Truths.{truth_in}
-use Rattle.bg_replay.specs.Moments.{Moment, Around, Out, Goes, Over, Unknown, choice_of, world_of, seen_at}
-use Rattle.bg_replay.specs.Said.{Said, Fine, Stops, Unsaid}
+use Rattle.bg_scalar.specs.Worths.{worth}
+use Rattle.bg_scalar.specs.Choices.{choice_of}
+use Rattle.bg_scalar.specs.declared.choice.Choice.{Choice}
+use Rattle.bg_scalar.specs.declared.choice.Choice.TheVariants as choice
+use Rattle.bg_scalar.specs.declared.scalar.Scalar.TheVariants.{Truth, Number}
+use Rattle.bg_scalar.specs.declared.scalar.Worth.{Worth}
+use Rattle.bg_scalar.specs.declared.scalar.Worth.TheVariants as worths
+use Rattle.bg_scalar.proofs.Agreeing as scalar
+use Rattle.bg_replay.specs.Moments.{Moment, Around, Out, Goes, Over, Outside, Unknown, world_of, seen_at}
+use Rattle.bg_replay.specs.Said.{Said, Fine, Stops, Leaves, Unsaid}
 use Rattle.bg_replay.specs.Acts.{behind_one}
-use Rattle.bg_replay.specs.Ways.{Way, On, Off, Nowhere, branched, go_to, branch_to, test_to, decided, leaves, acts_each, enters, ran, runs}
-use Rattle.bg_replay.specs.declared.choice.Choice.{Choice}
-use Rattle.bg_replay.specs.declared.choice.Choice.TheVariants as choice
+use Rattle.bg_replay.specs.Ways.{Way, On, Off, Beyond, Nowhere, branched, go_to, branch_to, test_to, decided, leaves, acts_each, enters, ran, runs}
 use Rattle.bg_replay.proofs.Less.{is_some, some_at}
-use Rattle.bg_replay.proofs.Worths.{Worth, truth_is}
 use Rattle.bg_replay.proofs.Agreeing.{Agrees, ctx, Declares}
-use Rattle.bg_replay.proofs.Calling.{all_agree}
+use Rattle.bg_replay.proofs.Calling.{all_acts_agree}
 
--- where a block leads over truth values is where it leads, in front of these blocks
+-- where a block leads over scalars is where it leads, in front of these blocks
 abbrev EnterIs : Table → Way → Flow → Type 0
 EnterIs t (On k m) w = enter t index w ≡ at_table t k (world_of m)
 EnterIs t (Off x) w = enter t index w ≡ x
+EnterIs t (Beyond o) w = Unit {0}
 EnterIs t Nowhere w = Unit {0}
 
 -- the answer is this one, where one is known
 abbrev pub RunIs : Said → Answer → Type 0
 RunIs Fine y = Unit {0}
 RunIs (Stops x) y = y ≡ x
+RunIs (Leaves o) y = Unit {0}
 RunIs Unsaid y = Unit {0}
 
 module _ (t : Table) where
@@ -46,7 +52,7 @@ module _ (t : Table) where
   branches [] k ks m = refl
   branches (choice.Branch j ∷ cs) k ks m =
       here_or (slice_get (k ∷ ks) j) (nat_lt j (suc (length ks))) k (record m { choices = cs }) (some_at (k ∷ ks) j)
-  branches (choice.Chosen b ∷ cs) k ks m = refl
+  branches (choice.Chosen x ∷ cs) k ks m = refl
 
   side_or : (j : ℕ) (b : Bool) (on off : ℕ) (m : Moment) → is_some (slice_get (on ∷ off ∷ []) j) ≡ b → EnterIs t (go_to (slice_get (on ∷ off ∷ []) j) m) (if b then (if j == 0 then Jumps (Behind on) (world_of m) else Jumps (Behind off) (world_of m)) else f.Over BadChoice)
   side_or zero true on off m h = refl
@@ -60,12 +66,14 @@ module _ (t : Table) where
   sides [] on off m = refl
   sides (choice.Branch j ∷ cs) on off m =
       side_or j (nat_lt j 2) on off (record m { choices = cs }) (some_at (on ∷ off ∷ []) j)
-  sides (choice.Chosen b ∷ cs) on off m = refl
+  sides (choice.Chosen x ∷ cs) on off m = refl
 
-  tests : (o : Option Bool) (x : Val) (on off : ℕ) (m : Moment) → Worth o x → EnterIs t (test_to o on off m) (if truth_of x then Jumps (Behind on) (world_of m) else Jumps (Behind off) (world_of m))
-  tests None x on off m h = tt
-  tests (Some true) x on off m h = rw h refl
-  tests (Some false) x on off m h = rw h refl
+  tests : (o : Worth) (x : Val) (on off : ℕ) (m : Moment) → scalar.Agrees o x → EnterIs t (test_to o on off m) (if truth_of x then Jumps (Behind on) (world_of m) else Jumps (Behind off) (world_of m))
+  tests (worths.Is (Truth true)) x on off m h = rw h refl
+  tests (worths.Is (Truth false)) x on off m h = rw h refl
+  tests (worths.Is (Number z)) x on off m h = tt
+  tests (worths.Leaves o) x on off m h = tt
+  tests worths.NoScalar x on off m h = tt
 
 module _ (p : Prog) (i : e.Interp) (number : ℕ) (ds : List Decl) (a : Around) where
   abbrev c : Ctx
@@ -74,7 +82,7 @@ module _ (p : Prog) (i : e.Interp) (number : ℕ) (ds : List Decl) (a : Around) 
   decides : (t : Table) (g : Guard) (on off : ℕ) (m : Moment) → EnterIs t (decided a g on off m) (decide c g (world_of m) (Jumps (Behind on)) (Jumps (Behind off)))
   decides t Star on off m = sides t m.choices on off m
   decides t (Test x) on off m =
-      tests t (truth_in x (seen_at a m)) (ev x (scope c (world_of m))) on off m (truth_is (functions_of p i) i.constants x (seen_at a m))
+      tests t (worth x (seen_at a m)) (ev x (scope c (world_of m))) on off m (scalar.agrees (functions_of p i) i.constants x (seen_at a m))
 
   leaving : (t : Table) (x : Exit) (m : Moment) → EnterIs t (leaves a x m) (leave c x (world_of m))
   leaving t (Leap []) m = refl
@@ -86,16 +94,18 @@ module _ (p : Prog) (i : e.Interp) (number : ℕ) (ds : List Decl) (a : Around) 
   entered : (t : Table) (g : ℕ → Moment → Said) → ((k : ℕ) (u : Moment) → RunIs (g k u) (at_table t k (world_of u))) → (w : Way) (x : Flow) → EnterIs t w x → RunIs (enters w g) (enter t index x)
   entered t g ih (On k m) x h = rw h (ih k m)
   entered t g ih (Off y) x h = h
+  entered t g ih (Beyond o) x h = tt
   entered t g ih Nowhere x h = tt
 
   ran_is : (t : Table) (g : ℕ → Moment → Said) → ((k : ℕ) (u : Moment) → RunIs (g k u) (at_table t k (world_of u))) → (x : Exit) (o : Out) (w : Flow) → Agrees o w → RunIs (ran o (λ n. enters (leaves a x n) g)) (enter t index (and_then w (leave c x)))
   ran_is t g ih x (Goes m) w h = rw h (entered t g ih (leaves a x m) (leave c x (world_of m)) (leaving t x m))
   ran_is t g ih x (Over y) w h = rw h refl
+  ran_is t g ih x (Outside o) w h = tt
   ran_is t g ih x Unknown w h = tt
 
   pub runs_agree : Declares p i number ds a → (k : ℕ) (bs : List Block) (m : Moment) → RunIs (runs a k bs m) (at_table (table c [] bs) k (world_of m))
   runs_agree d k [] m = refl
   runs_agree d zero (b ∷ bs) m =
       ran_is (table c [] bs) (λ k u. runs a k bs u) (λ k u. runs_agree d k bs u) b.exit (acts_each a b.cmds m) (act_all c b.cmds (world_of m))
-      (all_agree p i number ds a d b.cmds m)
+      (all_acts_agree p i number ds a d b.cmds m)
   runs_agree d (suc k) (b ∷ bs) m = runs_agree d k bs m

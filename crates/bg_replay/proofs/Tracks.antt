@@ -1,184 +1,208 @@
--- Runs of blocks over truth values meet nothing else: commands, ways and blocks.
-use Rattle.std.proofs.Common.{◌≡◌, ℕ, zero, suc, ◌+◌, Bool, true, false, List, [], ◌∷◌, ◌++◌, length, Option, Some, None, refl, ap, sym, ◌∙◌}
-use Rattle.std.specs.Prelude.{if◌then◌else◌, ◌&&◌, slice_get, slice_set}
-use Rattle.std.proofs.lemmas.List.{length-append}
-use Rattle.bg_ast.specs.Syntax.{Var, Global, Local, Star, Test}
+-- Runs of typed blocks over scalars meet nothing else: commands, ways and blocks.
+use Rattle.std.proofs.Common.{◌≡◌, ℕ, zero, suc, Bool, true, false, List, [], ◌∷◌, ◌++◌, map, Option, Some, None, refl, ap, sym, ◌∙◌, subst}
+use Rattle.std.specs.Prelude.{if◌then◌else◌, ◌&&◌, slice_get}
+use Rattle.bg_ast.specs.Values.{Ty, BoolTy, is_of}
+use Rattle.bg_ast.specs.Syntax.{Var, Global, Local, Star, Test, Decl, Prog}
+use Rattle.bg_fits.specs.Holdings.{holding_of, holdings_of}
+use Rattle.bg_sense.specs.Types.{are_of, types_of}
+use Rattle.bg_sense.specs.Typing.{Sig}
+use Rattle.bg_sense.proofs.Bools.{and_left, and_right}
 use Rattle.bg_calls.specs.Core.{Saying, Plan, Cmd, Check, Suppose, Forget, Put, Perform, Finish}
 use Rattle.bg_flow.specs.Blocks.{Exit, Leap, Either, Block}
-use Rattle.bg_replay.specs.Truths.{Seen, truth_in, cons_o, truths_in}
-use Rattle.bg_replay.specs.Moments.{Moment, Around, Out, Goes, Over, Unknown, and_so, seen_at}
-use Rattle.bg_replay.specs.Said.{Said, Fine, Stops, Unsaid, on_said, checks, supposes}
-use Rattle.bg_replay.specs.Bools.{are_bools}
-use Rattle.bg_replay.specs.Acts.{taken, behind_one, moved, choose_by, choose_truth, put, put_each, is_there, forgotten, assigned, chosen, skipped, given_back, called_with, acts}
-use Rattle.bg_replay.specs.Ways.{Way, On, Off, Nowhere, branched, go_to, branch_to, test_to, leaves, acts_each, enters, ran, runs}
-use Rattle.bg_replay.specs.Over.{is_var, are_vars, over_exs, count_exs, over_demands, over_sayings, over_plan, over_cmd, over_exit, over_cmds, over_blocks}
-use Rattle.bg_replay.specs.declared.choice.Choice.{Choice}
-use Rattle.bg_replay.specs.Endings.{Tells, Sized}
-use Rattle.bg_replay.proofs.Less.{is_some}
+use Rattle.bg_passive.specs.Incarnations.{ty_of}
+use Rattle.bg_block_types.specs.TypedFlow.{sig_with, sig_here, SayingsAreTyped, PlanIsTyped, CmdIsTyped, CmdsAreTyped, ExitIsTyped, CodeIsTyped}
+use Rattle.bg_scalar.specs.Worths.{Seen, worth}
+use Rattle.bg_scalar.specs.Lists.{Listed, Are, Leave, NoScalars, worths}
+use Rattle.bg_scalar.specs.Typed.{Sees, HasWorth}
+use Rattle.bg_scalar.specs.Values.{val_of}
+use Rattle.bg_scalar.specs.declared.choice.Choice.{Choice}
+use Rattle.bg_scalar.specs.declared.scalar.Scalar.{Scalar}
+use Rattle.bg_scalar.specs.declared.scalar.Scalar.TheVariants.{Truth, Number}
+use Rattle.bg_scalar.specs.declared.scalar.Worth.{Worth}
+use Rattle.bg_scalar.specs.declared.scalar.Worth.TheVariants as is_worth
+use Rattle.bg_scalar.proofs.Typing.{has_worth}
+use Rattle.bg_replay.specs.Holds.{holds_scalars, hold_scalars, held, held_at}
+use Rattle.bg_replay.specs.Moments.{Moment, Around, Out, Goes, Over, Outside, Unknown, and_so, seen_at}
+use Rattle.bg_replay.specs.Said.{Said, Fine, Stops, Leaves, Unsaid, on_said, checks, supposes}
+use Rattle.bg_replay.specs.Acts.{taken, moved, choose_by, put, put_each, forgotten, assigned, chosen, skipped, given_back, called_with, acts}
+use Rattle.bg_replay.specs.Ways.{Way, On, Off, Beyond, Nowhere, branched, go_to, branch_to, test_to, leaves, acts_each, enters, ran, runs}
+use Rattle.bg_replay.specs.Over.{over_exs, over_demands, over_sayings, over_cmd, over_exit, over_cmds, over_blocks}
+use Rattle.bg_replay.specs.Endings.{Tells, TypedMoment, TypedAround}
+use Rattle.bg_replay.proofs.Agreeing.{held_is}
 use Rattle.bg_replay.proofs.Calling.{both_true}
-use Rattle.bg_replay.proofs.Known.{Fits, known_ex, Many, known_exs, checks_tell, supposes_tell}
+use Rattle.bg_replay.proofs.Known.{HaveWorths, known_exs, checks_tell, supposes_tell}
+use Rattle.bg_replay.proofs.Typed.{typed_set, typed_join, scalars_held, taken_typed, chosen_typed}
 
-length_set : {A : Type 0} (xs : List A) (k : ℕ) (x : A) → length (slice_set xs k x) ≡ length xs
-length_set [] k x = refl
-length_set (y ∷ xs) zero x = refl
-length_set (y ∷ xs) (suc k) x = ap suc (length_set xs k x)
+module _ (p : Prog) (ds : List Decl) (a : Around) where
+  abbrev Typed : Moment → Type 0
+  Typed = TypedMoment p ds
 
-cons_length : (o : Option Bool) (p : Option (List Bool)) (n : ℕ) (bs : List Bool) → ((cs : List Bool) → p ≡ Some cs → length cs ≡ n) → cons_o o p ≡ Some bs → length bs ≡ suc n
-cons_length None p n bs k e = absurd cc
-cons_length (Some b) None n bs k e = absurd cc
-cons_length (Some b) (Some cs) n bs k e = let same : b ∷ cs ≡ bs = cc in sym (ap length same) ∙ ap suc (k cs refl)
-
-chosen_length : (n : ℕ) (cs : List Choice) (bs : List Bool) → chosen n cs ≡ Some bs → length bs ≡ n
-chosen_length zero cs bs e = let same : [] ≡ bs = cc in sym (ap length same)
-chosen_length (suc n) cs bs e = cons_length (taken cs) (chosen n (behind_one cs)) n bs (chosen_length n (behind_one cs)) e
-
-module _ (a : Around) where
   abbrev Known : Out → Type 0
-  Known (Goes m) = Sized a m
+  Known (Goes m) = Typed m
   Known (Over x) = Unit {0}
+  Known (Outside o) = Unit {0}
   Known Unknown = ⊥
 
-  known_then : (o : Out) (g : Moment → Out) → Known o → ((m : Moment) → Sized a m → Known (g m)) → Known (and_so o g)
+  known_then : (o : Out) (g : Moment → Out) → Known o → ((m : Moment) → Typed m → Known (g m)) → Known (and_so o g)
   known_then (Goes m) g h k = k m h
   known_then (Over x) g h k = tt
+  known_then (Outside o) g h k = tt
   known_then Unknown g h k = absurd h
 
-  known_on : (s : Said) (m : Moment) → Tells s → Sized a m → Known (on_said s m)
+  known_on : (s : Said) (m : Moment) → Tells s → Typed m → Known (on_said s m)
   known_on Fine m h w = w
   known_on (Stops x) m h w = tt
+  known_on (Leaves o) m h w = tt
   known_on Unsaid m h w = absurd h
 
-  sized_put : (x : Var) (b : Bool) (m : Moment) → Sized a m → Sized a (put x b m)
-  sized_put (Global x) b m w = record { globals = length_set m.globals x b ∙ w.globals; frame = w.frame }
-  sized_put (Local x) b m w = record { globals = w.globals; frame = length_set m.frame x b ∙ w.frame }
+  typed_put : (x : Var) (y : Scalar) (m : Moment) → is_of (ty_of p ds x) (val_of y) ≡ true → Typed m → Typed (put x y m)
+  typed_put (Global x) y m t w = record { globals = typed_set p.globals m.globals x y w.globals t; frame = w.frame }
+  typed_put (Local x) y m t w = record { globals = w.globals; frame = typed_set ds m.frame x y w.frame t }
 
-  sized_each : (xs : List Var) (bs : List Bool) (m : Moment) → Sized a m → Sized a (put_each xs bs m)
-  sized_each [] bs m w = w
-  sized_each (x ∷ xs) [] m w = w
-  sized_each (x ∷ xs) (b ∷ bs) m w = sized_each xs bs (put x b m) (sized_put x b m w)
+  typed_each : (xs : List Var) (ys : List Scalar) (m : Moment) → are_of (map (ty_of p ds) xs) (map val_of ys) ≡ true → Typed m → Typed (put_each xs ys m)
+  typed_each [] ys m t w = w
+  typed_each (x ∷ xs) [] m t w = w
+  typed_each (x ∷ xs) (y ∷ ys) m t w =
+      typed_each xs ys (put x y m) (and_right (is_of (ty_of p ds x) (val_of y)) (are_of (map (ty_of p ds) xs) (map val_of ys)) t)
+      (typed_put x y m (and_left (is_of (ty_of p ds x) (val_of y)) (are_of (map (ty_of p ds) xs) (map val_of ys)) t) w)
 
-  known_choice : (o : Option Bool) (m : Moment) (g : Bool → Moment → Out) → Sized a m → ((b : Bool) → Known (g b m)) → Known (choose_by o m g)
-  known_choice None m g w k = tt
-  known_choice (Some b) m g w k = k b
+  known_choice : (o : Option Scalar) (m : Moment) (g : Scalar → Moment → Out) → ((y : Scalar) → o ≡ Some y → Known (g y m)) → Known (choose_by o m g)
+  known_choice None m g k = tt
+  known_choice (Some y) m g k = k y refl
 
-  sized_moved : (m : Moment) → Sized a m → Sized a (moved m)
-  sized_moved m w = record { globals = w.globals; frame = w.frame }
-
-  there_is : (x : Var) → is_var a.globals a.frame x ≡ is_there a x
-  there_is (Global x) = refl
-  there_is (Local x) = refl
+  typed_moved : (m : Moment) → Typed m → Typed (moved m)
+  typed_moved m w = record { globals = w.globals; frame = w.frame }
 
   known_if : (b : Bool) (o : Out) → b ≡ true → Known o → Known (if b then o else Unknown)
   known_if true o h k = k
   known_if false o h k = absurd cc
 
-  known_forgotten : (xs : List Var) (m : Moment) → are_vars a.globals a.frame xs ≡ true → Sized a m → Known (forgotten a xs m)
-  known_forgotten [] m h w = w
-  known_forgotten (x ∷ xs) m h w =
-      let k = both_true (is_var a.globals a.frame x) (are_vars a.globals a.frame xs) h in
-      known_if (is_there a x) (choose_truth m (λ b n. forgotten a xs (put x b n))) (sym (there_is x) ∙ k.0)
-      (known_choice (taken m.choices) (moved m) (λ b n. forgotten a xs (put x b n)) (sized_moved m w)
-      (λ b. known_forgotten xs (put x b (moved m)) k.1 (sized_put x b (moved m) (sized_moved m w))))
+  -- a typed variable holds scalars
+  var_holds : (x : Var) (m : Moment) → Typed m → holds_scalars (holding_of (ty_of p ds x)) ≡ true
+  var_holds (Global x) m w = scalars_held p.globals m.globals x w.globals
+  var_holds (Local x) m w = scalars_held ds m.frame x w.frame
 
-  known_given : (count : ℕ) (o : Option (List Bool)) (was args : List Bool) (gives : List Saying) (takes : List Var) (m : Moment) → ((bs : List Bool) → o ≡ Some bs → length bs ≡ count) → length was ≡ a.globals → over_sayings a.globals (length args + count) gives ≡ true → Sized a m → Known (given_back o a was args gives takes m)
-  known_given count None was args gives takes m l b h w = tt
-  known_given count (Some bs) was args gives takes m l b h w =
-      let t = skipped (length bs) m in
-      let s : Seen = record { globals = t.globals; before = was; frame = args ++ bs } in
-      let sized : Sized a t = record { globals = w.globals; frame = w.frame } in
-      let many : length (args ++ bs) ≡ length args + count = length-append args bs ∙ ap (λ (n : ℕ). length args + n) (l bs refl) in
-      known_then (on_said (supposes a.set s gives) t) (λ n. Goes (put_each takes bs n))
-      (known_on (supposes a.set s gives) t (supposes_tell a.set a.globals (length args + count) s gives (record { globals = w.globals; before = b; frame = many }) h) sized)
-      (λ n k. sized_each takes bs n k)
+  module _ (b : TypedAround p ds a) where
+    held_there : (x : Var) → held_at a x ≡ holding_of (ty_of p ds x)
+    held_there (Global x) = ap (λ l. held l x) b.globals ∙ held_is p.globals x
+    held_there (Local x) = ap (λ l. held l x) b.frame ∙ held_is ds x
 
-  abbrev pub Begun : Type 0
-  Begun = length a.before ≡ a.globals
+    known_forgotten : (xs : List Var) (m : Moment) → Typed m → Known (forgotten a xs m)
+    known_forgotten [] m w = w
+    known_forgotten (x ∷ xs) m w =
+        rw (held_there x)
+        (known_if (holds_scalars (holding_of (ty_of p ds x))) (choose_by (taken (holding_of (ty_of p ds x)) m.choices) (moved m) (λ y n. forgotten a xs (put x y n))) (var_holds x m w)
+        (known_choice (taken (holding_of (ty_of p ds x)) m.choices) (moved m) (λ y n. forgotten a xs (put x y n))
+        (λ y e. known_forgotten xs (put x y (moved m)) (typed_put x y (moved m) (taken_typed (ty_of p ds x) m.choices y e) (typed_moved m w)))))
 
-  known_call : Begun → (o : Option (List Bool)) (k : Plan) (m : Moment) → Many (count_exs k.args) o → over_demands a.globals (count_exs k.args) k.needs ≡ true → are_vars a.globals a.frame k.modifies ≡ true → over_sayings a.globals (count_exs k.args + length k.results) k.gives ≡ true → Sized a m → Known (called_with o a k.needs k.modifies (length k.results) k.gives k.takes m)
-  known_call b None k m h hn hm hg w = absurd h
-  known_call b (Some bs) k m h hn hm hg w =
-      let s : Seen = record { globals = m.globals; before = m.globals; frame = bs } in
-      let says : over_sayings a.globals (length bs + length k.results) k.gives ≡ true = rw h hg in
-      known_then (on_said (checks a.set s k.needs) m) (λ n. and_so (forgotten a k.modifies n) (λ u. given_back (chosen (length k.results) u.choices) a n.globals bs k.gives k.takes u))
-      (known_on (checks a.set s k.needs) m (checks_tell a.set a.globals (count_exs k.args) s k.needs (record { globals = w.globals; before = w.globals; frame = h }) hn) w)
-      (λ n wn. known_then (forgotten a k.modifies n) (λ u. given_back (chosen (length k.results) u.choices) a n.globals bs k.gives k.takes u)
-      (known_forgotten k.modifies n hm wn)
-      (λ u wu. known_given (length k.results) (chosen (length k.results) u.choices) n.globals bs k.gives k.takes u (chosen_length (length k.results) u.choices) wn.globals says wu))
+    -- what the specification of a call sees
+    abbrev there : List Ty → Sig
+    there ts = sig_with p (types_of p.globals) ts
 
-  known_assigned : (n : ℕ) (o : Option (List Bool)) (xs : List Var) (m : Moment) → Many n o → Sized a m → Known (assigned o xs m)
-  known_assigned n None xs m h w = absurd h
-  known_assigned n (Some bs) xs m h w = sized_each xs bs m w
+    known_given : (params : List Ty) (results : List Decl) (cs : List Choice) (o : Option (List Scalar)) (was args : List Scalar) (gives : List Saying) (takes : List Var) (m : Moment) → ((ys : List Scalar) → o ≡ Some ys → are_of (types_of results) (map val_of ys) ≡ true) → are_of (types_of p.globals) (map val_of was) ≡ true → are_of params (map val_of args) ≡ true → SayingsAreTyped (there (params ++ types_of results)) gives → over_sayings gives ≡ true → map (ty_of p ds) takes ≡ types_of results → Typed m → Known (given_back o a was args gives takes m)
+    known_given params results cs None was args gives takes m l hw ha t h e w = tt
+    known_given params results cs (Some ys) was args gives takes m l hw ha t h e w =
+        let u = skipped ys m in
+        let s : Seen = record { globals = u.globals; before = was; frame = args ++ ys } in
+        let typed : Typed u = record { globals = w.globals; frame = w.frame } in
+        let sees : Sees (there (params ++ types_of results)) s =
+        record { globals = w.globals; before = hw; frame = typed_join params (types_of results) args ys ha (l ys refl) } in
+        known_then (on_said (supposes a.set s gives) u) (λ n. Goes (put_each takes ys n))
+        (known_on (supposes a.set s gives) u (supposes_tell a.set (there (params ++ types_of results)) s gives sees t h) typed)
+        (λ n k. typed_each takes ys n (subst (λ ts. are_of ts (map val_of ys) ≡ true) (sym e) (l ys refl)) k)
 
-  fits : Begun → (m : Moment) → Sized a m → Fits a.globals a.frame (seen_at a m)
-  fits b m w = record { globals = w.globals; before = b; frame = w.frame }
+    known_call : (o : Listed) (k : Plan) (m : Moment) → HaveWorths (types_of k.params) o → PlanIsTyped p ds k → over_demands k.needs ≡ true → over_sayings k.gives ≡ true → Typed m → Known (called_with o a k.needs k.modifies (holdings_of k.results) k.gives k.takes m)
+    known_call (Leave o) k m h t hn hg w = tt
+    known_call NoScalars k m h t hn hg w = absurd h
+    known_call (Are xs) k m h t hn hg w =
+        let s : Seen = record { globals = m.globals; before = m.globals; frame = xs } in
+        let sees : Sees (there (types_of k.params)) s = record { globals = w.globals; before = w.globals; frame = h } in
+        known_then (on_said (checks a.set s k.needs) m) (λ n. and_so (forgotten a k.modifies n) (λ u. given_back (chosen (holdings_of k.results) u.choices) a n.globals xs k.gives k.takes u))
+        (known_on (checks a.set s k.needs) m (checks_tell a.set (there (types_of k.params)) s k.needs sees t.1.0 hn) w)
+        (λ n wn. known_then (forgotten a k.modifies n) (λ u. given_back (chosen (holdings_of k.results) u.choices) a n.globals xs k.gives k.takes u)
+        (known_forgotten k.modifies n wn)
+        (λ u wu. known_given (types_of k.params) k.results u.choices (chosen (holdings_of k.results) u.choices) n.globals xs k.gives k.takes u (chosen_typed k.results u.choices) wn.globals h t.1.1.0 hg t.1.1.1 wu))
 
-  known_act : Begun → (k : Cmd) (m : Moment) → over_cmd a.globals a.frame k ≡ true → Sized a m → Known (acts a k m)
-  known_act b (Check ds) m h w = known_on (checks a.set (seen_at a m) ds) m (checks_tell a.set a.globals a.frame (seen_at a m) ds (fits b m w) h) w
-  known_act b (Suppose ds) m h w = known_on (supposes a.set (seen_at a m) ds) m (supposes_tell a.set a.globals a.frame (seen_at a m) ds (fits b m w) h) w
-  known_act b (Forget xs) m h w = known_forgotten xs m h w
-  known_act b (Put xs es) m h w = known_assigned (count_exs es) (truths_in es (seen_at a m)) xs m (known_exs a.globals a.frame es (seen_at a m) (fits b m w) h) w
-  known_act b (Perform k) m h w =
-      let says = over_sayings a.globals (count_exs k.args + length k.results) k.gives in
-      let vars = are_vars a.globals a.frame k.modifies in
-      let needs = over_demands a.globals (count_exs k.args) k.needs in
-      let h0 = both_true (are_bools k.results) (over_plan a.globals a.frame k) h in
-      let h1 = both_true (over_exs a.globals a.frame k.args) (needs && (vars && says)) h0.1 in
-      let h2 = both_true needs (vars && says) h1.1 in
-      let h3 = both_true vars says h2.1 in
-      known_if (are_bools k.results) (called_with (truths_in k.args (seen_at a m)) a k.needs k.modifies (length k.results) k.gives k.takes m) h0.0
-      (known_call b (truths_in k.args (seen_at a m)) k m (known_exs a.globals a.frame k.args (seen_at a m) (fits b m w) h1.0) h2.0 h3.0 h3.1 w)
-  known_act b Finish m h w = tt
+    known_assigned : (o : Listed) (xs : List Var) (m : Moment) → HaveWorths (map (ty_of p ds) xs) o → Typed m → Known (assigned o xs m)
+    known_assigned (Are ys) xs m h w = typed_each xs ys m h w
+    known_assigned (Leave o) xs m h w = tt
+    known_assigned NoScalars xs m h w = absurd h
 
-  known_acts : Begun → (ks : List Cmd) (m : Moment) → over_cmds a.globals a.frame ks ≡ true → Sized a m → Known (acts_each a ks m)
-  known_acts b [] m h w = w
-  known_acts b (k ∷ ks) m h w =
-      let l = both_true (over_cmd a.globals a.frame k) (over_cmds a.globals a.frame ks) h in
-      known_then (acts a k m) (acts_each a ks) (known_act b k m l.0 w) (λ n v. known_acts b ks n l.1 v)
+    sees_here : (m : Moment) → Typed m → Sees (sig_here p ds) (seen_at a m)
+    sees_here m w = record { globals = w.globals; before = b.before; frame = w.frame }
 
-  -- a block is entered with as many values, or the run is over
-  abbrev KnownWay : Way → Type 0
-  KnownWay (On k m) = Sized a m
-  KnownWay (Off x) = Unit {0}
-  KnownWay Nowhere = ⊥
+    known_act : (k : Cmd) (m : Moment) → CmdIsTyped p ds k → over_cmd k ≡ true → Typed m → Known (acts a k m)
+    known_act (Check qs) m t h w =
+        known_on (checks a.set (seen_at a m) qs) m (checks_tell a.set (sig_here p ds) (seen_at a m) qs (sees_here m w) t h) w
+    known_act (Suppose qs) m t h w =
+        known_on (supposes a.set (seen_at a m) qs) m (supposes_tell a.set (sig_here p ds) (seen_at a m) qs (sees_here m w) t h) w
+    known_act (Forget xs) m t h w = known_forgotten xs m w
+    known_act (Put xs es) m t h w =
+        known_assigned (worths es (seen_at a m)) xs m (known_exs (sig_here p ds) es (map (ty_of p ds) xs) (seen_at a m) (sees_here m w) t.0 h) w
+    known_act (Perform k) m t h w =
+        let h0 = both_true (hold_scalars (holdings_of k.results)) (over_exs k.args && (over_demands k.needs && over_sayings k.gives)) h in
+        let h1 = both_true (over_exs k.args) (over_demands k.needs && over_sayings k.gives) h0.1 in
+        let h2 = both_true (over_demands k.needs) (over_sayings k.gives) h1.1 in
+        known_if (hold_scalars (holdings_of k.results)) (called_with (worths k.args (seen_at a m)) a k.needs k.modifies (holdings_of k.results) k.gives k.takes m) h0.0
+        (known_call (worths k.args (seen_at a m)) k m (known_exs (sig_here p ds) k.args (types_of k.params) (seen_at a m) (sees_here m w) t.0.0 h1.0) t h2.0 h2.1 w)
+    known_act Finish m t h w = tt
 
-  known_to : (o : Option ℕ) (m : Moment) → Sized a m → KnownWay (go_to o m)
-  known_to None m w = tt
-  known_to (Some k) m w = w
+    known_acts : (ks : List Cmd) (m : Moment) → CmdsAreTyped p ds ks → over_cmds ks ≡ true → Typed m → Known (acts_each a ks m)
+    known_acts [] m t h w = w
+    known_acts (k ∷ ks) m t h w =
+        let l = both_true (over_cmd k) (over_cmds ks) h in
+        known_then (acts a k m) (acts_each a ks) (known_act k m t.0 l.0 w) (λ n v. known_acts ks n t.1 l.1 v)
 
-  known_branch : (o : Option ℕ) (ks : List ℕ) (m : Moment) → Sized a m → KnownWay (branch_to o ks m)
-  known_branch None ks m w = tt
-  known_branch (Some j) ks m w = known_to (slice_get ks j) m w
+    -- a block is entered with values of the variables' types, or the run is over
+    abbrev KnownWay : Way → Type 0
+    KnownWay (On k m) = Typed m
+    KnownWay (Off x) = Unit {0}
+    KnownWay (Beyond o) = Unit {0}
+    KnownWay Nowhere = ⊥
 
-  known_test : (o : Option Bool) (on off : ℕ) (m : Moment) → is_some o ≡ true → Sized a m → KnownWay (test_to o on off m)
-  known_test None on off m h w = absurd cc
-  known_test (Some true) on off m h w = w
-  known_test (Some false) on off m h w = w
+    known_to : (o : Option ℕ) (m : Moment) → Typed m → KnownWay (go_to o m)
+    known_to None m w = tt
+    known_to (Some k) m w = w
 
-  known_leaves : Begun → (x : Exit) (m : Moment) → over_exit a.globals a.frame x ≡ true → Sized a m → KnownWay (leaves a x m)
-  known_leaves b (Leap []) m h w = w
-  known_leaves b (Leap (k ∷ [])) m h w = w
-  known_leaves b (Leap (k ∷ l ∷ ks)) m h w = known_branch (branched m.choices) (k ∷ l ∷ ks) (moved m) (sized_moved m w)
-  known_leaves b (Either Star on off) m h w = known_branch (branched m.choices) (on ∷ off ∷ []) (moved m) (sized_moved m w)
-  known_leaves b (Either (Test e) on off) m h w = known_test (truth_in e (seen_at a m)) on off m (known_ex a.globals a.frame e (seen_at a m) (fits b m w) h) w
+    known_branch : (o : Option ℕ) (ks : List ℕ) (m : Moment) → Typed m → KnownWay (branch_to o ks m)
+    known_branch None ks m w = tt
+    known_branch (Some j) ks m w = known_to (slice_get ks j) m w
 
-  tells_enters : (w : Way) (g : ℕ → Moment → Said) → KnownWay w → ((k : ℕ) (u : Moment) → Sized a u → Tells (g k u)) → Tells (enters w g)
-  tells_enters (On k m) g h ih = ih k m h
-  tells_enters (Off x) g h ih = tt
-  tells_enters Nowhere g h ih = absurd h
+    known_test : (o : Worth) (on off : ℕ) (m : Moment) → HasWorth BoolTy o → Typed m → KnownWay (test_to o on off m)
+    known_test (is_worth.Is (Truth true)) on off m h w = w
+    known_test (is_worth.Is (Truth false)) on off m h w = w
+    known_test (is_worth.Is (Number z)) on off m h w = absurd (let bad : ⊥ = cc in bad)
+    known_test (is_worth.Leaves o) on off m h w = tt
+    known_test is_worth.NoScalar on off m h w = absurd h
 
-  tells_ran : (o : Out) (g : Moment → Said) → Known o → ((u : Moment) → Sized a u → Tells (g u)) → Tells (ran o g)
-  tells_ran (Goes m) g h ih = ih m h
-  tells_ran (Over x) g h ih = tt
-  tells_ran Unknown g h ih = absurd h
+    known_leaves : (x : Exit) (m : Moment) → ExitIsTyped p ds x → over_exit x ≡ true → Typed m → KnownWay (leaves a x m)
+    known_leaves (Leap []) m t h w = w
+    known_leaves (Leap (k ∷ [])) m t h w = w
+    known_leaves (Leap (k ∷ l ∷ ks)) m t h w = known_branch (branched m.choices) (k ∷ l ∷ ks) (moved m) (typed_moved m w)
+    known_leaves (Either Star on off) m t h w = known_branch (branched m.choices) (on ∷ off ∷ []) (moved m) (typed_moved m w)
+    known_leaves (Either (Test e) on off) m t h w =
+        known_test (worth e (seen_at a m)) on off m (has_worth e (seen_at a m) (sig_here p ds) BoolTy h t.0 (sees_here m w)) w
 
-  pub runs_tell : Begun → (k : ℕ) (bs : List Block) (m : Moment) → over_blocks a.globals a.frame bs ≡ true → Sized a m → Tells (runs a k bs m)
-  runs_tell b k [] m h w = tt
-  runs_tell b zero (x ∷ bs) m h w =
-      let l = both_true (over_cmds a.globals a.frame x.cmds) (over_exit a.globals a.frame x.exit && over_blocks a.globals a.frame bs) h in
-      let n = both_true (over_exit a.globals a.frame x.exit) (over_blocks a.globals a.frame bs) l.1 in
-      tells_ran (acts_each a x.cmds m) (λ u. enters (leaves a x.exit u) (λ k v. runs a k bs v)) (known_acts b x.cmds m l.0 w)
-      (λ u wu. tells_enters (leaves a x.exit u) (λ k v. runs a k bs v) (known_leaves b x.exit u n.0 wu) (λ k v wv. runs_tell b k bs v n.1 wv))
-  runs_tell b (suc k) (x ∷ bs) m h w =
-      let l = both_true (over_cmds a.globals a.frame x.cmds) (over_exit a.globals a.frame x.exit && over_blocks a.globals a.frame bs) h in
-      let n = both_true (over_exit a.globals a.frame x.exit) (over_blocks a.globals a.frame bs) l.1 in
-      runs_tell b k bs m n.1 w
+    tells_enters : (w : Way) (g : ℕ → Moment → Said) → KnownWay w → ((k : ℕ) (u : Moment) → Typed u → Tells (g k u)) → Tells (enters w g)
+    tells_enters (On k m) g h ih = ih k m h
+    tells_enters (Off x) g h ih = tt
+    tells_enters (Beyond o) g h ih = tt
+    tells_enters Nowhere g h ih = absurd h
+
+    tells_ran : (o : Out) (g : Moment → Said) → Known o → ((u : Moment) → Typed u → Tells (g u)) → Tells (ran o g)
+    tells_ran (Goes m) g h ih = ih m h
+    tells_ran (Over x) g h ih = tt
+    tells_ran (Outside o) g h ih = tt
+    tells_ran Unknown g h ih = absurd h
+
+    pub runs_tell : (k : ℕ) (bs : List Block) (m : Moment) → CodeIsTyped p ds bs → over_blocks bs ≡ true → Typed m → Tells (runs a k bs m)
+    runs_tell k [] m t h w = tt
+    runs_tell zero (x ∷ bs) m t h w =
+        let l = both_true (over_cmds x.cmds) (over_exit x.exit && over_blocks bs) h in
+        let n = both_true (over_exit x.exit) (over_blocks bs) l.1 in
+        tells_ran (acts_each a x.cmds m) (λ u. enters (leaves a x.exit u) (λ k v. runs a k bs v)) (known_acts x.cmds m t.0.0 l.0 w)
+        (λ u wu. tells_enters (leaves a x.exit u) (λ k v. runs a k bs v) (known_leaves x.exit u t.0.1 n.0 wu) (λ k v wv. runs_tell k bs v t.1 n.1 wv))
+    runs_tell (suc k) (x ∷ bs) m t h w =
+        let l = both_true (over_cmds x.cmds) (over_exit x.exit && over_blocks bs) h in
+        let n = both_true (over_exit x.exit) (over_blocks bs) l.1 in
+        runs_tell k bs m t.1 n.1 w

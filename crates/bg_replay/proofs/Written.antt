@@ -1,15 +1,22 @@
 -- Values that are assigned, and values behind others.
-use Rattle.std.proofs.Common.{◌≡◌, ◌≤◌, ℕ, zero, suc, Bool, List, [], ◌∷◌, ◌++◌, map, length, drop, Option, Some, None, refl, ap, arith, append_assoc}
+use Rattle.std.proofs.Common.{◌≡◌, ◌≤◌, ◌<◌, ◌+◌, ℕ, zero, suc, List, [], ◌∷◌, ◌++◌, map, length, drop, Option, Some, None, refl, ap, ◌∙◌, arith, append_assoc, get_or, add-one, drop-cons}
 use Rattle.bg_ast.specs.Syntax as s
 use Rattle.bg_ast.specs.Resolved as r
 use Rattle.bg_ast.specs.Meaning as m
 use Rattle.bg_ast.specs.Views.{exs_in, bracket_of}
 use Rattle.bg_ast.specs.declared.resolved.Expr.{Expr}
 use Rattle.bg_ast.specs.declared.resolved.Indices.{Indices}
-use Rattle.bg_replay.specs.Truths.{Seen, truth_in, postfix_o, append_o, cons_o}
+use Rattle.bg_scalar.specs.Worths.{Seen, worth}
+use Rattle.bg_scalar.specs.Signs.{behind}
+use Rattle.bg_scalar.specs.declared.scalar.Scalar.{Scalar}
+use Rattle.bg_scalar.proofs.Listing.{onto_one, onto_none}
+use Rattle.bg_fits.specs.declared.types.Holding.{Holding}
+use Rattle.bg_fits.specs.declared.types.Holding.TheVariants.{Truths}
+use Rattle.bg_scalar.specs.declared.choice.Choice.{Choice}
+use Rattle.bg_replay.specs.Acts.{taken, append_o, cons_o, chosen}
 
 -- only a plain target gets the value of an expression
-pub written_is : (x e : s.Ex) (bs : List Indices) (v : Seen) → truth_in (m.written x (map bracket_of bs) e) v ≡ postfix_o bs (truth_in e v)
+pub written_is : (x e : s.Ex) (bs : List Indices) (v : Seen) → worth (m.written x (map bracket_of bs) e) v ≡ behind bs (worth e v)
 written_is x e [] v = refl
 written_is x e (b ∷ bs) v = refl
 
@@ -25,14 +32,31 @@ values_past ts (e ∷ es) zero h = absurd (omega (arith, h))
 values_past ts (e ∷ es) (suc i) h = values_past ts es i (omega (arith, h))
 
 -- one more value behind those that are there
-pub append_one : (xs : List Bool) (b : Bool) (o : Option (List Bool)) → append_o (xs ++ b ∷ []) o ≡ append_o xs (cons_o (Some b) o)
-append_one xs b None = refl
-append_one xs b (Some bs) = ap Some (append_assoc xs (b ∷ []) bs)
+pub append_one : (xs : List Scalar) (x : Scalar) (o : Option (List Scalar)) → append_o (xs ++ x ∷ []) o ≡ append_o xs (cons_o (Some x) o)
+append_one xs x None = refl
+append_one xs x (Some ys) = ap Some (append_assoc xs (x ∷ []) ys)
 
-pub append_none : (o : Option (List Bool)) → append_o [] o ≡ o
+pub append_none : (o : Option (List Scalar)) → append_o [] o ≡ o
 append_none None = refl
-append_none (Some bs) = refl
+append_none (Some xs) = refl
 
 pub ruleset append_forms = (append_one, append_none)
 
-pub ruleset value_forms = (values_past, values_none, append_one, append_none)
+from_one : (hs : List Holding) (i : ℕ) → i < length hs → drop i hs ≡ get_or hs i Truths ∷ drop (i + 1) hs
+from_one hs i l = rw (add-one, drop-cons hs i Truths) refl
+
+-- no choice is left for a variable
+pub none_left : (made : List Scalar) (hs : List Holding) (i : ℕ) (cs : List Choice) (all : Option (List Scalar)) → i < length hs → length cs ≡ 0 → append_o made (chosen (drop i hs) cs) ≡ all → None ≡ all
+none_left made hs i [] all l e h = (rw (from_one hs i l) refl) ∙ h
+none_left made hs i (c ∷ cs) all l e h = absurd (omega (arith, e))
+
+-- a variable doesn't take the choice
+pub none_taken : (made : List Scalar) (hs : List Holding) (i : ℕ) (c : Choice) (cs : List Choice) (all : Option (List Scalar)) → i < length hs → taken (get_or hs i Truths) (c ∷ cs) ≡ None → append_o made (chosen (drop i hs) (c ∷ cs)) ≡ all → None ≡ all
+none_taken made hs i c cs all l e h = (rw (from_one hs i l, e) refl) ∙ h
+
+-- a variable takes the choice
+pub one_taken : (made more : List Scalar) (hs : List Holding) (i : ℕ) (c : Choice) (cs : List Choice) (x : Scalar) (all : Option (List Scalar)) → i < length hs → taken (get_or hs i Truths) (c ∷ cs) ≡ Some x → more ≡ made ++ x ∷ [] → append_o made (chosen (drop i hs) (c ∷ cs)) ≡ all → append_o more (chosen (drop (i + 1) hs) cs) ≡ all
+one_taken made more hs i c cs x all l e f h =
+    ap (λ ys. append_o ys (chosen (drop (i + 1) hs) cs)) f ∙ (append_one made x (chosen (drop (i + 1) hs) cs) ∙ (rw (from_one hs i l, e) refl ∙ h))
+
+pub ruleset value_forms = (values_past, values_none, onto_one, onto_none)

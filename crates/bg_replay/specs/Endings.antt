@@ -1,60 +1,80 @@
 -- What an ending tells of an execution.
-use Rattle.std.specs.Prelude.{◌≡◌, ℕ, ◌+◌, Bool, true, ◌&&◌, List, map, length}
-use Rattle.bg_ast.specs.Values.{Truth}
-use Rattle.bg_ast.specs.Execution.{Interp, State}
+use Rattle.std.specs.Prelude.{◌≡◌, ℕ, Bool, true, List, map}
+use Rattle.bg_ast.specs.Syntax.{Decl, Prog}
+use Rattle.bg_ast.specs.Execution.{Interp}
 use Rattle.bg_ast.specs.Resolved as r
 use Rattle.bg_ast.specs.Meaning as m
+use Rattle.bg_fits.specs.Holdings.{holdings_of}
+use Rattle.bg_sense.specs.Types.{are_of, types_of}
 use Rattle.bg_sense.specs.Flow.{Answer}
 use Rattle.bg_sense.specs.Context.{Cut}
 use Rattle.bg_sense.specs.Run.{context, start}
+use Rattle.bg_calls.specs.Core.{frame_decls}
 use Rattle.bg_flow.specs.Blocks.{blocks_run}
+use Rattle.bg_block_types.specs.TypedFlow.{CodeIsTyped}
 use Rattle.bg_blocks.specs.Views.{block_of}
 use Rattle.bg_blocks.specs.declared.block.Block.{Block}
-use Rattle.bg_replay.specs.Moments.{Moment, Around, choice_of}
-use Rattle.bg_replay.specs.Said.{Said, Fine, Stops, Unsaid}
-use Rattle.bg_replay.specs.Bools.{are_bools, decls_in}
+use Rattle.bg_scalar.specs.Values.{val_of}
+use Rattle.bg_scalar.specs.Choices.{choice_of, state_of}
+use Rattle.bg_scalar.specs.declared.choice.Choice.{Choice}
+use Rattle.bg_scalar.specs.declared.scalar.Scalar.{Scalar}
+use Rattle.bg_replay.specs.Moments.{Moment, Around}
+use Rattle.bg_replay.specs.Said.{Said, Fine, Stops, Leaves, Unsaid}
+use Rattle.bg_replay.specs.Ways.{runs}
 use Rattle.bg_replay.specs.Views.{set_of, said_by}
 use Rattle.bg_replay.specs.Over.{over_blocks}
-use Rattle.bg_replay.specs.declared.choice.Choice.{Choice}
-use Rattle.bg_replay.specs.declared.choice.Ending.{Ending}
+use Rattle.bg_replay.specs.declared.ending.Ending.{Ending}
 
--- the state in which variables have these truth values
-abbrev pub state_of : List Bool → List Bool → State
-state_of globals frame = record { globals = map Truth globals; frame = map Truth frame }
-
--- an ending is how the execution answers, where it isn't `NotTruths`
+-- an ending is how the execution answers, where it is an answer
 abbrev pub IsRight : Ending → Answer → Type 0
 IsRight ending answer = (x : Answer) → said_by ending ≡ Stops x → answer ≡ x
-
--- whether the globals and the variables of the frame are truth values, by what their types stand for
-abbrev pub are_declared : r.Program → r.Impl → r.Proc → Bool
-are_declared p m q =
-    are_bools (decls_in p p.globals)
-    && (are_bools (decls_in p q.params) && (are_bools (decls_in p q.results) && are_bools (decls_in p m.locals)))
 
 -- something is said
 abbrev pub Tells : Said → Type 0
 Tells Fine = Unit {0}
 Tells (Stops x) = Unit {0}
+Tells (Leaves o) = Unit {0}
 Tells Unsaid = ⊥
 
--- as many variables have values as are declared
-pub record Sized (a : Around) (m : Moment) : Type 0 where
-  pub globals : length m.globals ≡ a.globals
-  pub frame : length m.frame ≡ a.frame
+-- variables have values of their types
+pub record TypedMoment (p : Prog) (ds : List Decl) (m : Moment) : Type 0 where
+  pub globals : are_of (types_of p.globals) (map val_of m.globals) ≡ true
+  pub frame : are_of (types_of ds) (map val_of m.frame) ≡ true
 
--- how many variables the frame has
-abbrev pub frame_of : r.Impl → r.Proc → ℕ
-frame_of im q = length q.params + (length q.results + length im.locals)
+-- what stays the same during a run is that of a program and these declarations of the frame, and globals at entry have values of their
+-- types
+pub record TypedAround (p : Prog) (ds : List Decl) (a : Around) : Type 0 where
+  pub globals : a.globals ≡ holdings_of p.globals
+  pub frame : a.frame ≡ holdings_of ds
+  pub before : are_of (types_of p.globals) (map val_of a.before) ≡ true
 
--- blocks over truth values of this implementation of this procedure, and a value for each variable that is declared
-pub record IsOver (p : r.Program) (im : r.Impl) (q : r.Proc) (bs : List Block) (gs fs : List Bool) : Type 0 where
-  pub declared : are_declared p im q ≡ true
-  pub globals : length gs ≡ length p.globals
-  pub frame : length fs ≡ frame_of im q
-  pub blocks : over_blocks (length p.globals) (frame_of im q) (map (block_of p) bs) ≡ true
+-- the declarations of the frame
+abbrev pub frame_in : r.Program → r.Impl → r.Proc → List Decl
+frame_in p im q = frame_decls (m.impl_of (m.named_of p.types) im) (m.proc_of (m.named_of p.types) q)
 
--- the ending is that of the blocks' run under each interpretation, where it isn't `NotTruths`; and over truth values it never is
-pub record IsReplay (p : r.Program) (bs : List Block) (set : List Bool) (number : ℕ) (im : r.Impl) (q : r.Proc) (gs fs : List Bool) (choices : List Choice) (ending : Ending) : Type 0 where
+-- what stays the same during a replay, and how it begins
+abbrev pub around_in : r.Program → r.Impl → r.Proc → List Bool → List Scalar → Around
+around_in p im q set gs =
+    record {
+      set = set_of set;
+      before = gs;
+      globals = holdings_of (m.meaning_of p).globals;
+      frame = holdings_of (frame_in p im q);
+    }
+
+abbrev pub moment_in : List Scalar → List Scalar → List Choice → Moment
+moment_in gs fs choices = record { globals = gs; frame = fs; choices = choices }
+
+-- typed blocks over scalars of this implementation of this procedure, and values of the variables' types
+pub record IsOver (p : r.Program) (im : r.Impl) (q : r.Proc) (bs : List Block) (gs fs : List Scalar) : Type 0 where
+  pub blocks : over_blocks (map (block_of p) bs) ≡ true
+  pub typed : CodeIsTyped (m.meaning_of p) (frame_in p im q) (map (block_of p) bs)
+  pub globals : are_of (types_of (m.meaning_of p).globals) (map val_of gs) ≡ true
+  pub frame : are_of (types_of (frame_in p im q)) (map val_of fs) ≡ true
+
+-- the ending is that of the blocks' run over scalars; where it is an answer, it is that of their execution under each interpretation; and
+-- over scalars it is never `NoScalars`
+pub record IsReplay (p : r.Program) (bs : List Block) (set : List Bool) (number : ℕ) (im : r.Impl) (q : r.Proc) (gs fs : List Scalar) (choices : List Choice) (ending : Ending) : Type 0 where
+  pub ran : said_by ending ≡ runs (around_in p im q set gs) 0 (map (block_of p) bs) (moment_in gs fs choices)
   pub right : (i : Interp) → IsRight ending (blocks_run (context Cut (m.meaning_of p) (set_of set) i number (m.impl_of (m.named_of p.types) im) (m.proc_of (m.named_of p.types) q) (state_of gs fs)) (map (block_of p) bs) (start (state_of gs fs) (map choice_of choices) 0))
   pub tells : IsOver p im q bs gs fs → Tells (said_by ending)

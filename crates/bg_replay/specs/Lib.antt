@@ -1,6 +1,5 @@
-pub mod Truths
-pub mod Bools
 pub mod Moments
+pub mod Holds
 pub mod Views
 pub mod Said
 pub mod Acts

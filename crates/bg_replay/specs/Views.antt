@@ -3,22 +3,18 @@ use Rattle.std.specs.Prelude.{ℕ, Bool, false, List, Option, Some, None, Vec, s
 use Rattle.std.specs.declared.alloc.Global.{Global}
 use Rattle.bg_places.specs.Views.{spot_of}
 use Rattle.bg_sense.specs.Flow.{Ended, Blocked, Failed, BadChoice}
-use Rattle.bg_replay.specs.Truths.{Seen}
+use Rattle.bg_scalar.specs.declared.scalar.Scalar.{Scalar}
 use Rattle.bg_replay.specs.Moments.{Moment, Around}
-use Rattle.bg_replay.specs.Said.{Said, Fine, Stops, Unsaid}
-use Rattle.bg_replay.specs.Ways.{Way, On, Off, Nowhere}
-use Rattle.bg_replay.specs.declared.sight.Sight.{Sight}
+use Rattle.bg_replay.specs.Said.{Said, Fine, Stops, Leaves, Unsaid}
+use Rattle.bg_replay.specs.Ways.{Way, On, Off, Beyond, Nowhere}
 use Rattle.bg_replay.specs.declared.moment.Moment as code
 use Rattle.bg_replay.specs.declared.moment.Around as code_around
-use Rattle.bg_replay.specs.declared.choice.Ending.{Ending}
-use Rattle.bg_replay.specs.declared.choice.Ending.TheVariants as ending
-use Rattle.bg_replay.specs.declared.choice.Step.{Step}
-use Rattle.bg_replay.specs.declared.choice.Step.TheVariants as step
-use Rattle.bg_replay.specs.declared.choice.Way as code_way
-use Rattle.bg_replay.specs.declared.choice.Way.TheVariants as way
-
-abbrev pub seen_of : Sight → Seen
-seen_of s = record { globals = s.globals.now; before = s.before.now; frame = s.frame.now }
+use Rattle.bg_replay.specs.declared.ending.Ending.{Ending}
+use Rattle.bg_replay.specs.declared.ending.Ending.TheVariants as ending
+use Rattle.bg_replay.specs.declared.ending.Step.{Step}
+use Rattle.bg_replay.specs.declared.ending.Step.TheVariants as step
+use Rattle.bg_replay.specs.declared.ending.Way as code_way
+use Rattle.bg_replay.specs.declared.ending.Way.TheVariants as way
 
 abbrev pub moment_of : code.Moment → Moment
 moment_of m = record { globals = m.globals.items; frame = m.frame.items; choices = m.left.now }
@@ -28,14 +24,15 @@ abbrev pub set_of : List Bool → ℕ → Bool
 set_of bs b = unwrap_or (slice_get bs b) false
 
 abbrev pub around_of : code_around.Around → Around
-around_of a = record { set = set_of a.set.now; before = a.before.now; globals = a.globals; frame = a.frame }
+around_of a = record { set = set_of a.set.now; before = a.before.now; globals = a.globals.now; frame = a.frame.now }
 
 abbrev pub said_by : Ending → Said
 said_by ending.Ended = Stops Ended
 said_by ending.Blocked = Stops Blocked
 said_by (ending.Failed s) = Stops (Failed (spot_of s))
 said_by ending.BadChoice = Stops BadChoice
-said_by ending.NotTruths = Unsaid
+said_by (ending.OutOfRange o) = Leaves o
+said_by ending.NoScalars = Unsaid
 
 abbrev pub said_of : Step → Said
 said_of step.Goes = Fine
@@ -44,12 +41,13 @@ said_of (step.Over e) = said_by e
 abbrev pub off_way : Said → Way
 off_way Fine = Nowhere
 off_way (Stops a) = Off a
+off_way (Leaves o) = Beyond o
 off_way Unsaid = Nowhere
 
 abbrev pub way_of : code_way.Way → Moment → Way
 way_of (way.To k) m = On k m
 way_of (way.Over e) m = off_way (said_by e)
 
-abbrev pub items_of : Option (Vec Bool Global) → Option (List Bool)
+abbrev pub items_of : Option (Vec Scalar Global) → Option (List Scalar)
 items_of None = None
 items_of (Some xs) = Some xs.items

@@ -1,27 +1,32 @@
--- Where blocks lead over truth values, and their runs.
-use Rattle.std.specs.Prelude.{ℕ, zero, suc, Bool, true, false, List, [], ◌∷◌, Option, Some, None, slice_get}
+-- Where blocks lead over scalars, and their runs.
+use Rattle.std.specs.Prelude.{ℕ, zero, suc, true, false, List, [], ◌∷◌, Option, Some, None, slice_get}
+use Rattle.bg_base.specs.declared.exact.OutOfRange.{OutOfRange}
 use Rattle.bg_ast.specs.Syntax.{Guard, Star, Test}
 use Rattle.bg_sense.specs.Flow.{Answer, Ended, BadChoice}
 use Rattle.bg_calls.specs.Core.{Cmd}
 use Rattle.bg_flow.specs.Blocks.{Exit, Leap, Either, Block}
-use Rattle.bg_replay.specs.Truths.{truth_in}
-use Rattle.bg_replay.specs.Moments.{Moment, Around, Out, Goes, Over, Unknown, and_so, seen_at}
-use Rattle.bg_replay.specs.Said.{Said, Stops, Unsaid}
+use Rattle.bg_scalar.specs.Worths.{worth}
+use Rattle.bg_scalar.specs.declared.choice.Choice.{Choice}
+use Rattle.bg_scalar.specs.declared.choice.Choice.TheVariants as choice
+use Rattle.bg_scalar.specs.declared.scalar.Scalar.TheVariants.{Truth, Number}
+use Rattle.bg_scalar.specs.declared.scalar.Worth.{Worth}
+use Rattle.bg_scalar.specs.declared.scalar.Worth.TheVariants as worths
+use Rattle.bg_replay.specs.Moments.{Moment, Around, Out, Goes, Over, Outside, Unknown, and_so, seen_at}
+use Rattle.bg_replay.specs.Said.{Said, Stops, Leaves, Unsaid}
 use Rattle.bg_replay.specs.Acts.{moved, acts}
-use Rattle.bg_replay.specs.declared.choice.Choice.{Choice}
-use Rattle.bg_replay.specs.declared.choice.Choice.TheVariants as choice
 
--- a block is entered at a moment, or the run is over, or something is no truth value
+-- a block is entered at a moment, or the run is over, or an operation leaves the range, or something is no scalar
 pub data Way : Type 0 where
   On : ℕ → Moment → Way
   Off : Answer → Way
+  Beyond : OutOfRange → Way
   Nowhere : Way
 
 -- the branch that is chosen next
 abbrev pub branched : List Choice → Option ℕ
 branched [] = None
 branched (choice.Branch k ∷ cs) = Some k
-branched (choice.Chosen b ∷ cs) = None
+branched (choice.Chosen x ∷ cs) = None
 
 abbrev pub go_to : Option ℕ → Moment → Way
 go_to None m = Off BadChoice
@@ -31,14 +36,16 @@ abbrev pub branch_to : Option ℕ → List ℕ → Moment → Way
 branch_to None ks m = Off BadChoice
 branch_to (Some j) ks m = go_to (slice_get ks j) m
 
-abbrev pub test_to : Option Bool → ℕ → ℕ → Moment → Way
-test_to None on off m = Nowhere
-test_to (Some true) on off m = On on m
-test_to (Some false) on off m = On off m
+abbrev pub test_to : Worth → ℕ → ℕ → Moment → Way
+test_to (worths.Is (Truth true)) on off m = On on m
+test_to (worths.Is (Truth false)) on off m = On off m
+test_to (worths.Is (Number z)) on off m = Nowhere
+test_to (worths.Leaves o) on off m = Beyond o
+test_to worths.NoScalar on off m = Nowhere
 
 abbrev pub decided : Around → Guard → ℕ → ℕ → Moment → Way
 decided a Star on off m = branch_to (branched m.choices) (on ∷ off ∷ []) (moved m)
-decided a (Test e) on off m = test_to (truth_in e (seen_at a m)) on off m
+decided a (Test e) on off m = test_to (worth e (seen_at a m)) on off m
 
 abbrev pub leaves : Around → Exit → Moment → Way
 leaves a (Leap []) m = On 0 m
@@ -53,11 +60,13 @@ acts_each a (k ∷ ks) m = and_so (acts a k m) (acts_each a ks)
 abbrev pub enters : Way → (ℕ → Moment → Said) → Said
 enters (On k m) go_on = go_on k m
 enters (Off x) go_on = Stops x
+enters (Beyond o) go_on = Leaves o
 enters Nowhere go_on = Unsaid
 
 abbrev pub ran : Out → (Moment → Said) → Said
 ran (Goes m) go_on = go_on m
 ran (Over x) go_on = Stops x
+ran (Outside o) go_on = Leaves o
 ran Unknown go_on = Unsaid
 
 -- a run from the block that is so far ahead

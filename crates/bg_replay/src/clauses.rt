@@ -9,14 +9,15 @@ ghost use Rattle.bg_calls.specs.Core.{demands, sayings};
 ghost use Rattle.bg_blocks.specs.Views.{clauses_in};
 ghost use Rattle.bg_replay.specs.Said.{checks, supposes, or_stops};
 ghost use Rattle.bg_replay.specs.Kept.{which_of};
-ghost use Rattle.bg_replay.specs.Views.{seen_of, said_of, set_of};
+ghost use Rattle.bg_scalar.specs.Views.{seen_of};
+ghost use Rattle.bg_replay.specs.Views.{said_of, set_of};
 
-use crate::choice::{Ending, Step};
-use crate::sight::{Sight, truth};
+use crate::ending::{Ending, Step};
 use bg_ast::resolved::Clause;
 use bg_base::CandId;
 use bg_blocks::Kept;
 use bg_places::{Group, spot_at};
+use bg_scalar::{Scalar, Sight, Worth, worth};
 
 /// Whether a clause with this candidate is there.
 fn is_kept(set: &[bool], candidate: Option<CandId>) -> bool
@@ -29,24 +30,28 @@ fn is_kept(set: &[bool], candidate: Option<CandId>) -> bool
 }
 
 /// What is checked is true, or the run fails there.
-fn ensured(group: Group, clause: u32, value: Option<bool>) -> Step
+fn ensured(group: Group, clause: u32, value: Worth) -> Step
     ensures { said_of result ≡ or_stops (Failed (spot_in group clause)) value }
 {
     match value {
-        None => Step::Over(Ending::NotTruths),
-        Some(true) => Step::Goes,
-        Some(false) => Step::Over(Ending::Failed(spot_at(group, clause))),
+        Worth::Leaves(o) => Step::Over(Ending::OutOfRange(o)),
+        Worth::NoScalar => Step::Over(Ending::NoScalars),
+        Worth::Is(Scalar::Number(_)) => Step::Over(Ending::NoScalars),
+        Worth::Is(Scalar::Truth(true)) => Step::Goes,
+        Worth::Is(Scalar::Truth(false)) => Step::Over(Ending::Failed(spot_at(group, clause))),
     }
 }
 
 /// What is assumed is true, or the run is blocked.
-pub fn assumed(value: Option<bool>) -> Step
+pub fn assumed(value: Worth) -> Step
     ensures { said_of result ≡ or_stops Blocked value }
 {
     match value {
-        None => Step::Over(Ending::NotTruths),
-        Some(true) => Step::Goes,
-        Some(false) => Step::Over(Ending::Blocked),
+        Worth::Leaves(o) => Step::Over(Ending::OutOfRange(o)),
+        Worth::NoScalar => Step::Over(Ending::NoScalars),
+        Worth::Is(Scalar::Number(_)) => Step::Over(Ending::NoScalars),
+        Worth::Is(Scalar::Truth(true)) => Step::Goes,
+        Worth::Is(Scalar::Truth(false)) => Step::Over(Ending::Blocked),
     }
 }
 
@@ -67,7 +72,7 @@ pub fn check(set: &[bool], sight: Sight<'_>, group: Group, clauses: &[Clause]) -
 {
     for k in clauses {
         if !k.is_free && is_kept(set, k.candidate) {
-            match ensured(group, k.id, truth(sight, &k.formula)) {
+            match ensured(group, k.id, worth(sight, &k.formula)) {
                 Step::Goes => {}
                 Step::Over(e) => return Step::Over(e),
             }
@@ -82,7 +87,7 @@ pub fn suppose(set: &[bool], sight: Sight<'_>, which: Kept, clauses: &[Clause]) 
 {
     for k in clauses {
         if is_which(which, k.is_free) && is_kept(set, k.candidate) {
-            match assumed(truth(sight, &k.formula)) {
+            match assumed(worth(sight, &k.formula)) {
                 Step::Goes => {}
                 Step::Over(e) => return Step::Over(e),
             }

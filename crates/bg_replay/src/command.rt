@@ -3,7 +3,7 @@ ghost use Rattle.std.specs.Prelude.{◌≡◌, map, IfOk};
 ghost use Rattle.bg_ast.specs.Meaning as m;
 ghost use Rattle.bg_ast.specs.Views.{program_of, exs_in, target_of};
 ghost use Rattle.bg_blocks.specs.Views.{cmd_of, target_variable};
-ghost use Rattle.bg_replay.specs.Truths.{truths_in};
+ghost use Rattle.bg_scalar.specs.Lists.{worths};
 ghost use Rattle.bg_replay.specs.Moments.{seen_at};
 ghost use Rattle.bg_replay.specs.Acts.{acts, assigned};
 ghost use Rattle.bg_replay.specs.Said.{on_said};
@@ -11,13 +11,13 @@ ghost use Rattle.bg_replay.specs.Ways.{acts_each};
 ghost use Rattle.bg_replay.specs.Views.{moment_of, around_of, said_of};
 
 use crate::call::call;
-use crate::choice::{Ending, Step};
 use crate::clauses::{assumed, check, suppose};
+use crate::ending::{Ending, Step};
 use crate::moment::{Around, Moment, forget, put_targets, seen};
-use crate::sight::truth;
 use crate::values::values_for;
 use bg_ast::resolved::{Expr, Target};
 use bg_blocks::Cmd;
+use bg_scalar::{Scalars, worth};
 use std::alloc::AllocError;
 
 /// An assignment: all right sides are read before any variable changes.
@@ -27,13 +27,16 @@ fn assign(
     targets: &[Target],
     es: &[Expr],
 ) -> Result<Step, AllocError>
-    ensures { IfOk result (λ step. on_said (said_of step) (moment_of moment.new) ≡ assigned (truths_in (m.values_of (map target_of targets.now) (exs_in es.now)) (seen_at (around_of around.entry) (moment_of moment.old))) (map target_variable (map target_of targets.now)) (moment_of moment.old)) }
+    ensures { IfOk result (λ step. on_said (said_of step) (moment_of moment.new) ≡ assigned (worths (m.values_of (map target_of targets.now) (exs_in es.now)) (seen_at (around_of around.entry) (moment_of moment.old))) (map target_variable (map target_of targets.now)) (moment_of moment.old)) }
 {
-    let Some(made) = values_for(around.alloc, seen(around, moment), targets, es)? else {
-        return Ok(Step::Over(Ending::NotTruths));
-    };
-    put_targets(moment, targets, &made);
-    Ok(Step::Goes)
+    match values_for(around.alloc, seen(around, moment), targets, es)? {
+        Scalars::Leave(o) => Ok(Step::Over(Ending::OutOfRange(o))),
+        Scalars::NoScalars => Ok(Step::Over(Ending::NoScalars)),
+        Scalars::Are(made) => {
+            put_targets(moment, targets, &made);
+            Ok(Step::Goes)
+        }
+    }
 }
 
 /// A command.
@@ -44,7 +47,7 @@ fn command(around: Around<'_>, moment: &mut Moment<'_>, k: &Cmd<'_>) -> Result<S
     match k {
         Cmd::Check(group, ks) => Ok(check(around.set, seen(around, moment), *group, ks)),
         Cmd::Suppose(which, ks) => Ok(suppose(around.set, seen(around, moment), *which, ks)),
-        Cmd::Assume(e) => Ok(assumed(truth(seen(around, moment), e))),
+        Cmd::Assume(e) => Ok(assumed(worth(seen(around, moment), e))),
         Cmd::Forget(xs) => Ok(forget(around, moment, xs)),
         Cmd::Put(targets, es) => assign(around, moment, targets, es),
         Cmd::Perform(k, q, xs) => call(around, moment, k, q, xs),

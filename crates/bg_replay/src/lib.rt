@@ -1,16 +1,19 @@
-//! The replay of a counterexample: the run of an implementation's blocks over truth values.
+//! The replay of a counterexample: the run of an implementation's blocks over scalars.
 #![tactic(auto)]
 
 mod call;
-mod choice;
 mod clauses;
 mod command;
+mod ending;
+mod holds;
 pub mod laws;
 mod moment;
 mod run;
-mod sight;
+#[cfg(test)]
+mod tests;
 mod values;
 mod whole;
 
-pub use choice::{Choice, Ending};
+pub use bg_scalar::Choice;
+pub use ending::Ending;
 pub use whole::replay;

@@ -4,16 +4,17 @@ ghost use Rattle.bg_ast.specs.Meaning as m;
 ghost use Rattle.bg_ast.specs.Views.{program_of, guard_of};
 ghost use Rattle.bg_blocks.specs.Views.{exit_of, block_of};
 ghost use Rattle.bg_replay.specs.Acts.{moved};
-ghost use Rattle.bg_replay.specs.Ways.{branched, branch_to, decided, leaves, runs};
+ghost use Rattle.bg_replay.specs.Moments as spec;
+ghost use Rattle.bg_replay.specs.Ways.{branched, branch_to, test_to, decided, leaves, runs};
 ghost use Rattle.bg_flow.specs.Blocks.{Leap};
 ghost use Rattle.bg_replay.specs.Views.{moment_of, around_of, said_by, way_of};
 
-use crate::choice::{Ending, Step, Way};
 use crate::command::commands;
+use crate::ending::{Ending, Step, Way};
 use crate::moment::{Around, Moment, rest_of, seen, take_branch};
-use crate::sight::truth;
 use bg_ast::resolved::Guard;
 use bg_blocks::{Block, Exit};
+use bg_scalar::{Scalar, Worth, worth};
 use std::alloc::AllocError;
 
 /// The branch that is chosen next, of these.
@@ -29,17 +30,26 @@ fn branch(moment: &mut Moment<'_>, ks: &[usize]) -> Way
     }
 }
 
+/// What is tested decides between two ways.
+fn tested(value: Worth, on: usize, off: usize) -> Way
+    ensures { (m : spec.Moment) → way_of result m ≡ test_to value on off m }
+{
+    match value {
+        Worth::Leaves(o) => Way::Over(Ending::OutOfRange(o)),
+        Worth::NoScalar => Way::Over(Ending::NoScalars),
+        Worth::Is(Scalar::Number(_)) => Way::Over(Ending::NoScalars),
+        Worth::Is(Scalar::Truth(true)) => Way::To(on),
+        Worth::Is(Scalar::Truth(false)) => Way::To(off),
+    }
+}
+
 /// A guard decides between two ways.
 fn decide(around: Around<'_>, moment: &mut Moment<'_>, guard: &Guard, on: usize, off: usize) -> Way
     ensures { way_of result (moment_of moment.new) ≡ decided (around_of around.entry) (m.guard_of (guard_of guard.now)) on off (moment_of moment.old) }
 {
     match guard {
         Guard::Star => branch(moment, &[on, off]),
-        Guard::Test(e) => match truth(seen(around, moment), e) {
-            None => Way::Over(Ending::NotTruths),
-            Some(true) => Way::To(on),
-            Some(false) => Way::To(off),
-        },
+        Guard::Test(e) => tested(worth(seen(around, moment), e), on, off),
     }
 }
 

@@ -1,13 +1,11 @@
 -- Lists of expressions are worth their values.
-use Rattle.std.proofs.Common.{◌≡◌, ℕ, List, [], ◌∷◌, ◌++◌, map, refl, ap, sym, ◌∙◌, append_assoc}
-use Rattle.bg_base.specs.declared.exact.OutOfRange.{OutOfRange}
+use Rattle.std.proofs.Common.{◌≡◌, ℕ, List, [], ◌∷◌, ◌++◌, map, refl, ap, ◌∙◌, append_assoc}
 use Rattle.bg_ast.specs.Values as v
-use Rattle.bg_ast.specs.Resolved as r
-use Rattle.bg_ast.specs.Meaning as m
+use Rattle.bg_ast.specs.Syntax.{Exs, NoMore, More}
 use Rattle.bg_sense.specs.Eval.{ev, evs}
 use Rattle.bg_scalar.specs.Worths.{Seen, worth}
 use Rattle.bg_scalar.specs.Values.{val_of, scope_in}
-use Rattle.bg_scalar.specs.Lists.{Listed, Are, Leave, NoScalars, more, cons, worths, onto}
+use Rattle.bg_scalar.specs.Lists.{Listed, Are, Leave, NoScalars, cons, worths, onto}
 use Rattle.bg_scalar.specs.declared.scalar.Scalar.{Scalar}
 use Rattle.bg_scalar.specs.declared.scalar.Worth.{Worth}
 use Rattle.bg_scalar.specs.declared.scalar.Worth.TheVariants.{Is, Leaves, NoScalar}
@@ -26,7 +24,8 @@ onto_none NoScalars = refl
 
 pub ruleset list_forms = (onto_one, onto_none)
 
-abbrev AllAgree : Listed → List v.Val → Type 0
+-- the values are these, where there are some
+abbrev pub AllAgree : Listed → List v.Val → Type 0
 AllAgree (Are xs) ys = ys ≡ map val_of xs
 AllAgree (Leave o) ys = Unit {0}
 AllAgree NoScalars ys = Unit {0}
@@ -39,15 +38,15 @@ cons_agrees (Leaves o) l y ys h k = tt
 cons_agrees NoScalar l y ys h k = tt
 
 module _ (fs : ℕ → List v.Val → v.Val) (cs : List v.Val) where
-  all_agree : (es : r.Exs) (w : Seen) → AllAgree (worths es w) (evs (m.exs_of es) (scope_in fs cs w))
-  all_agree r.NoMore w = refl
-  all_agree (r.More e es) w =
-      cons_agrees (worth e w) (worths es w) (ev (m.ex_of e) (scope_in fs cs w)) (evs (m.exs_of es) (scope_in fs cs w)) (agrees fs cs e w) (all_agree es w)
+  pub all_agree : (es : Exs) (w : Seen) → AllAgree (worths es w) (evs es (scope_in fs cs w))
+  all_agree NoMore w = refl
+  all_agree (More e es) w =
+      cons_agrees (worth e w) (worths es w) (ev e (scope_in fs cs w)) (evs es (scope_in fs cs w)) (agrees fs cs e w) (all_agree es w)
 
-pub worths_are : (fs : ℕ → List v.Val → v.Val) (cs : List v.Val) (es : r.Exs) (w : Seen) (xs : List Scalar) → worths es w ≡ Are xs → evs (m.exs_of es) (scope_in fs cs w) ≡ map val_of xs
+pub worths_are : (fs : ℕ → List v.Val → v.Val) (cs : List v.Val) (es : Exs) (w : Seen) (xs : List Scalar) → worths es w ≡ Are xs → evs es (scope_in fs cs w) ≡ map val_of xs
 worths_are fs cs es w xs h = on (worths es w) h (all_agree fs cs es w)
   where
-    on : (l : Listed) → l ≡ Are xs → AllAgree l (evs (m.exs_of es) (scope_in fs cs w)) → evs (m.exs_of es) (scope_in fs cs w) ≡ map val_of xs
+    on : (l : Listed) → l ≡ Are xs → AllAgree l (evs es (scope_in fs cs w)) → evs es (scope_in fs cs w) ≡ map val_of xs
     on (Are ys) e k = let same : ys ≡ xs = cc in k ∙ ap (map val_of) same
     on (Leave o) e k = absurd (let bad : ⊥ = cc in bad)
     on NoScalars e k = absurd (let bad : ⊥ = cc in bad)

@@ -1,7 +1,7 @@
 -- What lists of expressions are worth, from left to right.
 use Rattle.std.specs.Prelude.{List, [], ◌∷◌, ◌++◌}
 use Rattle.bg_base.specs.declared.exact.OutOfRange.{OutOfRange}
-use Rattle.bg_ast.specs.Resolved as r
+use Rattle.bg_ast.specs.Syntax.{Exs, NoMore, More}
 use Rattle.bg_scalar.specs.Worths.{Seen, worth}
 use Rattle.bg_scalar.specs.declared.scalar.Scalar.{Scalar}
 use Rattle.bg_scalar.specs.declared.scalar.Worth.{Worth}
@@ -25,9 +25,9 @@ cons (Is x) l = more x l
 cons (Leaves o) l = Leave o
 cons NoScalar l = NoScalars
 
-abbrev pub worths : r.Exs → Seen → Listed
-worths r.NoMore s = Are []
-worths (r.More e es) s = cons (worth e s) (worths es s)
+abbrev pub worths : Exs → Seen → Listed
+worths NoMore s = Are []
+worths (More e es) s = cons (worth e s) (worths es s)
 
 -- these in front
 abbrev pub onto : List Scalar → Listed → Listed

@@ -1,15 +1,18 @@
 //! The evaluation of expressions, from left to right.
 ghost use Rattle.std.specs.Prelude.{◌≡◌, map, None};
-ghost use Rattle.bg_ast.specs.Views.{ex_of, link_view, var_of};
+ghost use Rattle.bg_ast.specs.Meaning as m;
+ghost use Rattle.bg_ast.specs.Views as view;
+ghost use Rattle.bg_ast.specs.Views.{link_view, var_of};
 ghost use Rattle.bg_scalar.specs.Worths as spec;
-ghost use Rattle.bg_scalar.specs.Worths.{signed, postfix, known, read_in, worth};
+ghost use Rattle.bg_scalar.specs.Worths.{known, read_in, worth};
+ghost use Rattle.bg_scalar.specs.Signs.{signed, behind};
 ghost use Rattle.bg_scalar.specs.Along as way;
 ghost use Rattle.bg_scalar.specs.Along.{under, along};
 ghost use Rattle.bg_scalar.specs.Views.{seen_of};
 
 use crate::joined::{joined, prefixed};
 use crate::scalar::{Scalar, Worth};
-use bg_ast::resolved::{Bracket, Expr, Link, Variable};
+use bg_ast::resolved::{Expr, Link, Variable};
 use bg_text::{InfixSign, TreePrefix};
 
 /// The values of variables: the globals now and at entry, and the frame.
@@ -64,8 +67,8 @@ fn signed(signs: &[TreePrefix], value: Worth) -> Worth
 }
 
 /// An expression with these brackets behind it; maps are no scalars.
-fn postfix(brackets: &[Bracket], value: Worth) -> Worth
-    ensures { result ≡ postfix brackets.now value }
+pub fn behind<T>(brackets: &[T], value: Worth) -> Worth
+    ensures { result ≡ behind brackets.now value }
 {
     if brackets.is_empty() {
         value
@@ -108,10 +111,12 @@ fn under(premise: Option<Worth>, a: Worth) -> Worth
     }
 }
 
-/// What an expression is worth where variables have these values, evaluated from left to right.
+/// What an expression is worth where variables have these values, evaluated from left to right; but `a <== b` is `b ==> a`, where b
+/// comes first.
 #[cycle(worth)]
+#[tactic(auto, using(crate::proofs::Chains::prefix_expr))]
 pub fn worth(sight: Sight<'_>, e: &Expr) -> Worth
-    ensures { result ≡ worth (ex_of e.now) (seen_of sight.entry) }
+    ensures { result ≡ worth (m.ex_of (view.ex_of e.now)) (seen_of sight.entry) }
 {
     match e {
         Expr::Number(_, z) => Worth::Is(Scalar::Number(*z)),
@@ -123,7 +128,7 @@ pub fn worth(sight: Sight<'_>, e: &Expr) -> Worth
         Expr::Old(_, e) => worth(entry(sight), e),
         Expr::Constant(_, _) => Worth::NoScalar,
         Expr::Apply(_, _, _) => Worth::NoScalar,
-        Expr::Postfix(e, brackets) => postfix(brackets, worth(sight, e)),
+        Expr::Postfix(e, brackets) => behind(brackets, worth(sight, e)),
     }
 }
 

@@ -1,7 +1,8 @@
 //! Signs between scalars, and before them.
 ghost use Rattle.std.specs.Prelude.{◌≡◌};
 ghost use Rattle.bg_scalar.specs.Worths as spec;
-ghost use Rattle.bg_scalar.specs.Worths.{exact, on_truths, on_numbers, operate, takes, joined, prefix_on, prefixed};
+ghost use Rattle.bg_scalar.specs.Worths.{exact, on_truths, on_numbers, operate, takes};
+ghost use Rattle.bg_scalar.specs.Signs.{op_of, between, prefix_on, prefixed};
 
 use crate::scalar::{Scalar, Worth};
 use bg_base::{OutOfRange, add, mul, neg, sub};
@@ -23,14 +24,14 @@ fn exact(made: Result<i128, OutOfRange>) -> Worth
     }
 }
 
-/// A sign between truth values.
+/// The operator of a sign between truth values.
 fn on_truths(sign: InfixSign, a: bool, b: bool) -> Worth
-    ensures { result ≡ on_truths sign a b }
+    ensures { result ≡ on_truths (op_of sign) a b }
 {
     match sign {
         InfixSign::Iff => truth(a == b),
         InfixSign::Implies => truth(!a || b),
-        InfixSign::Explies => truth(!b || a),
+        InfixSign::Explies => truth(!a || b),
         InfixSign::And => truth(a && b),
         InfixSign::Or => truth(a || b),
         InfixSign::Equal => truth(a == b),
@@ -45,9 +46,9 @@ fn on_truths(sign: InfixSign, a: bool, b: bool) -> Worth
     }
 }
 
-/// A sign between whole numbers.
+/// The operator of a sign between whole numbers.
 fn on_numbers(sign: InfixSign, x: i128, y: i128) -> Worth
-    ensures { result ≡ on_numbers sign x y }
+    ensures { result ≡ on_numbers (op_of sign) x y }
 {
     match sign {
         InfixSign::Iff => Worth::NoScalar,
@@ -68,7 +69,7 @@ fn on_numbers(sign: InfixSign, x: i128, y: i128) -> Worth
 }
 
 fn operate(sign: InfixSign, a: Scalar, b: Scalar) -> Worth
-    ensures { result ≡ operate sign a b }
+    ensures { result ≡ operate (op_of sign) a b }
 {
     match a {
         Scalar::Truth(a) => match b {
@@ -82,9 +83,9 @@ fn operate(sign: InfixSign, a: Scalar, b: Scalar) -> Worth
     }
 }
 
-/// Whether a sign may stand behind this operand.
+/// Whether the operator of a sign may stand behind this operand.
 fn takes(sign: InfixSign, a: Scalar) -> bool
-    ensures { result ≡ takes sign a }
+    ensures { result ≡ takes (op_of sign) a }
 {
     let is_truth = matches!(a, Scalar::Truth(_));
     match sign {
@@ -105,9 +106,9 @@ fn takes(sign: InfixSign, a: Scalar) -> bool
     }
 }
 
-/// The value of a sign between two operands; what is wrong with the left one comes first.
-pub fn joined(sign: InfixSign, a: Worth, b: Worth) -> Worth
-    ensures { result ≡ joined sign a b }
+/// The value of a sign's operator between two operands; what is wrong with the left one comes first.
+fn operated(sign: InfixSign, a: Worth, b: Worth) -> Worth
+    ensures { result ≡ spec.joined (op_of sign) a b }
 {
     match a {
         Worth::Leaves(o) => Worth::Leaves(o),
@@ -122,6 +123,17 @@ pub fn joined(sign: InfixSign, a: Worth, b: Worth) -> Worth
                 Worth::Is(y) => operate(sign, x, y),
             }
         }
+    }
+}
+
+/// The value of a sign between two operands. What is wrong with the left one comes first; but `a <== b` is `b ==> a`, where b comes
+/// first.
+pub fn joined(sign: InfixSign, a: Worth, b: Worth) -> Worth
+    ensures { result ≡ between sign a b }
+{
+    match sign {
+        InfixSign::Explies => operated(InfixSign::Implies, b, a),
+        _ => operated(sign, a, b),
     }
 }
 

@@ -1,6 +1,7 @@
 //! What expressions over truth values and whole numbers are worth, exactly, or the first operation that leaves 128 bits.
 #![tactic(auto)]
 
+mod choice;
 mod eval;
 mod joined;
 pub mod laws;
@@ -9,6 +10,7 @@ mod scalar;
 #[cfg(test)]
 mod tests;
 
-pub use eval::{Sight, worth};
+pub use choice::Choice;
+pub use eval::{Sight, behind, worth};
 pub use lists::{Scalars, worths};
 pub use scalar::{Scalar, Worth};

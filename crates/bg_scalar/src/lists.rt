@@ -1,5 +1,6 @@
 //! Lists of expressions, from left to right.
 ghost use Rattle.std.specs.Prelude.{◌≡◌, IfOk};
+ghost use Rattle.bg_ast.specs.Meaning.{exs_of};
 ghost use Rattle.bg_ast.specs.Views.{exs_in};
 ghost use Rattle.bg_scalar.specs.Lists.{worths, listed};
 ghost use Rattle.bg_scalar.specs.Views.{seen_of};
@@ -23,7 +24,7 @@ pub enum Scalars {
 /// Only want of memory is an error.
 #[tactic(auto, using(crate::proofs::Listing::list_forms))]
 pub fn worths(alloc: Global, sight: Sight<'_>, es: &[Expr]) -> Result<Scalars, AllocError>
-    ensures { IfOk result (λ made. listed made ≡ worths (exs_in es.now) (seen_of sight.entry)) }
+    ensures { IfOk result (λ made. listed made ≡ worths (exs_of (exs_in es.now)) (seen_of sight.entry)) }
 {
     let mut made = Vec::new(alloc);
     for e in es {

@@ -8,8 +8,8 @@ pub enum Scalar {
     Number(i128),
 }
 
-/// What an expression is worth: a scalar; none, since this operation leaves 128 bits, the first in the order of the text that does; or
-/// none, since something in it is no scalar or has another type than it should.
+/// What an expression is worth: a scalar; none, since this operation leaves 128 bits, the first that does; or none, since something in
+/// it is no scalar or has another type than it should.
 #[derive(Clone, Copy, PartialEq, Eq, Debug)]
 pub enum Worth {
     Is(Scalar),

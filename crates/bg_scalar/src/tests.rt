@@ -60,7 +60,7 @@ fn leaves(op: Op, a: i128, b: i128) -> Worth {
 }
 
 #[test]
-fn the_first_operation_from_the_left_is_refused(rt: HostRuntime) -> Result<(), Fail> {
+fn the_first_operation_that_leaves_is_refused(rt: HostRuntime) -> Result<(), Fail> {
     let alloc = rt.alloc();
     let most = i128::MAX;
     let (plus, times) = (InfixSign::Plus, InfixSign::Times);
@@ -71,7 +71,7 @@ fn the_first_operation_from_the_left_is_refused(rt: HostRuntime) -> Result<(), F
     let table: [(Expr, Worth); 7] = [
         (
             chain(alloc, sum, InfixSign::Explies, product)?,
-            leaves(Op::Plus, most, 1),
+            leaves(Op::Times, most, 2),
         ),
         (
             chain(

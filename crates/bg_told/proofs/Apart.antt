@@ -1,16 +1,17 @@
 use Rattle.std.proofs.Common.{◌≡◌, ◌≢◌, ℕ, Bool, true, false, List, [], ◌∷◌, ◌++◌, codes, flat_map, map, sym, ap, ◌∙◌, append_assoc, if◌then◌else◌, arith, refl}
 use Rattle.std.proofs.lemmas.List.{append_cancel_left}
-use Rattle.bg_tree.specs.declared.outcome.Why.{Why}
+use Rattle.bg_check.specs.declared.verdict.Cause.{Cause}
 use Rattle.bg_told.specs.Kept.{kept_text}
 use Rattle.bg_places.specs.declared.place.Place.{Place}
-use Rattle.bg_replay.specs.declared.choice.Choice.{Choice}
+use Rattle.bg_scalar.specs.declared.scalar.Scalar.{Scalar}
+use Rattle.bg_scalar.specs.declared.choice.Choice.{Choice}
 use Rattle.bg_check.specs.declared.verdict.Verdict.{Verdict}
 use Rattle.bg_check.specs.declared.verdict.Verdict.TheVariants as verdict
 use Rattle.bg_check.specs.declared.verdict.Judged.{Judged}
 use Rattle.bg_told.specs.Words.{is_ordinary}
-use Rattle.bg_told.specs.Lines.{line, texts, truth_text}
+use Rattle.bg_told.specs.Lines.{line, texts, scalar_text}
 use Rattle.bg_told.specs.Places.{place_text, value_text, chosen_text, choice_text, refuted_text, unknown_text, verdict_text, judged_text}
-use Rattle.bg_told.proofs.Cuts.{IsFlat, is_flat, cut, place_is_flat, chosen_is_flat, behind_is_flat, cause_parts}
+use Rattle.bg_told.proofs.Cuts.{IsFlat, is_flat, cut, place_is_flat, scalar_is_flat, chosen_is_flat, behind_is_flat, cause_parts}
 
 abbrev pub first : List ℕ → ℕ
 first [] = 0
@@ -34,23 +35,16 @@ pub record IsHead (text : List ℕ) : Type 0 where
   pub no_place : first text ≢ 32
   pub past : IsPast text
 
-value_cells : (name : List ℕ) (v : Bool) (x : List ℕ) → value_text name v ++ x ≡ (codes "    var " ++ name ++ codes " = ") ++ (truth_text v ++ (10 ∷ x))
+value_cells : (name : List ℕ) (v : Scalar) (x : List ℕ) → value_text name v ++ x ≡ (codes "    var " ++ name ++ codes " = ") ++ (scalar_text v ++ (10 ∷ x))
 value_cells name v x = simp append_assoc
 
-other_value : (name : List ℕ) (x y : List ℕ) → value_text name true ++ x ≡ value_text name false ++ y → ⊥
-other_value name x y h =
-    let e : truth_text true ++ (10 ∷ x) ≡ truth_text false ++ (10 ∷ y) = append_cancel_left (codes "    var " ++ name ++ codes " = ") _ _ (sym (value_cells name true x) ∙ h ∙ value_cells name false y) in
-    let f : 116 ≡ 102 = ap first e in
-    omega (arith, f)
-
-value_apart : (name : List ℕ) (v w : Bool) (x y : List ℕ) → value_text name v ++ x ≡ value_text name w ++ y → x ≡ y
-value_apart name true true x y h = append_cancel_left (value_text name true) x y h
-value_apart name false false x y h = append_cancel_left (value_text name false) x y h
-value_apart name true false x y h = absurd (other_value name x y h)
-value_apart name false true x y h = absurd (other_value name y x (sym h))
+value_apart : (name : List ℕ) (v w : Scalar) (x y : List ℕ) → value_text name v ++ x ≡ value_text name w ++ y → x ≡ y
+value_apart name v w x y h =
+    cut (scalar_text v) (scalar_text w) x y (scalar_is_flat v) (scalar_is_flat w)
+    (append_cancel_left (codes "    var " ++ name ++ codes " = ") _ _ (sym (value_cells name v x) ∙ h ∙ value_cells name w y))
 
 -- the values of one row of names end where no value's line follows
-values_apart : (names : List (List ℕ)) (vs ws : List Bool) (x y : List ℕ) → fifth x ≢ 118 → fifth y ≢ 118 → texts value_text names vs ++ x ≡ texts value_text names ws ++ y → x ≡ y
+values_apart : (names : List (List ℕ)) (vs ws : List Scalar) (x y : List ℕ) → fifth x ≢ 118 → fifth y ≢ 118 → texts value_text names vs ++ x ≡ texts value_text names ws ++ y → x ≡ y
 values_apart [] vs ws x y hx hy h = h
 values_apart (n ∷ ns) [] [] x y hx hy h = h
 values_apart (n ∷ ns) (v ∷ vs) [] x y hx hy h = absurd (hy (sym (ap fifth h)))
@@ -90,14 +84,14 @@ unknown_cells a w d x = two_lines (codes "  unknown ") a (codes " " ++ w) (codes
     two_lines : (c a m k d x : List ℕ) → ((c ++ a) ++ (line m ++ line (k ++ d))) ++ x ≡ c ++ ((a ++ m) ++ (10 ∷ (k ++ (d ++ (10 ∷ x)))))
     two_lines c a m k d x = simp append_assoc
 
-refuted_apart : (names : List (List ℕ)) (p q : Place) (vs ws : List Bool) (cs ds : List Choice) (x y : List ℕ) → IsPast x → IsPast y → refuted_text names p vs cs ++ x ≡ refuted_text names q ws ds ++ y → x ≡ y
+refuted_apart : (names : List (List ℕ)) (p q : Place) (vs ws : List Scalar) (cs ds : List Choice) (x y : List ℕ) → IsPast x → IsPast y → refuted_text names p vs cs ++ x ≡ refuted_text names q ws ds ++ y → x ≡ y
 refuted_apart names p q vs ws cs ds x y hx hy h =
     choices_apart cs ds x y hx.no_choice hy.no_choice
     (values_apart names vs ws (flat_map choice_text cs ++ x) (flat_map choice_text ds ++ y) (no_value_behind cs x hx) (no_value_behind ds y hy)
     (cut (place_text p) (place_text q) _ _ (place_is_flat p) (place_is_flat q)
     (append_cancel_left (codes "  refuted ") _ _ (sym (refuted_cells (place_text p) (texts value_text names vs) (flat_map choice_text cs) x) ∙ h ∙ refuted_cells (place_text q) (texts value_text names ws) (flat_map choice_text ds) y))))
 
-unknown_apart : (p q : Place) (v w : Why) (x y : List ℕ) → unknown_text p v ++ x ≡ unknown_text q w ++ y → x ≡ y
+unknown_apart : (p q : Place) (v w : Cause) (x y : List ℕ) → unknown_text p v ++ x ≡ unknown_text q w ++ y → x ≡ y
 unknown_apart p q v w x y h =
     let a = cause_parts v in
     let b = cause_parts w in
@@ -116,8 +110,8 @@ unknown_apart p q v w x y h =
 -- a place's part of a report: nothing, or that of a refuted or an unknown place
 data Shape : Type 0 where
   Nothing : Shape
-  Shown : Place → List Bool → List Choice → Shape
-  Spent : Place → Why → Shape
+  Shown : Place → List Scalar → List Choice → Shape
+  Spent : Place → Cause → Shape
 
 abbrev shape_text : List (List ℕ) → Shape → List ℕ
 shape_text names Nothing = []
@@ -162,7 +156,7 @@ none_apart names (Shown p vs cs ∷ ss) x y hx h = absurd (hx.no_place (ap first
 none_apart names (Spent p ns ∷ ss) x y hx h = absurd (hx.no_place (ap first h))
 
 -- a refuted place, and then a text t that is read in one way
-refuted_first : (names : List (List ℕ)) (q : Place) (ws : List Bool) (ds : List Choice) (ss : List Shape) (t x y : List ℕ) → IsPast t → IsHead y → ((rest : List Shape) → t ≡ shapes_text names rest ++ y → x ≡ y) → refuted_text names q ws ds ++ t ≡ shapes_text names ss ++ y → x ≡ y
+refuted_first : (names : List (List ℕ)) (q : Place) (ws : List Scalar) (ds : List Choice) (ss : List Shape) (t x y : List ℕ) → IsPast t → IsHead y → ((rest : List Shape) → t ≡ shapes_text names rest ++ y → x ≡ y) → refuted_text names q ws ds ++ t ≡ shapes_text names ss ++ y → x ≡ y
 refuted_first names q ws ds [] t x y ht hy ih h = absurd (hy.no_place (sym (ap first h)))
 refuted_first names q ws ds (Nothing ∷ ss) t x y ht hy ih h = refuted_first names q ws ds ss t x y ht hy ih h
 refuted_first names q ws ds (Shown p vs cs ∷ ss) t x y ht hy ih h =
@@ -170,7 +164,7 @@ refuted_first names q ws ds (Shown p vs cs ∷ ss) t x y ht hy ih h =
 refuted_first names q ws ds (Spent p ns ∷ ss) t x y ht hy ih h = let e : 114 ≡ 117 = ap third h in absurd (omega (arith, e))
 
 -- an unknown place, and then a text t that is read in one way
-unknown_first : (names : List (List ℕ)) (q : Place) (ms : Why) (ss : List Shape) (t x y : List ℕ) → IsHead y → ((rest : List Shape) → t ≡ shapes_text names rest ++ y → x ≡ y) → unknown_text q ms ++ t ≡ shapes_text names ss ++ y → x ≡ y
+unknown_first : (names : List (List ℕ)) (q : Place) (ms : Cause) (ss : List Shape) (t x y : List ℕ) → IsHead y → ((rest : List Shape) → t ≡ shapes_text names rest ++ y → x ≡ y) → unknown_text q ms ++ t ≡ shapes_text names ss ++ y → x ≡ y
 unknown_first names q ms [] t x y hy ih h = absurd (hy.no_place (sym (ap first h)))
 unknown_first names q ms (Nothing ∷ ss) t x y hy ih h = unknown_first names q ms ss t x y hy ih h
 unknown_first names q ms (Shown p vs cs ∷ ss) t x y hy ih h = let e : 117 ≡ 114 = ap third h in absurd (omega (arith, e))

@@ -8,14 +8,18 @@ use Rattle.bg_tree.specs.declared.outcome.Beyond.{Beyond}
 use Rattle.bg_tree.specs.declared.outcome.Beyond.TheVariants.{Elimination, Value}
 use Rattle.bg_tree.specs.declared.outcome.Why.{Why}
 use Rattle.bg_tree.specs.declared.outcome.Why.TheVariants.{Nodes, Rows, Range}
-use Rattle.bg_told.specs.Kept.{is_inner, operator_text, operation_text, beyond_text, kept_text, cause_text}
+use Rattle.bg_told.specs.Kept.{is_inner, operator_text, operation_text, beyond_text, kept_text, why_text, cause_text}
 use Rattle.bg_base.specs.declared.pos.Pos.{Pos}
 use Rattle.bg_places.specs.declared.place.Spot.{Spot}
 use Rattle.bg_places.specs.declared.place.Spot.TheVariants.{Assert, Entry, Turn, Call, Return}
 use Rattle.bg_places.specs.declared.place.Place.{Place}
-use Rattle.bg_replay.specs.declared.choice.Choice.{Choice}
-use Rattle.bg_replay.specs.declared.choice.Choice.TheVariants.{Branch, Chosen}
-use Rattle.bg_told.specs.Lines.{position_text}
+use Rattle.bg_scalar.specs.declared.scalar.Scalar.{Scalar}
+use Rattle.bg_scalar.specs.declared.scalar.Scalar.TheVariants.{Truth, Number}
+use Rattle.bg_scalar.specs.declared.choice.Choice.{Choice}
+use Rattle.bg_scalar.specs.declared.choice.Choice.TheVariants.{Branch, Chosen}
+use Rattle.bg_check.specs.declared.verdict.Cause.{Cause}
+use Rattle.bg_check.specs.declared.verdict.Cause.TheVariants.{Search, Form, Replay}
+use Rattle.bg_told.specs.Lines.{position_text, scalar_text}
 use Rattle.bg_told.specs.Places.{kind_text, call_text, place_text, chosen_text}
 
 -- no byte is below a space: none is a newline
@@ -92,20 +96,24 @@ place_is_flat p =
     append_is_flat (kind_text p.spot ++ call_text p.call) (position_text p.pos)
     (append_is_flat (kind_text p.spot) (call_text p.call) (kind_is_flat p.spot) (call_is_flat p.call)) (position_is_flat p.pos)
 
+signed_is_flat : (z : ℤ) → IsFlat (signed_decimal z)
+signed_is_flat (pos n) = decimal_is_flat n
+signed_is_flat (negsuc n) = with_byte 45 (decimal (suc n)) (omega arith) (decimal_is_flat (suc n))
+
+pub scalar_is_flat : (x : Scalar) → IsFlat (scalar_text x)
+scalar_is_flat (Truth true) = word_is_flat (codes "true") refl
+scalar_is_flat (Truth false) = word_is_flat (codes "false") refl
+scalar_is_flat (Number z) = signed_is_flat z
+
 pub chosen_is_flat : (c : Choice) → IsFlat (chosen_text c)
 chosen_is_flat (Branch k) = append_is_flat (codes "branch ") (decimal k) (word_is_flat (codes "branch ") refl) (decimal_is_flat k)
-chosen_is_flat (Chosen true) = word_is_flat (codes "true") refl
-chosen_is_flat (Chosen false) = word_is_flat (codes "false") refl
+chosen_is_flat (Chosen x) = scalar_is_flat x
 
 -- a word behind a text
 pub behind_is_flat : (a w : List ℕ) → IsFlat a → is_flat w ≡ true → IsFlat (a ++ w)
 behind_is_flat a w h e = append_is_flat a w h (word_is_flat w e)
 
 -- ---- what is kept of an unknown place
-
-signed_is_flat : (z : ℤ) → IsFlat (signed_decimal z)
-signed_is_flat (pos n) = decimal_is_flat n
-signed_is_flat (negsuc n) = with_byte 45 (decimal (suc n)) (omega arith) (decimal_is_flat (suc n))
 
 operator_is_flat : (o : Op) → IsFlat (operator_text o)
 operator_is_flat Plus = word_is_flat (codes "+") refl
@@ -125,15 +133,15 @@ beyond_is_flat (Elimination o further) = operation_is_flat further.operation
 beyond_is_flat (Value o spots far) = operation_is_flat far.operation
 
 -- a cause's word, and what is kept, each without a newline
-pub record IsCauseText (why : Why) : Type 0 where
+pub record IsCauseText (text : List ℕ) : Type 0 where
   pub word : List ℕ
   pub kept : List ℕ
-  pub is : cause_text why ≡ kept_text word kept
+  pub is : text ≡ kept_text word kept
   pub word_flat : is_flat (codes " " ++ word) ≡ true
   pub kept_flat : IsFlat kept
 
-pub cause_parts : (why : Why) → IsCauseText why
-cause_parts (Nodes parts) =
+why_parts : (why : Why) → IsCauseText (why_text why)
+why_parts (Nodes parts) =
     record {
       word = codes "nodes";
       kept = decimal (count_by is_inner parts.items);
@@ -141,7 +149,7 @@ cause_parts (Nodes parts) =
       word_flat = refl;
       kept_flat = decimal_is_flat (count_by is_inner parts.items);
     }
-cause_parts (Rows path o) =
+why_parts (Rows path o) =
     record {
       word = codes "rows";
       kept = decimal (length o.reasons.items);
@@ -149,5 +157,14 @@ cause_parts (Rows path o) =
       word_flat = refl;
       kept_flat = decimal_is_flat (length o.reasons.items);
     }
-cause_parts (Range path beyond) =
+why_parts (Range path beyond) =
     record { word = codes "range"; kept = beyond_text beyond; is = refl; word_flat = refl; kept_flat = beyond_is_flat beyond }
+
+outside_parts : (o : OutOfRange) → IsCauseText (kept_text (codes "range") (operation_text o))
+outside_parts o =
+    record { word = codes "range"; kept = operation_text o; is = refl; word_flat = refl; kept_flat = operation_is_flat o }
+
+pub cause_parts : (c : Cause) → IsCauseText (cause_text c)
+cause_parts (Search why) = why_parts why
+cause_parts (Form o) = outside_parts o
+cause_parts (Replay cex o) = outside_parts o

@@ -11,6 +11,8 @@ use Rattle.bg_tree.specs.declared.outcome.Beyond.{Beyond}
 use Rattle.bg_tree.specs.declared.outcome.Beyond.TheVariants.{Elimination, Value}
 use Rattle.bg_tree.specs.declared.outcome.Why.{Why}
 use Rattle.bg_tree.specs.declared.outcome.Why.TheVariants.{Nodes, Rows, Range}
+use Rattle.bg_check.specs.declared.verdict.Cause.{Cause}
+use Rattle.bg_check.specs.declared.verdict.Cause.TheVariants.{Search, Form, Replay}
 use Rattle.bg_told.specs.Lines.{line}
 
 -- whether a part of a tree has children
@@ -37,7 +39,14 @@ beyond_text (Value o spots far) = operation_text far.operation
 abbrev pub kept_text : List ℕ → List ℕ → List ℕ
 kept_text word kept = line (codes " " ++ word) ++ line (codes "    kept " ++ kept)
 
-abbrev pub cause_text : Why → List ℕ
-cause_text (Nodes parts) = kept_text (codes "nodes") (decimal (count_by is_inner parts.items))
-cause_text (Rows path o) = kept_text (codes "rows") (decimal (length o.reasons.items))
-cause_text (Range path beyond) = kept_text (codes "range") (beyond_text beyond)
+-- where the search ends
+abbrev pub why_text : Why → List ℕ
+why_text (Nodes parts) = kept_text (codes "nodes") (decimal (count_by is_inner parts.items))
+why_text (Rows path o) = kept_text (codes "rows") (decimal (length o.reasons.items))
+why_text (Range path beyond) = kept_text (codes "range") (beyond_text beyond)
+
+-- or an operation of a linear form, or of a replay
+abbrev pub cause_text : Cause → List ℕ
+cause_text (Search why) = why_text why
+cause_text (Form o) = kept_text (codes "range") (operation_text o)
+cause_text (Replay cex o) = kept_text (codes "range") (operation_text o)

@@ -1,7 +1,9 @@
 -- Parts of a report's lines.
 use Rattle.std.specs.Prelude.{ℕ, Bool, true, false, List, [], ◌∷◌, ◌++◌, codes}
-use Rattle.std.specs.Fmt.{decimal}
+use Rattle.std.specs.Fmt.{decimal, signed_decimal}
 use Rattle.bg_base.specs.declared.pos.Pos.{Pos}
+use Rattle.bg_scalar.specs.declared.scalar.Scalar.{Scalar}
+use Rattle.bg_scalar.specs.declared.scalar.Scalar.TheVariants.{Truth, Number}
 use Rattle.bg_told.specs.declared.word.Word.{Word}
 use Rattle.bg_told.specs.declared.word.Word.TheVariants.{Verified, Refuted, Unknown}
 
@@ -21,6 +23,11 @@ position_text p = decimal p.line ++ codes ":" ++ decimal p.column
 abbrev pub truth_text : Bool → List ℕ
 truth_text true = codes "true"
 truth_text false = codes "false"
+
+-- a value
+abbrev pub scalar_text : Scalar → List ℕ
+scalar_text (Truth b) = truth_text b
+scalar_text (Number z) = signed_decimal z
 
 abbrev pub word_text : Word → List ℕ
 word_text Verified = codes "verified"

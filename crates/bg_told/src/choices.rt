@@ -1,10 +1,10 @@
 //! The choices of a counterexample.
 ghost use Rattle.std.specs.Prelude.{◌≡◌, ◌++◌, OnOk, flat_map};
-ghost use Rattle.bg_replay.specs.declared.choice.Choice.TheVariants.{Branch};
+ghost use Rattle.bg_scalar.specs.declared.choice.Choice.TheVariants.{Branch};
 ghost use Rattle.bg_told.specs.Places.{chosen_text, choice_text};
 
-use crate::put::{put_number, put_truth};
-use bg_replay::Choice;
+use crate::put::{put_number, put_scalar};
+use bg_scalar::Choice;
 use std::alloc::AllocError;
 
 fn put_branch(out: &mut Vec<u8>, branch: u32) -> Result<(), AllocError>
@@ -19,7 +19,7 @@ fn put_chosen(out: &mut Vec<u8>, choice: Choice) -> Result<(), AllocError>
 {
     match choice {
         Choice::Branch(branch) => put_branch(out, branch),
-        Choice::Chosen(value) => put_truth(out, value),
+        Choice::Chosen(value) => put_scalar(out, value),
     }
 }
 

@@ -1,14 +1,14 @@
 //! What is kept of a place that is left unknown.
 ghost use Rattle.std.specs.Prelude.{◌≡◌, ◌++◌, OnOk, count_by, codes, length};
-ghost use Rattle.std.specs.Fmt.{decimal, signed_decimal};
-ghost use Rattle.bg_told.specs.Kept.{is_inner, operator_text, operation_text, beyond_text, kept_text, cause_text};
+ghost use Rattle.std.specs.Fmt.{decimal};
+ghost use Rattle.bg_told.specs.Kept.{is_inner, operator_text, operation_text, beyond_text, kept_text, why_text, cause_text};
 
-use crate::put::put_number;
+use crate::put::{put_integer, put_number};
 use bg_base::{Op, OutOfRange};
 use bg_cert::Node;
+use bg_check::Cause;
 use bg_elim::Order;
 use bg_tree::{Beyond, Part, Why};
-use itoa::Buffer;
 use std::alloc::AllocError;
 
 /// How many inner nodes a tree has that is not finished.
@@ -19,13 +19,6 @@ fn inner(parts: &[Part]) -> usize
         .iter()
         .filter(|part| matches!(part, Part::Plain(Node::Split(_)) | Part::Bound(_)))
         .count()
-}
-
-fn put_integer(out: &mut Vec<u8>, n: i128) -> Result<(), AllocError>
-    ensures { OnOk result (out.new.items ≡ out.old.items ++ signed_decimal n) }
-{
-    let mut buffer = Buffer::new();
-    out.extend_from_slice(buffer.format(n).as_bytes())
 }
 
 fn put_operator(out: &mut Vec<u8>, op: Op) -> Result<(), AllocError>
@@ -84,6 +77,16 @@ fn put_rows(out: &mut Vec<u8>, order: &Order) -> Result<(), AllocError>
     Ok(())
 }
 
+/// The word for an operation that leaves 128 bits, and in the next line the operation.
+fn put_outside(out: &mut Vec<u8>, operation: &OutOfRange) -> Result<(), AllocError>
+    ensures { OnOk result (out.new.items ≡ out.old.items ++ kept_text (codes "range") (operation_text operation.now)) }
+{
+    out.extend_from_slice(b" range\n    kept ")?;
+    put_operation(out, operation)?;
+    out.push(b'\n')?;
+    Ok(())
+}
+
 fn put_range(out: &mut Vec<u8>, beyond: &Beyond) -> Result<(), AllocError>
     ensures { OnOk result (out.new.items ≡ out.old.items ++ kept_text (codes "range") (beyond_text beyond.now)) }
 {
@@ -93,13 +96,24 @@ fn put_range(out: &mut Vec<u8>, beyond: &Beyond) -> Result<(), AllocError>
     Ok(())
 }
 
-/// The cause's word, and in the next line what is kept.
-pub fn put_cause(out: &mut Vec<u8>, why: &Why) -> Result<(), AllocError>
-    ensures { OnOk result (out.new.items ≡ out.old.items ++ cause_text why.now) }
+/// Where the search ends.
+fn put_why(out: &mut Vec<u8>, why: &Why) -> Result<(), AllocError>
+    ensures { OnOk result (out.new.items ≡ out.old.items ++ why_text why.now) }
 {
     match why {
         Why::Nodes(parts) => put_nodes(out, parts),
         Why::Rows(_, order) => put_rows(out, order),
         Why::Range(_, beyond) => put_range(out, beyond),
+    }
+}
+
+/// The cause's word, and in the next line what is kept.
+pub fn put_cause(out: &mut Vec<u8>, cause: &Cause) -> Result<(), AllocError>
+    ensures { OnOk result (out.new.items ≡ out.old.items ++ cause_text cause.now) }
+{
+    match cause {
+        Cause::Search(why) => put_why(out, why),
+        Cause::Form(operation) => put_outside(out, operation),
+        Cause::Replay(_, operation) => put_outside(out, operation),
     }
 }

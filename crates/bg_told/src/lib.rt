@@ -1,4 +1,4 @@
-//! The report of a program over truth values: the text of what is known of each implementation and place.
+//! The report: the text of what is known of each implementation and place.
 #![tactic(auto)]
 
 mod choices;

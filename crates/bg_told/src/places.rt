@@ -10,10 +10,9 @@ use crate::place::put_told;
 use crate::values::{Values, put_entry};
 use crate::word::{Word, is_ordinary};
 use bg_ast::resolved::{Declared, Implementation};
-use bg_check::{Judged, Verdict};
+use bg_check::{Cause, Judged, Verdict};
 use bg_model::Counterexample;
 use bg_places::Place;
-use bg_tree::Why;
 use std::alloc::AllocError;
 
 /// A refuted place.
@@ -38,11 +37,11 @@ fn put_refuted(
 }
 
 /// An unknown place.
-fn put_unknown(out: &mut Vec<u8>, place: &Place, why: &Why) -> Result<(), AllocError>
-    ensures { OnOk result (out.new.items ≡ out.old.items ++ unknown_text place.now why.now) }
+fn put_unknown(out: &mut Vec<u8>, place: &Place, cause: &Cause) -> Result<(), AllocError>
+    ensures { OnOk result (out.new.items ≡ out.old.items ++ unknown_text place.now cause.now) }
 {
     put_told(out, Word::Unknown, place)?;
-    put_cause(out, why)
+    put_cause(out, cause)
 }
 
 fn put_verdict(
@@ -57,7 +56,7 @@ fn put_verdict(
     match verdict {
         Verdict::Proved(_) => Ok(()),
         Verdict::Refuted(cex) => put_refuted(out, globals, implementation, place, cex),
-        Verdict::Unknown(why) => put_unknown(out, place, why),
+        Verdict::Unknown(cause) => put_unknown(out, place, cause),
     }
 }
 

@@ -1,15 +1,24 @@
 //! Parts of a line.
 ghost use Rattle.std.specs.Prelude.{◌≡◌, ◌++◌, OnOk};
-ghost use Rattle.std.specs.Fmt.{decimal};
-ghost use Rattle.bg_told.specs.Lines.{position_text, truth_text, word_text};
+ghost use Rattle.std.specs.Fmt.{decimal, signed_decimal};
+ghost use Rattle.bg_told.specs.Lines.{position_text, truth_text, scalar_text, word_text};
 
 use crate::word::Word;
 use bg_base::Pos;
+use bg_scalar::Scalar;
 use itoa::Buffer;
 use std::alloc::AllocError;
 
 pub fn put_number(out: &mut Vec<u8>, n: usize) -> Result<(), AllocError>
     ensures { OnOk result (out.new.items ≡ out.old.items ++ decimal n) }
+{
+    let mut buffer = Buffer::new();
+    out.extend_from_slice(buffer.format(n).as_bytes())
+}
+
+/// A whole number, with its sign.
+pub fn put_integer(out: &mut Vec<u8>, n: i128) -> Result<(), AllocError>
+    ensures { OnOk result (out.new.items ≡ out.old.items ++ signed_decimal n) }
 {
     let mut buffer = Buffer::new();
     out.extend_from_slice(buffer.format(n).as_bytes())
@@ -23,13 +32,22 @@ pub fn put_position(out: &mut Vec<u8>, pos: Pos) -> Result<(), AllocError>
     put_number(out, pos.column as usize)
 }
 
-pub fn put_truth(out: &mut Vec<u8>, value: bool) -> Result<(), AllocError>
+fn put_truth(out: &mut Vec<u8>, value: bool) -> Result<(), AllocError>
     ensures { OnOk result (out.new.items ≡ out.old.items ++ truth_text value) }
 {
     if value {
         out.extend_from_slice(b"true")
     } else {
         out.extend_from_slice(b"false")
+    }
+}
+
+pub fn put_scalar(out: &mut Vec<u8>, value: Scalar) -> Result<(), AllocError>
+    ensures { OnOk result (out.new.items ≡ out.old.items ++ scalar_text value) }
+{
+    match value {
+        Scalar::Truth(b) => put_truth(out, b),
+        Scalar::Number(z) => put_integer(out, z),
     }
 }
 

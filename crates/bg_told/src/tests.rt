@@ -2,12 +2,12 @@ use super::*;
 use bg_ast::resolved::{Declared, Implementation, Resolved, WrittenType};
 use bg_base::{CandId, Op, OutOfRange, Pos};
 use bg_cert::Node;
-use bg_check::{Judged, Verdict};
+use bg_check::{Cause, Judged, Verdict};
 use bg_elim::{Further, Order, Reason};
 use bg_model::Counterexample;
 use bg_places::{Place, Spot};
 use bg_point::{Far, Gap};
-use bg_replay::Choice;
+use bg_scalar::{Choice, Scalar};
 use bg_text::Name;
 use bg_tree::{Beyond, Kept, Part, Why};
 use std::alloc::{AllocError, Global};
@@ -27,14 +27,17 @@ type Case<'a> = (
 type Told<'a> = (Spot, Option<u32>, (u32, u32), Option<(u32, u32)>, Known<'a>);
 
 /// What is known of a place: of a refuted one the values of globals and frame, and the choices; of
-/// an unknown one a tree, the reasons of rows, or an operation and whether it makes a value.
+/// an unknown one a tree, the reasons of rows, an operation of the search and whether it makes a
+/// value, or one of a linear form, or of a replay.
 #[derive(Clone, Copy)]
 enum Known<'a> {
     Proved,
-    Refuted(&'a [bool], &'a [bool], &'a [Choice]),
+    Refuted(&'a [Scalar], &'a [Scalar], &'a [Choice]),
     Unknown(&'a [Kind]),
     Filled(&'a [Reason]),
     Beyond(OutOfRange, bool),
+    Form(OutOfRange),
+    Replay(OutOfRange),
 }
 
 /// What stands at a place of a partial tree.
@@ -141,15 +144,26 @@ fn verdict(alloc: Global, known: Known) -> Result<Verdict, AllocError> {
             frame: frame.to_vec(alloc)?,
             choices: choices.to_vec(alloc)?,
         })),
-        Known::Unknown(kinds) => Ok(Verdict::Unknown(Why::Nodes(parts(alloc, kinds)?))),
+        Known::Unknown(kinds) => Ok(Verdict::Unknown(Cause::Search(Why::Nodes(parts(
+            alloc, kinds,
+        )?)))),
         Known::Filled(reasons) => {
             let order = order(alloc, reasons)?;
-            Ok(Verdict::Unknown(Why::Rows(Vec::new(alloc), order)))
+            Ok(Verdict::Unknown(Cause::Search(Why::Rows(Vec::new(alloc), order))))
         }
         Known::Beyond(operation, is_value) => {
             let beyond = beyond(alloc, operation, is_value)?;
-            Ok(Verdict::Unknown(Why::Range(Vec::new(alloc), beyond)))
+            Ok(Verdict::Unknown(Cause::Search(Why::Range(Vec::new(alloc), beyond))))
         }
+        Known::Form(operation) => Ok(Verdict::Unknown(Cause::Form(operation))),
+        Known::Replay(operation) => Ok(Verdict::Unknown(Cause::Replay(
+            Counterexample {
+                globals: Vec::new(alloc),
+                frame: Vec::new(alloc),
+                choices: Vec::new(alloc),
+            },
+            operation,
+        ))),
     }
 }
 
@@ -204,6 +218,12 @@ fn shows(alloc: Global, cases: &[Case], word: Word, lines: &str) -> Result<bool,
     Ok(text.as_slice() == want.as_bytes() && word_of(&outcome) == word)
 }
 
+const T: Scalar = Scalar::Truth(true);
+
+const F: Scalar = Scalar::Truth(false);
+
+const LEAST: i128 = -170141183460469231731687303715884105728;
+
 const COPY: Case = (
     "P",
     (1, 1),
@@ -224,7 +244,7 @@ const BRIEF: Case = (
         None,
         (1, 17),
         None,
-        Known::Refuted(&[false, true], &[], &[]),
+        Known::Refuted(&[F, T], &[], &[]),
     )],
 );
 
@@ -264,11 +284,33 @@ const STOPPED: Case = (
             Known::Beyond(
                 OutOfRange {
                     op: Op::Negate,
-                    a: -170141183460469231731687303715884105728,
+                    a: LEAST,
                     b: 0,
                 },
                 true,
             ),
+        ),
+        (
+            Spot::Assert(3),
+            None,
+            (4, 9),
+            None,
+            Known::Form(OutOfRange {
+                op: Op::Times,
+                a: LEAST,
+                b: -1,
+            }),
+        ),
+        (
+            Spot::Assert(4),
+            None,
+            (4, 11),
+            None,
+            Known::Replay(OutOfRange {
+                op: Op::Minus,
+                a: LEAST,
+                b: 1,
+            }),
         ),
     ],
 );
@@ -300,7 +342,7 @@ const GUARDED: Case = (
             Some(0),
             (1, 17),
             None,
-            Known::Refuted(&[true, true], &[], &[]),
+            Known::Refuted(&[T, T], &[], &[]),
         ),
         (
             Spot::Turn(1),
@@ -325,18 +367,14 @@ const MIXED: Case = (
             None,
             (3, 14),
             None,
-            Known::Refuted(&[false, true], &[true, false, true], &[]),
+            Known::Refuted(&[F, T], &[T, Scalar::Number(-7), T], &[]),
         ),
         (
             Spot::Turn(1),
             None,
             (3, 14),
             None,
-            Known::Refuted(
-                &[true, true],
-                &[false, false, true],
-                &[Choice::Branch(1), Choice::Chosen(false)],
-            ),
+            Known::Refuted(&[T, T], &[F, F, T], &[Choice::Branch(1), Choice::Chosen(F)]),
         ),
         (
             Spot::Call(0, 2),
@@ -344,10 +382,10 @@ const MIXED: Case = (
             (1, 40),
             Some((5, 7)),
             Known::Refuted(
-                &[true, false],
-                &[true, true, false],
+                &[T, F],
+                &[T, T, F],
                 &[
-                    Choice::Chosen(true),
+                    Choice::Chosen(Scalar::Number(LEAST)),
                     Choice::Branch(0),
                     Choice::Branch(4_294_967_295),
                 ],
@@ -412,6 +450,10 @@ fn a_line_for_each_implementation_and_each_place_that_is_not_proved(
                  \x20   kept + 170141183460469231731687303715884105727 1\n\
                  \x20 unknown assert 4:7 range\n\
                  \x20   kept neg -170141183460469231731687303715884105728 0\n\
+                 \x20 unknown assert 4:9 range\n\
+                 \x20   kept * -170141183460469231731687303715884105728 -1\n\
+                 \x20 unknown assert 4:11 range\n\
+                 \x20   kept - -170141183460469231731687303715884105728 1\n\
                  summary: 0 retained, 0 dropped; 0 verified, 0 refuted, 1 unknown\n";
     assert!(rt;
         shows(alloc, &[STOPPED], Word::Unknown, lines)?,
@@ -448,7 +490,7 @@ fn each_kind_of_place_and_choice_has_its_words(rt: HostRuntime) -> Result<(), Fa
                  \x20   var g = false\n\
                  \x20   var h = true\n\
                  \x20   var a = true\n\
-                 \x20   var c = false\n\
+                 \x20   var c = -7\n\
                  \x20   var d = true\n\
                  \x20 refuted invariant turn 3:14\n\
                  \x20   var g = true\n\
@@ -464,7 +506,7 @@ fn each_kind_of_place_and_choice_has_its_words(rt: HostRuntime) -> Result<(), Fa
                  \x20   var a = true\n\
                  \x20   var c = true\n\
                  \x20   var d = false\n\
-                 \x20   choice true\n\
+                 \x20   choice -170141183460469231731687303715884105728\n\
                  \x20   choice branch 0\n\
                  \x20   choice branch 4294967295\n\
                  \x20 unknown precondition 6:7 of 1:40 nodes\n\

@@ -6,19 +6,20 @@ ghost use Rattle.bg_told.specs.Places.{value_text};
 ghost use Rattle.bg_told.specs.Report.{name_in, names_of};
 ghost use Rattle.bg_told.specs.Entries.{values_of, names_in};
 
-use crate::put::put_truth;
+use crate::put::put_scalar;
 use bg_ast::resolved::{Declared, Implementation};
+use bg_scalar::Scalar;
 use std::alloc::AllocError;
 
 /// Entry values: those of globals, and behind them those of a frame.
 #[derive(Clone, Copy)]
 pub struct Values<'a> {
-    pub globals: &'a [bool],
-    pub frame: &'a [bool],
+    pub globals: &'a [Scalar],
+    pub frame: &'a [Scalar],
 }
 
 /// The value with this number.
-fn value_at(values: Values<'_>, i: usize) -> Option<bool>
+fn value_at(values: Values<'_>, i: usize) -> Option<Scalar>
     ensures { result ≡ slice_get (values_of values.entry) i }
 {
     if i < values.globals.len() {
@@ -33,7 +34,7 @@ fn value_at(values: Values<'_>, i: usize) -> Option<bool>
 }
 
 /// What is left of the items after the first `n`.
-fn behind(items: &[bool], n: usize) -> &[bool]
+fn behind(items: &[Scalar], n: usize) -> &[Scalar]
     ensures { result.now ≡ drop n items.now }
 {
     if n <= items.len() { &items[n..] } else { &[] }
@@ -58,13 +59,13 @@ fn rest_of(values: Values<'_>, n: usize) -> Values<'_>
     }
 }
 
-fn put_value(out: &mut Vec<u8>, variable: &Declared, value: bool) -> Result<(), AllocError>
+fn put_value(out: &mut Vec<u8>, variable: &Declared, value: Scalar) -> Result<(), AllocError>
     ensures { OnOk result (out.new.items ≡ out.old.items ++ value_text (name_in (declared_of variable.now)) value) }
 {
     out.extend_from_slice(b"    var ")?;
     out.extend_from_slice(&variable.name.text)?;
     out.extend_from_slice(b" = ")?;
-    put_truth(out, value)?;
+    put_scalar(out, value)?;
     out.push(b'\n')?;
     Ok(())
 }

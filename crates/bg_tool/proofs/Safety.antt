@@ -7,7 +7,7 @@ use Rattle.bg_ast.specs.Resolved.{Program}
 use Rattle.bg_ast.specs.Views.{candidate_of}
 use Rattle.bg_sense.specs.Clauses.{is_kept}
 use Rattle.bg_check.specs.declared.verdict.Judged.{Judged}
-use Rattle.bg_check.specs.Clauses.{none}
+use Rattle.bg_check.specs.Verdicts.{none}
 use Rattle.bg_check.specs.Verdicts.{ProvedAreSafe, are_proved, is_there}
 use Rattle.bg_told.specs.declared.word.Word.TheVariants.{Verified}
 use Rattle.bg_told.specs.Words.{word_of, is_ordinary, ordinary}

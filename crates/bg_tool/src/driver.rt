@@ -5,7 +5,7 @@ ghost use Rattle.bg_cli.specs.Cli.{IsTaken, texts_of, files_in};
 ghost use Rattle.bg_ast.specs.Views.{program_of};
 ghost use Rattle.bg_ast.specs.Meaning.{meaning_of};
 ghost use Rattle.bg_sense.specs.Typed.{IsTyped};
-ghost use Rattle.bg_fits.specs.Truths.{is_over_truths};
+ghost use Rattle.bg_fits.specs.Scalars.{is_over_scalars};
 ghost use Rattle.bg_front.specs.Programs.{IsProgramOf, IsRefusedBy};
 ghost use Rattle.bg_front.specs.Refusals.{refusal_of};
 ghost use Rattle.bg_front.specs.Lines.{line_of};
@@ -21,7 +21,7 @@ use bg_cli::{Line, LineError, read_line};
 use bg_front::laws::{a_text_has_one_program_or_one_refusal, programs_are_typed};
 use bg_front::{MOST_BYTES, ReadError as TextError, Refusal, read_program};
 use bg_io::{Files, ReadError, Sink, read_all, write_all};
-use bg_judged::laws::judged_programs_are_over_truths;
+use bg_judged::laws::judged_programs_are_over_scalars;
 use bg_told::{Word, result_text, verified_is_all_proved, word_of};
 use bg_tree::Budget;
 use std::alloc::{AllocError, Global};
@@ -38,14 +38,14 @@ fn status_of(word: Word) -> Status
     }
 }
 
-/// The report of a typed program over truth values, and the status that its verdicts give.
+/// The report of a typed program over truth values and whole numbers, and the status that its verdicts give.
 fn report_of(
     alloc: Global,
     program: &Resolved,
     budget: Budget,
 ) -> Result<(Status, Vec<u8>), AllocError>
     requires typed { IsTyped (meaning_of (program_of program.now)) }
-    requires truths { is_over_truths (meaning_of (program_of program.now)) ≡ true }
+    requires scalars { is_over_scalars true (meaning_of (program_of program.now)) ≡ true }
     ensures report { IfOk result (λ r. (bytes : List ℕ) → IsProgramOf bytes (program_of program.now) → IsReport budget bytes r.0 r.1.items) }
     ensures ends { IfOk result (λ r. IsTrue (is_report r.0)) }
 {
@@ -144,7 +144,7 @@ fn verify<S: Sink, E: Sink>(
         Err(TextError::Refused(refusal)) => return refuse_bytes(alloc, &refusal, err),
     };
     programs_are_typed();
-    judged_programs_are_over_truths();
+    judged_programs_are_over_scalars();
     let Ok((ends, text)) = report_of(alloc, &typed.program, budget) else {
         return Status::Memory;
     };

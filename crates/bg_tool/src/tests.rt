@@ -78,7 +78,7 @@ fn each_text_gets_its_report_or_its_line(rt: HostRuntime) -> Result<(), Fail> {
     let deeper = nested(&rt, 200)?;
     let verify_a: &[&str] = &["bg", "verify", "a.bpl"];
     let one_node: &[&str] = &["bg", "verify", "--nodes", "1", "a.bpl"];
-    let table: [(&[&str], &str, Status, &str, &str); 24] = [
+    let table: [(&[&str], &str, Status, &str, &str); 26] = [
         (verify_a, COPY, Status::Verified, COPY_REPORT, ""),
         (verify_a, "", Status::Verified, EMPTY_REPORT, ""),
         (verify_a, "// forall", Status::Verified, EMPTY_REPORT, ""),
@@ -144,9 +144,23 @@ fn each_text_gets_its_report_or_its_line(rt: HostRuntime) -> Result<(), Fail> {
         (
             verify_a,
             "procedure P() { assert 1 == 1; }",
+            Status::Verified,
+            COPY_REPORT,
+            "",
+        ),
+        (
+            verify_a,
+            "procedure P(x: int) {\n  assume x == 170141183460469231731687303715884105727;\n  assert x + 1 < 0; }",
+            Status::Unknown,
+            "axioms: consistent\nretained set: greatest\nimplementation P 1:1 unknown\n  unknown assert 3:3 range\n    kept + 170141183460469231731687303715884105727 1\nsummary: 0 retained, 0 dropped; 0 verified, 0 refuted, 1 unknown\n",
+            "",
+        ),
+        (
+            verify_a,
+            "type T; procedure P() { assert true; }",
             Status::Text,
             "",
-            "error: 1:24 unsupported number\n",
+            "error: 1:1 unsupported type\n",
         ),
         (&["bg", "verify"], COPY, Status::Usage, "", USAGE),
         (

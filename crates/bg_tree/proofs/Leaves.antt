@@ -14,17 +14,16 @@ use Rattle.bg_formula.specs.Formulas.{Formula, unit_atom, literals_below, clause
 use Rattle.bg_formula.specs.Meaning.{Valuation, same, signed, clause_true, clauses_true, unit_true, MeetsUnits, AtomsAgree}
 use Rattle.bg_cert.specs.declared.cert.Decision.{Decision}
 use Rattle.bg_cert.specs.declared.cert.Decision.TheVariants.{Atom, AtMost}
-use Rattle.bg_cert.specs.Paths.{decides, clause_false, decision_true, decided_true, at_most, above, row_of_atom, row_of_decision, in_front, rows_on}
+use Rattle.bg_cert.specs.Paths.{is_decision, decides, clause_false, row_of_atom, row_of_decision, in_front, rows_on}
 use Rattle.bg_cert.specs.Causes.{is_decided, all_decided, has_true, undecided, any_false, any_open, member_atom, unit_clause, unit_clauses, units_of}
-use Rattle.bg_cert.proofs.Follow.{either, and_of, or_left, or_right, decided_signs}
+use Rattle.bg_cert.proofs.Follow.{either, and_of, or_left, or_right}
 use Rattle.bg_pick.specs.Picks.{IsComplete}
 use Rattle.bg_pick.proofs.Falses.{false_parts}
 use Rattle.bg_pick.proofs.Members.{atom_low, candidate_there}
 use Rattle.bg_pick.proofs.Below.{split_and, whole_clauses, whole_units}
 use Rattle.bg_pick.proofs.Opens.{split_or, none_left}
 use Rattle.bg_tree.specs.declared.outcome.Leaf.{Leaf}
-use Rattle.bg_tree.specs.Ends.{IsLeaf, truth_agrees, decision_agrees, truths_agree}
-use Rattle.bg_tree.proofs.Gaps.{one_times, minus_one_times}
+use Rattle.bg_tree.specs.Ends.{IsLeaf, TruthsAgree}
 
 decided_below : (n a : ℕ) (ds : List Decision) → all_decided n ds ≡ true → a < n → is_decided a ds ≡ true
 decided_below zero a ds h l = absurd (omega arith)
@@ -63,28 +62,35 @@ clauses_met n ds (c ∷ cs) h b f =
 
 -- ---- what the leaf's decisions make true
 
-true_clause : (v : Valuation) (xs : List AtomOf) (ds : List Decision) (c : List Literal) → decided_true v xs ds ≡ true → has_true ds c ≡ true → clause_true v xs c ≡ true
-true_clause v xs ds [] d h = absurd (cc)
-true_clause v xs ds (l ∷ ls) d h =
+-- atoms that are there are worth what the path decides
+abbrev Signs : Valuation → List AtomOf → List Decision → Type 0
+Signs v xs ds = (a : ℕ) (s : Bool) → a < length xs → decides a s ds ≡ true → signed v (at xs a) s ≡ true
+
+true_clause : (v : Valuation) (xs : List AtomOf) (ds : List Decision) (c : List Literal) → Signs v xs ds → literals_below (length xs) c ≡ true → has_true ds c ≡ true → clause_true v xs c ≡ true
+true_clause v xs ds [] d b h = absurd (cc)
+true_clause v xs ds (l ∷ ls) d b h =
+    let p = split_and (nat_lt l.atom (length xs)) (literals_below (length xs) ls) b in
+    let k : l.atom < length xs = let t = p.0 in grind (arith, nat_tests) in
     elim (either (decides l.atom l.sign ds) (has_true ds ls) h) [
-      | inl e ↦ or_left _ _ (decided_signs v xs l.atom l.sign ds e d)
-      | inr e ↦ or_right _ _ (true_clause v xs ds ls d e)
+      | inl e ↦ or_left _ _ (d l.atom l.sign k e)
+      | inr e ↦ or_right _ _ (true_clause v xs ds ls d p.1 e)
     ]
 
-true_clauses : (v : Valuation) (xs : List AtomOf) (ds : List Decision) (cs : List (List Literal)) → decided_true v xs ds ≡ true → any_open ds cs ≡ false → clauses_true v xs cs ≡ true
-true_clauses v xs ds [] d h = refl
-true_clauses v xs ds (c ∷ cs) d h =
+true_clauses : (v : Valuation) (xs : List AtomOf) (ds : List Decision) (cs : List (List Literal)) → Signs v xs ds → clauses_below (length xs) cs ≡ true → any_open ds cs ≡ false → clauses_true v xs cs ≡ true
+true_clauses v xs ds [] d b h = refl
+true_clauses v xs ds (c ∷ cs) d b h =
     let s = split_or (not (has_true ds c)) (any_open ds cs) h in
-    and_of _ _ (true_clause v xs ds c d (is_so (has_true ds c) s.0)) (true_clauses v xs ds cs d s.1)
+    let p = split_and (literals_below (length xs) c) (clauses_below (length xs) cs) b in
+    and_of _ _ (true_clause v xs ds c d p.0 (is_so (has_true ds c) s.0)) (true_clauses v xs ds cs d p.1 s.1)
   where
     is_so : (b : Bool) → not b ≡ false → b ≡ true
     is_so true e = refl
     is_so false e = absurd (cc)
 
-complete_clauses : (f : Formula) (set : ℕ → Bool) (ds : List Decision) (v : Valuation) → is_whole f ≡ true → IsComplete f set ds → decided_true v f.atoms ds ≡ true → clauses_true v f.atoms f.clauses ≡ true
+complete_clauses : (f : Formula) (set : ℕ → Bool) (ds : List Decision) (v : Valuation) → is_whole f ≡ true → IsComplete f set ds → Signs v f.atoms ds → clauses_true v f.atoms f.clauses ≡ true
 complete_clauses f set ds v w l d =
     let p = false_parts ds f.clauses (units_of f set) l.fine in
-    true_clauses v f.atoms ds f.clauses d (clauses_met (length f.atoms) ds f.clauses l.decided (whole_clauses f w) p.0)
+    true_clauses v f.atoms ds f.clauses d (whole_clauses f w) (clauses_met (length f.atoms) ds f.clauses l.decided (whole_clauses f w) p.0)
 
 -- ---- its units
 
@@ -110,7 +116,7 @@ decided_true_sign : (t f : Bool) → (t || f) ≡ true → f ≡ false → t ≡
 decided_true_sign true f h k = refl
 decided_true_sign false f h k = absurd (let z = k in cc)
 
-complete_units : (f : Formula) (set : ℕ → Bool) (ds : List Decision) (v : Valuation) → is_whole f ≡ true → IsComplete f set ds → decided_true v f.atoms ds ≡ true → MeetsUnits v f set
+complete_units : (f : Formula) (set : ℕ → Bool) (ds : List Decision) (v : Valuation) → is_whole f ≡ true → IsComplete f set ds → Signs v f.atoms ds → MeetsUnits v f set
 complete_units f set ds v w l d c s = by_atom (unit_atom f c) refl
   where
     is_member : (b : Bool) (x : Option ℕ) → b ≡ true → cond b x None ≡ x
@@ -125,7 +131,7 @@ complete_units f set ds v w l d c s = by_atom (unit_atom f c) refl
         let n = member_not_false f set ds a c (length f.candidates) (candidate_there f.candidates c a e) m p.1 in
         let t = atom_low (length f.atoms) f.candidates c a (whole_units f w) e in
         let k : a < length f.atoms = grind (arith, nat_tests) in
-        decided_signs v f.atoms a true ds (decided_true_sign (decides a true ds) (decides a false ds) (decided_below (length f.atoms) a ds l.decided k) n) d
+        d a true k (decided_true_sign (decides a true ds) (decides a false ds) (decided_below (length f.atoms) a ds l.decided k) n)
 
 -- ---- a point makes the path's rows true
 
@@ -140,50 +146,66 @@ denial_at (IsRow q c ∷ xs) zero r d g e =
 denial_at (IsTruth x ∷ xs) (suc a) r d g e = denial_at xs a r d g e
 denial_at (IsRow q c ∷ xs) (suc a) r d g e = denial_at xs a r d g.1 e
 
-at_most_holds : (v : ℕ → ℤ) (x : ℕ) (k : ℤ) → Meets v (at_most x k) → int_le (v x) k ≡ true
-at_most_holds v x k m = let le : v x ≤ℤ k = omega (arith, ints, m, one_times (v x)) in grind (arith, ints)
-
-above_holds : (v : ℕ → ℤ) (x : ℕ) (k : ℤ) → Meets v (above x k) → int_le (v x) k ≡ false
-above_holds v x k m = let lt : k <ℤ v x = omega (arith, ints, m, minus_one_times (v x)) in grind (arith, ints)
-
 same_sign : (b s : Bool) → b ≡ s → same b s ≡ true
 same_sign true true e = refl
 same_sign true false e = absurd (cc)
 same_sign false true e = absurd (cc)
 same_sign false false e = refl
 
-decision_holds : (v : Valuation) (xs : List AtomOf) (d : Decision) → AtomsAgree xs → ((r : RowOf) → row_of_decision xs d ≡ Some r → Meets v.numbers r) → decision_agrees v xs d ≡ true → decision_true v xs d ≡ true
-decision_holds v xs (Atom a s) g m h = by_atom (at xs a) refl s h m
+there : (xs : List AtomOf) (a : ℕ) → a < length xs → at xs a ≡ None → ⊥
+there [] a l e = omega (arith, l)
+there (x ∷ xs) zero l e = cc
+there (x ∷ xs) (suc a) l e = there xs a (omega (arith, l)) e
+
+atom_signs : (v : Valuation) (xs : List AtomOf) (a : ℕ) (s : Bool) → AtomsAgree xs → a < length xs → ((x : ℕ) → at xs a ≡ Some (IsTruth x) → v.truths x ≡ s) → ((r : RowOf) → row_of_atom (at xs a) s ≡ Some r → Meets v.numbers r) → signed v (at xs a) s ≡ true
+atom_signs v xs a s g l h m = by_atom (at xs a) refl s h m
   where
-    by_atom : (o : Option AtomOf) → at xs a ≡ o → (t : Bool) → truth_agrees v o t ≡ true → ((r : RowOf) → row_of_atom (at xs a) t ≡ Some r → Meets v.numbers r) → signed v (at xs a) t ≡ true
-    by_atom None e t k f = absurd (cc)
-    by_atom (Some (IsTruth x)) e t k f = rw e k
+    by_atom : (o : Option AtomOf) → at xs a ≡ o → (t : Bool) → ((x : ℕ) → at xs a ≡ Some (IsTruth x) → v.truths x ≡ t) → ((r : RowOf) → row_of_atom (at xs a) t ≡ Some r → Meets v.numbers r) → signed v (at xs a) t ≡ true
+    by_atom None e t k f = absurd (there xs a l e)
+    by_atom (Some (IsTruth x)) e t k f = rw e (same_sign (v.truths x) t (k x e))
     by_atom (Some (IsRow r d)) e true k f =
         rw e (same_sign (holds v.numbers r) true (holds_is v.numbers r (f r (rw e refl))))
     by_atom (Some (IsRow r d)) e false k f =
         rw e (same_sign (holds v.numbers r) false (holds_not v.numbers r (λ n. denied_denies v.numbers r d (denial_at xs a r d g e) (f d (rw e refl)) n)))
-decision_holds v xs (AtMost x k true) g m h = same_sign _ true (at_most_holds v.numbers x k (m (at_most x k) refl))
-decision_holds v xs (AtMost x k false) g m h = same_sign _ false (above_holds v.numbers x k (m (above x k) refl))
+
+same_is : (s t : Bool) → same s t ≡ true → s ≡ t
+same_is true true e = refl
+same_is true false e = absurd (cc)
+same_is false true e = absurd (cc)
+same_is false false e = refl
 
 front_met : (v : ℕ → ℤ) (o : Option RowOf) (rs : List RowOf) → AllMeet v (in_front o rs) → ((r : RowOf) → o ≡ Some r → Meets v r) × AllMeet v rs
 front_met v None rs m = ((λ r e. absurd (cc)), m)
 front_met v (Some q) rs m = ((λ r e. let is : q ≡ r = cc in subst (Meets v) is m.0), m.1)
 
-path_holds : (v : Valuation) (xs : List AtomOf) (ds : List Decision) → AtomsAgree xs → AllMeet v.numbers (rows_on xs ds) → truths_agree v xs ds ≡ true → decided_true v xs ds ≡ true
-path_holds v xs [] g m h = refl
-path_holds v xs (d ∷ ds) g m h =
-    let p = split_and (decision_agrees v xs d) (truths_agree v xs ds) h in
+path_signs : (v : Valuation) (xs : List AtomOf) (ds : List Decision) → AtomsAgree xs → AllMeet v.numbers (rows_on xs ds) → TruthsAgree v xs ds → Signs v xs ds
+path_signs v xs [] g m t a s l e = absurd (cc)
+path_signs v xs (d ∷ ds) g m t a s l e =
     let f = front_met v.numbers (row_of_decision xs d) (rows_on xs ds) m in
-    and_of _ _ (decision_holds v xs d g f.0 p.0) (path_holds v xs ds g f.1 p.1)
+    elim (either (is_decision a s d) (decides a s ds) e) [
+      | inl i ↦ first d (λ x p. t a x s p (or_left (is_decision a s d) (decides a s ds) i)) f.0 i
+      | inr r ↦ path_signs v xs ds g f.1 (λ b x u p q. t b x u p (or_right (is_decision b u d) (decides b u ds) q)) a s l r
+    ]
+  where
+    first : (d : Decision) → ((x : ℕ) → at xs a ≡ Some (IsTruth x) → v.truths x ≡ s) → ((r : RowOf) → row_of_decision xs d ≡ Some r → Meets v.numbers r) → is_decision a s d ≡ true → signed v (at xs a) s ≡ true
+    first (Atom b u) h k i =
+        let p = split_and (a == b) (same s u) i in
+        let q : a ≡ b = let z = p.0 in grind (arith, nat_tests) in
+        let w = same_is s u p.1 in
+        atom_signs v xs a s g l h (λ r n. k r (rw (sym q, sym w) n))
+    first (AtMost x k u) h n i = absurd (cc)
 
-leaf_holds : (f : Formula) (set : ℕ → Bool) (leaf : Leaf) (v : Valuation) → AtomsAgree f.atoms → IsLeaf f set leaf → ((x : ℕ) → v.numbers x ≡ value_of leaf.spots.items x) → truths_agree v f.atoms leaf.path.items ≡ true → decided_true v f.atoms leaf.path.items ≡ true
-leaf_holds f set leaf v g l n t =
+leaf_signs : (f : Formula) (set : ℕ → Bool) (leaf : Leaf) (v : Valuation) → AtomsAgree f.atoms → IsLeaf f set leaf → ((x : ℕ) → v.numbers x ≡ value_of leaf.spots.items x) → TruthsAgree v f.atoms leaf.path.items → Signs v f.atoms leaf.path.items
+leaf_signs f set leaf v g l n t =
     let m = point_meets (rows_on f.atoms leaf.path.items) leaf.order.variables.items (map row_of leaf.order.rows.items) leaf.spots.items l.solved.kept l.point in
     let e : value_of leaf.spots.items ≡ v.numbers = sym (funext v.numbers (value_of leaf.spots.items) n) in
-    path_holds v f.atoms leaf.path.items g (subst (λ (w : ℕ → ℤ). AllMeet w (rows_on f.atoms leaf.path.items)) e m) t
+    path_signs v f.atoms leaf.path.items g (subst (λ (w : ℕ → ℤ). AllMeet w (rows_on f.atoms leaf.path.items)) e m) t
 
-pub leaf_clauses : (f : Formula) (set : ℕ → Bool) (leaf : Leaf) (v : Valuation) → is_whole f ≡ true → AtomsAgree f.atoms → IsLeaf f set leaf → ((x : ℕ) → v.numbers x ≡ value_of leaf.spots.items x) → truths_agree v f.atoms leaf.path.items ≡ true → clauses_true v f.atoms f.clauses ≡ true
-leaf_clauses f set leaf v w g l n t = complete_clauses f set leaf.path.items v w l.complete (leaf_holds f set leaf v g l n t)
+pub leaf_clauses : (f : Formula) (set : ℕ → Bool) (leaf : Leaf) (v : Valuation) → is_whole f ≡ true → AtomsAgree f.atoms → IsLeaf f set leaf → ((x : ℕ) → v.numbers x ≡ value_of leaf.spots.items x) → TruthsAgree v f.atoms leaf.path.items → clauses_true v f.atoms f.clauses ≡ true
+leaf_clauses f set leaf v w g l n t = complete_clauses f set leaf.path.items v w l.complete (leaf_signs f set leaf v g l n t)
 
-pub leaf_units : (f : Formula) (set : ℕ → Bool) (leaf : Leaf) (v : Valuation) → is_whole f ≡ true → AtomsAgree f.atoms → IsLeaf f set leaf → ((x : ℕ) → v.numbers x ≡ value_of leaf.spots.items x) → truths_agree v f.atoms leaf.path.items ≡ true → MeetsUnits v f set
-leaf_units f set leaf v w g l n t = complete_units f set leaf.path.items v w l.complete (leaf_holds f set leaf v g l n t)
+pub leaf_units : (f : Formula) (set : ℕ → Bool) (leaf : Leaf) (v : Valuation) → is_whole f ≡ true → AtomsAgree f.atoms → IsLeaf f set leaf → ((x : ℕ) → v.numbers x ≡ value_of leaf.spots.items x) → TruthsAgree v f.atoms leaf.path.items → MeetsUnits v f set
+leaf_units f set leaf v w g l n t = complete_units f set leaf.path.items v w l.complete (leaf_signs f set leaf v g l n t)
+
+pub leaf_atoms : (f : Formula) (set : ℕ → Bool) (leaf : Leaf) (v : Valuation) → AtomsAgree f.atoms → IsLeaf f set leaf → ((x : ℕ) → v.numbers x ≡ value_of leaf.spots.items x) → TruthsAgree v f.atoms leaf.path.items → (a : ℕ) (s : Bool) → a < length f.atoms → decides a s leaf.path.items ≡ true → signed v (at f.atoms a) s ≡ true
+leaf_atoms f set leaf v g l n t = leaf_signs f set leaf v g l n t

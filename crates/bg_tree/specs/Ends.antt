@@ -1,5 +1,5 @@
 -- What the rows of a path tell that decides every atom.
-use Rattle.std.specs.Prelude.{◌≡◌, ℕ, ◌<◌, Bool, true, false, ◌&&◌, List, [], ◌∷◌, map, Option, Some, None, Vec}
+use Rattle.std.specs.Prelude.{◌≡◌, ℕ, ◌<◌, Bool, true, false, List, [], map, Some, Vec}
 use Rattle.std.specs.declared.alloc.Global.{Global}
 use Rattle.bg_rows.specs.Rows.{RowOf, row_of}
 use Rattle.bg_rows.specs.Steps.{derives}
@@ -8,12 +8,11 @@ use Rattle.bg_elim.specs.Kept.{FillBudget, LeavesRange}
 use Rattle.bg_elim.specs.Answers.{SolvedBy}
 use Rattle.bg_point.specs.declared.spot.Spot.{Spot}
 use Rattle.bg_point.specs.Points.{IsPoint, IsGap, IsFar}
-use Rattle.bg_formula.specs.Atoms.{AtomOf, IsTruth, IsRow, at}
+use Rattle.bg_formula.specs.Atoms.{AtomOf, IsTruth, at}
 use Rattle.bg_formula.specs.Formulas.{Formula}
-use Rattle.bg_formula.specs.Meaning.{Valuation, same}
+use Rattle.bg_formula.specs.Meaning.{Valuation}
 use Rattle.bg_cert.specs.declared.cert.Decision.{Decision}
-use Rattle.bg_cert.specs.declared.cert.Decision.TheVariants.{Atom, AtMost}
-use Rattle.bg_cert.specs.Paths.{rows_on}
+use Rattle.bg_cert.specs.Paths.{decides, rows_on}
 use Rattle.bg_pick.specs.Picks.{IsComplete}
 use Rattle.bg_tree.specs.declared.part.Kept.{Kept}
 use Rattle.bg_tree.specs.declared.outcome.Leaf.{Leaf}
@@ -74,16 +73,7 @@ pub record IsLeaf (f : Formula) (set : ℕ → Bool) (l : Leaf) : Type 0 where
   pub solved : SolvedBy (rows_on f.atoms l.path.items) l.order
   pub point : IsPoint l.order.variables.items (map row_of l.order.rows.items) l.spots.items
 
--- whether a valuation agrees with the truth variables that a path decides, all of them atoms that are there
-abbrev pub truth_agrees : Valuation → Option AtomOf → Bool → Bool
-truth_agrees v None s = false
-truth_agrees v (Some (IsTruth x)) s = same (v.truths x) s
-truth_agrees v (Some (IsRow r d)) s = true
-
-abbrev pub decision_agrees : Valuation → List AtomOf → Decision → Bool
-decision_agrees v atoms (Atom a s) = truth_agrees v (at atoms a) s
-decision_agrees v atoms (AtMost x k s) = true
-
-abbrev pub truths_agree : Valuation → List AtomOf → List Decision → Bool
-truths_agree v atoms [] = true
-truths_agree v atoms (d ∷ ds) = decision_agrees v atoms d && truths_agree v atoms ds
+-- a valuation agrees with the truth variables that a path decides
+abbrev pub TruthsAgree : Valuation → List AtomOf → List Decision → Type 0
+TruthsAgree v atoms ds =
+    (a x : ℕ) (s : Bool) → at atoms a ≡ Some (IsTruth x) → decides a s ds ≡ true → v.truths x ≡ s

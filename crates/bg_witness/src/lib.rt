@@ -5,4 +5,4 @@
 mod tests;
 mod text;
 
-pub use text::typed_program;
+pub use text::judged_program;

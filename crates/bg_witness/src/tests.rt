@@ -1,17 +1,19 @@
 //! The verdicts of small programs, looked at again with ample memory.
+ghost use Rattle.std.specs.Prelude.{◌≡◌, true};
 ghost use Rattle.bg_ast.specs.Meaning.{meaning_of};
 ghost use Rattle.bg_ast.specs.Views.{program_of};
 ghost use Rattle.bg_sense.specs.Typed.{IsTyped};
+ghost use Rattle.bg_fits.specs.Scalars.{is_over_scalars};
 
-use crate::typed_program;
+use crate::judged_program;
 use bg_ast::resolved::Resolved;
 use bg_blocks::callees_of;
 use bg_cert::{Node, accepts};
-use bg_check::{Judged, Prepared, Verdict, check_program, prepare};
-use bg_clause::clauses;
-use bg_fits::is_over_truths;
+use bg_check::{Cause, Judged, Prepared, Verdict, check_program, place_atoms, prepare};
+use bg_clause::{Names, clauses};
 use bg_model::Counterexample;
 use bg_replay::{Ending, replay};
+use bg_rows::Refused;
 use bg_tree::Budget;
 use std::alloc::{AllocError, Global};
 use std::test::Fail;
@@ -39,20 +41,40 @@ const TWO: &str =
 const JUMPS: &str =
     "procedure P(a: bool) { goto L, M; L: assert a; return; M: assert !a || a; goto N; N: assert !a; }";
 
-const SYNONYMS: &str =
-    "type T = bool; type U = (T); var g: U; procedure Q() returns (r: T); modifies g; ensures r == g; procedure P(a: U) modifies g; { var b: T; call b := Q(); assert b == g; assert a || b; }";
+const COUNT: &str =
+    "procedure P(n: int) returns (i: int) requires 0 <= n; ensures i == n; { i := 0; while (i < n) invariant i <= n; invariant 0 <= i; { i := i + 1; } assert i != 3; }";
+
+const PARITY: &str =
+    "procedure P(x: int, y: int, z: int) { assume x == 2 * y; assert x != 2 * z + 1; assert x != 2 * z + 2; }";
+
+const MIXED: &str =
+    "var g: int; procedure Q(a: bool, n: int) returns (r: int); modifies g; requires a <==> n > 0; ensures r == g + n; procedure P(b: bool) modifies g; { var k: int; k := 0; if (b) { k := 1; } call k := Q(b, k); assert k == g || k == g + 1; assert k > old(g); }";
+
+const FAR: &str =
+    "procedure P(x: int) { assume x == 170141183460469231731687303715884105727; assert x - 1 < 0; } procedure Q(x: int, y: int) { assume x >= 170141183460469231731687303715884105727; assume y == 1; assert x + y < 0; } procedure R(x: int) { assert 2 * (x + 100000000000000000000000000000000000000) >= x; }";
+
+const LATER: &str =
+    "procedure P(x: int) { assume x == 170141183460469231731687303715884105727; assert x - 1 < 0; assert x + 1 < 0; }";
 
 /// Whether the certificate of a place is accepted.
 fn is_accepted(
     alloc: Global,
+    program: &Resolved,
     prepared: &Prepared<'_>,
     judged: &Judged,
     nodes: &[Node],
 ) -> Result<bool, AllocError> {
-    let passive = &prepared.passive;
-    match clauses(alloc, passive.count, 0, judged.place.spot, &passive.blocks)? {
-        None => Ok(false),
-        Some(f) => accepts(alloc, &f, &[], nodes),
+    let atoms = place_atoms(alloc, program, prepared, &judged.place)?;
+    let names = Names {
+        first: atoms.first,
+        candidates: 0,
+        terms: atoms.terms,
+        rows: &atoms.rows,
+    };
+    match clauses(alloc, &names, judged.place.spot, &atoms.blocks) {
+        Err(Refused::Memory) => Err(AllocError),
+        Err(Refused::Range(_)) => Ok(false),
+        Ok(f) => accepts(alloc, &f, &[], nodes),
     }
 }
 
@@ -84,7 +106,32 @@ fn is_replayed(
     Ok(whole == Ending::Failed(judged.place.spot) && short == Ending::BadChoice)
 }
 
-/// `p` for a certificate that is accepted, `r` for a counterexample that replays, `x` for anything else.
+/// Whether the replay of a counterexample ends at an operation that leaves 128 bits.
+fn leaves(
+    alloc: Global,
+    program: &Resolved,
+    prepared: &Prepared<'_>,
+    judged: &Judged,
+    cex: &Counterexample,
+) -> Result<bool, AllocError> {
+    let number = judged.place.implementation;
+    let blocks = &prepared.blocks;
+    let (globals, frame) = (&cex.globals, &cex.frame);
+    let ending = replay(
+        alloc,
+        program,
+        blocks,
+        &[],
+        number,
+        globals,
+        frame,
+        &cex.choices,
+    )?;
+    Ok(matches!(ending, Ending::OutOfRange(_)))
+}
+
+/// `p` for a certificate that is accepted, `r` for a counterexample that replays, `o` for one that leaves the range, `f` for clauses
+/// that do, `x` for anything else.
 fn letter(
     alloc: Global,
     program: &Resolved,
@@ -93,24 +140,27 @@ fn letter(
 ) -> Result<&'static str, AllocError> {
     match &judged.verdict {
         Verdict::Proved(nodes) => {
-            let is_right = is_accepted(alloc, prepared, judged, nodes)?;
+            let is_right = is_accepted(alloc, program, prepared, judged, nodes)?;
             Ok(if is_right { "p" } else { "x" })
         }
         Verdict::Refuted(cex) => {
             let is_right = is_replayed(alloc, program, prepared, judged, cex)?;
             Ok(if is_right { "r" } else { "x" })
         }
-        Verdict::Unknown(_) => Ok("x"),
+        Verdict::Unknown(Cause::Replay(cex, _)) => {
+            let is_right = leaves(alloc, program, prepared, judged, cex)?;
+            Ok(if is_right { "o" } else { "x" })
+        }
+        Verdict::Unknown(Cause::Form(_)) => Ok("f"),
+        Verdict::Unknown(Cause::Search(_)) => Ok("x"),
     }
 }
 
 /// The letters of all places, with `;` behind those of each implementation.
 fn letters(alloc: Global, program: &Resolved) -> Result<String, Fail>
-    requires { IsTyped (meaning_of (program_of program.now)) }
+    requires typed { IsTyped (meaning_of (program_of program.now)) }
+    requires scalars { is_over_scalars true (meaning_of (program_of program.now)) ≡ true }
 {
-    if !is_over_truths(program) {
-        return Err("a program of another kind".into());
-    }
     let outcome = check_program(alloc, program, BUDGET)?;
     let callees = callees_of(alloc, program)?;
     let mut found = String::new(alloc);
@@ -130,17 +180,21 @@ fn letters(alloc: Global, program: &Resolved) -> Result<String, Fail>
 #[test]
 fn each_verdict_holds_when_it_is_looked_at_again(rt: HostRuntime) -> Result<(), Fail> {
     let alloc = rt.alloc();
-    let table: [(&str, &str); 7] = [
+    let table: [(&str, &str); 11] = [
         (LOOP, "prp;"),
         (LEFT, "ppr;"),
         (CALLS, "rpr;"),
         (FLIPS, "rp;"),
         (TWO, "p;r;"),
         (JUMPS, "rpr;"),
-        (SYNONYMS, "pr;"),
+        (COUNT, "pppprp;"),
+        (PARITY, "pr;"),
+        (MIXED, "ppr;"),
+        (FAR, "r;o;f;"),
+        (LATER, "rp;"),
     ];
     for (text, want) in table {
-        let Some(typed) = typed_program(alloc, text) else {
+        let Some(typed) = judged_program(alloc, text) else {
             return Err("no program".into());
         };
         let found = letters(alloc, &typed.program)?;

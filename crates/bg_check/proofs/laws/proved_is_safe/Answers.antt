@@ -1,4 +1,4 @@
-use Rattle.bg_check.specs.Clauses.{none}
+use Rattle.bg_check.specs.Verdicts.{none}
 use Rattle.bg_check.proofs.laws.proved_is_safe.Goals as goal
 
 pub returns : goal.returns

@@ -1,5 +1,8 @@
-use Rattle.bg_check.proofs.Replayed.{fails_again}
+use Rattle.bg_sense.specs.Flow.{Failed}
+use Rattle.bg_replay.specs.Said.{Stops}
+use Rattle.bg_check.proofs.Replaying.{says_again}
 use Rattle.bg_check.proofs.laws.refuted_places_replay.Goals as goal
 
 pub returns : goal.returns
-returns c = fails_again c.replays_are_induction_runs.ensures
+returns c p set budget t cex m q bs ending im pr made right replay =
+    says_again p t.implementation m q im pr set t.spot t.candidate bs cex ending (Stops (Failed t.spot)) made replay right.1

@@ -1,10 +1,36 @@
-use Rattle.std.proofs.Common.{◌<◌, List, length, subst, arith}
+use Rattle.std.proofs.Common.{◌≡◌, ◌<◌, true, false, List, length, map, sym, ap, ◌∙◌, subst, arith}
+use Rattle.std.specs.Prelude.{is_some}
 use Rattle.std.proofs.lemmas.List.{length-map}
+use Rattle.bg_ast.specs.Meaning.{meaning_of, named_of}
+use Rattle.bg_ast.specs.Meaning as mean
 use Rattle.bg_ast.specs.Views.{program_of, impl_of}
-use Rattle.bg_blocks.specs.declared.block.Block.{Block}
-use Rattle.bg_check.specs.Prepared.{IsPassive}
-use Rattle.bg_check.proofs.Prepares.{there}
+use Rattle.bg_passive.specs.Passive.{PassiveBlock}
+use Rattle.bg_block_types.specs.Typed.{passives_in}
+use Rattle.bg_linear.specs.declared.scalar.Sort.{Sort}
+use Rattle.bg_formed.specs.Views.{blocks_of}
+use Rattle.bg_atoms.specs.Refusals.{BlocksRefusals}
+use Rattle.bg_incarnate.specs.Views.{passive_block_of}
+use Rattle.bg_check.specs.Prepared.{encoding_of}
+use Rattle.bg_check.proofs.Prepares.{there, many, passives_made, sorted_here, encodes, made_here, encodes_some, refusals_some}
 use Rattle.bg_check.proofs.prepared.prepare.Goals as goal
+
+pub unreachable-requires : goal.unreachable-requires
+unreachable-requires c =
+    let p = program_of c.args.program.now in
+    let e = length-map c.args.program.now.implementations.items impl_of in
+    let l = c.requires.there in
+    let lt : c.args.number < length p.implementations = omega (arith, e, l) in
+    let t = there p c.args.number lt c.requires.typed in
+    let evens = c.blocks_over_scalars_are_even.ensures in
+    let many_are : c.len.result ≡ length c.in_ok-frame.frame.items = omega (arith, c.len.ensures, c.in_ok-frame.frame.ok) in
+    let made = c.in_ok-blocks.ensures t.implementation t.procedure t.impl_there t.proc_there in
+    let frame = c.in_ok-frame.ensures t.implementation t.procedure t.impl_there t.proc_there in
+    let x = made_here p c.args.number t.implementation t.procedure t.impl_there t.proc_there evens c.requires.typed c.requires.scalars c.in_ok-blocks.blocks.items made c.in_ok-frame.frame.items c.deref-2.result.now c.len.result c.deref.result.now c.deref-3.result.now c.in_ok-passive.passive c.in_ok-sorts.sorts.items frame c.deref-2.ensures.value many_are c.deref.ensures.value c.deref-3.ensures.value
+    (λ rs k. (c.in_ok-passive.ensures.arrivals rs k, (c.in_ok-passive.ensures.counted rs k, record { blocks = c.in_ok-passive.ensures.blocks rs k; firsts = c.in_ok-passive.ensures.firsts rs k }))) c.in_ok-sorts.ensures.sorts in
+    let passives = ap (map passive_block_of) c.deref-5.ensures.value ∙ passives_made p c.args.number t.implementation t.procedure t.impl_there t.proc_there evens c.requires.typed c.requires.scalars c.in_ok-blocks.blocks.items made c.in_ok-passive.passive x.0 in
+    let sorted = sorted_here p c.args.number t.implementation t.procedure t.impl_there t.proc_there evens c.requires.typed c.requires.scalars c.in_ok-blocks.blocks.items made c.passive_blocks_have_sorts.ensures c.deref-4.result.now c.in_ok-candidates.candidates (map passive_block_of c.deref-5.result.now) (c.deref-4.ensures.value ∙ x.1) c.in_ok-candidates.ensures passives in
+    let bad : false ≡ true = sym (ap is_some c.in_default.is) ∙ (c.in_ok-atoms.ensures.none ∙ sorted) in
+    cc
 
 pub returns : goal.returns
 returns c =
@@ -13,13 +39,28 @@ returns c =
     let l = c.requires.there in
     let lt : c.args.number < length p.implementations = omega (arith, e, l) in
     let t = there p c.args.number lt c.requires.typed in
-    let P : List Block → Type 0 = λ bs. IsPassive p c.in_ok-frame.frame bs c.in_ok-passive.passive in
+    let evens = c.blocks_over_scalars_are_even.ensures in
+    let many_are : c.len.result ≡ length c.in_ok-frame.frame.items = omega (arith, c.len.ensures, c.in_ok-frame.frame.ok) in
+    let made = c.in_ok-blocks.ensures t.implementation t.procedure t.impl_there t.proc_there in
+    let frame = c.in_ok-frame.ensures t.implementation t.procedure t.impl_there t.proc_there in
+    let x = made_here p c.args.number t.implementation t.procedure t.impl_there t.proc_there evens c.requires.typed c.requires.scalars c.in_ok-blocks.blocks.items made c.in_ok-frame.frame.items c.deref-2.result.now c.len.result c.deref.result.now c.deref-3.result.now c.in_ok-passive.passive c.in_ok-sorts.sorts.items frame c.deref-2.ensures.value many_are c.deref.ensures.value c.deref-3.ensures.value
+    (λ rs k. (c.in_ok-passive.ensures.arrivals rs k, (c.in_ok-passive.ensures.counted rs k, record { blocks = c.in_ok-passive.ensures.blocks rs k; firsts = c.in_ok-passive.ensures.firsts rs k }))) c.in_ok-sorts.ensures.sorts in
+    let passives = ap (map passive_block_of) c.deref-5.ensures.value ∙ passives_made p c.args.number t.implementation t.procedure t.impl_there t.proc_there evens c.requires.typed c.requires.scalars c.in_ok-blocks.blocks.items made c.in_ok-passive.passive x.0 in
+    let sorts = c.deref-4.ensures.value ∙ x.1 in
+    let whole = encodes_some c.deref-4.result.now c.in_ok-candidates.candidates (map passive_block_of c.deref-5.result.now) c.in_ok-atoms.field-0 c.in-Some.atoms c.in-Some.is c.in_ok-atoms.ensures.first c.in_ok-atoms.ensures.terms c.in_ok-atoms.ensures.said c.in_ok-atoms.ensures.below c.in_ok-atoms.ensures.rows c.in_ok-atoms.ensures.denials c.in_ok-atoms.ensures.inside in
+    let refusals = refusals_some c.deref-4.result.now (map passive_block_of c.deref-5.result.now) c.in_ok-atoms.field-0 c.in-Some.atoms c.in-Some.is c.in_ok-atoms.ensures.refusals in
+    let R : List Sort → Type 0 = λ ss. BlocksRefusals ss (passives_in (meaning_of p) c.args.number (mean.impl_of (named_of p.types) t.implementation) (mean.proc_of (named_of p.types) t.procedure)) (blocks_of c.in-Some.atoms.blocks) in
+    let B : List PassiveBlock → Type 0 = λ bs. BlocksRefusals c.deref-4.result.now bs (blocks_of c.in-Some.atoms.blocks) in
+    let declared = many p c.args.number t.implementation t.procedure t.impl_there t.proc_there c.in_ok-frame.frame.items frame in
     record {
       implementation = t.implementation;
       procedure = t.procedure;
       impl_there = t.impl_there;
       proc_there = t.proc_there;
-      frame = c.in_ok-frame.ensures t.implementation t.procedure t.impl_there t.proc_there;
-      blocks = c.in_ok-blocks.ensures t.implementation t.procedure t.impl_there t.proc_there;
-      passive = subst P c.deref.ensures.value (record { blocks = c.in_ok-passive.ensures.blocks; firsts = c.in_ok-passive.ensures.firsts; count = c.in_ok-passive.ensures.counted });
+      frame = omega (arith, c.len-2.ensures, c.in_ok-frame.frame.ok.0, declared);
+      blocks = made;
+      passive = x.0;
+      sorts = x.1;
+      encoding = encodes p c.args.number t.implementation t.procedure t.impl_there t.proc_there evens c.requires.typed c.requires.scalars c.in_ok-blocks.blocks.items made c.deref-4.result.now c.in_ok-candidates.candidates (map passive_block_of c.deref-5.result.now) (encoding_of c.in-Some.atoms) sorts c.in_ok-candidates.ensures passives whole;
+      refusals = subst R c.deref-4.ensures.value (subst B passives refusals);
     }

@@ -3,7 +3,7 @@ use Rattle.std.specs.declared.alloc.Global.{Global}
 use Rattle.std.proofs.lemmas.List.{length-map, map-append}
 use Rattle.bg_ast.specs.Views.{program_of, impl_of}
 use Rattle.bg_check.specs.declared.verdict.Judged.{Judged}
-use Rattle.bg_check.specs.Clauses.{none}
+use Rattle.bg_check.specs.Verdicts.{none}
 use Rattle.bg_check.specs.Verdicts.{AreRightFrom, judged}
 use Rattle.bg_check.proofs.Judging.{program_more}
 use Rattle.bg_check.proofs.program.check_program.Goals as goal

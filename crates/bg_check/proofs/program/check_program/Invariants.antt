@@ -1,6 +1,6 @@
 use Rattle.std.proofs.Common.{take}
 use Rattle.bg_ast.specs.Views.{program_of}
-use Rattle.bg_check.specs.Clauses.{none}
+use Rattle.bg_check.specs.Verdicts.{none}
 use Rattle.bg_check.specs.Verdicts.{AreRightFrom, judged}
 use Rattle.bg_check.proofs.program.check_program.Given as goal
 

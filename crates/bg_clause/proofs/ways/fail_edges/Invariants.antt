@@ -1,6 +1,6 @@
 use Rattle.std.proofs.Common.{◌≡◌, length, map}
 use Rattle.bg_places.specs.Views.{spot_of}
-use Rattle.bg_incarnate.specs.Views.{edge_of}
+use Rattle.bg_formed.specs.Views.{form_edge_of}
 use Rattle.bg_clause.specs.Failing.{fail_edges}
 use Rattle.bg_forms.specs.Views.{form_in}
 use Rattle.bg_clause.specs.Views.{short_in}
@@ -9,7 +9,7 @@ use Rattle.bg_clause.proofs.ways.fail_edges.Given as goal
 
 abbrev pub invariant-loop-last : goal.invariant-loop-last
 invariant-loop-last l =
-    edges_on l.count (spot_of l.target) (map short_in l.later.items) (map edge_of l.left) (form_in l.made) ≡ fail_edges l.count (spot_of l.target) (map short_in l.later.items) (map edge_of l.edges)
+    edges_on l.count (spot_of l.target) (map short_in l.later.items) (map form_edge_of l.left) (form_in l.made) ≡ fail_edges l.count (spot_of l.target) (map short_in l.later.items) (map form_edge_of l.edges)
 
 abbrev pub decreases-loop-last : goal.decreases-loop-last
 decreases-loop-last l = length l.left

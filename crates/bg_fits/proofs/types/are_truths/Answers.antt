@@ -1,5 +1,5 @@
 use Rattle.std.proofs.Common.{sym}
-use Rattle.bg_fits.proofs.Bools.{from_item}
+use Rattle.bg_fits.proofs.Synonyms.{from_item}
 use Rattle.bg_fits.proofs.types.are_truths.Goals as goal
 
 pub returns-then-not-is_truth : goal.returns-then-not-is_truth

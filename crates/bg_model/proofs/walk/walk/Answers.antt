@@ -3,4 +3,4 @@ use Rattle.bg_model.proofs.walk.walk.Goals as goal
 
 pub loop-k-preserved : goal.loop-k-preserved
 loop-k-preserved c =
-    walk_goes _ _ _ c.args.cmds.now c.loop-k.k-index c.k-item.result c.in_ok-step.field-0 _ c.loop-k-test.true c.k-item.is c.in_ok-step.ensures c.in-On.is c.loop-k.invariant
+    walk_goes _ _ _ c.args.cmds.now c.loop-k.k-index c.k-item.result c.step.result _ c.loop-k-test.true c.k-item.is c.step.ensures c.in-On.is c.loop-k.invariant

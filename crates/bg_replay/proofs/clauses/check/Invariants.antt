@@ -3,7 +3,8 @@ use Rattle.bg_places.specs.Views.{spot_in}
 use Rattle.bg_calls.specs.Core.{demands}
 use Rattle.bg_blocks.specs.Views.{clauses_in}
 use Rattle.bg_replay.specs.Said.{checks}
-use Rattle.bg_replay.specs.Views.{seen_of, set_of}
+use Rattle.bg_scalar.specs.Views.{seen_of}
+use Rattle.bg_replay.specs.Views.{set_of}
 use Rattle.bg_replay.proofs.clauses.check.Given as goal
 
 abbrev pub invariant-loop-k : goal.invariant-loop-k

@@ -3,7 +3,8 @@ use Rattle.bg_calls.specs.Core.{sayings}
 use Rattle.bg_blocks.specs.Views.{clauses_in}
 use Rattle.bg_replay.specs.Said.{supposes}
 use Rattle.bg_replay.specs.Kept.{which_of}
-use Rattle.bg_replay.specs.Views.{seen_of, set_of}
+use Rattle.bg_scalar.specs.Views.{seen_of}
+use Rattle.bg_replay.specs.Views.{set_of}
 use Rattle.bg_replay.proofs.clauses.suppose.Given as goal
 
 abbrev pub invariant-loop-k : goal.invariant-loop-k

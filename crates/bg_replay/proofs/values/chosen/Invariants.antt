@@ -1,8 +1,7 @@
-use Rattle.std.proofs.Common.{◌≡◌, drop, length}
-use Rattle.bg_replay.specs.Truths.{append_o}
-use Rattle.bg_replay.specs.Acts.{chosen}
+use Rattle.std.proofs.Common.{◌≡◌, drop}
+use Rattle.bg_replay.specs.Acts.{append_o, chosen}
 use Rattle.bg_replay.proofs.values.chosen.Given as goal
 
-abbrev pub invariant-loop-d : goal.invariant-loop-d
-invariant-loop-d l =
-    append_o l.made.items (chosen (length (drop l.d-index l.declared)) l.left) ≡ chosen (length l.declared) l.choices
+abbrev pub invariant-loop-holding : goal.invariant-loop-holding
+invariant-loop-holding l =
+    append_o l.made.items (chosen (drop l.holding-index l.holdings) l.left) ≡ chosen l.holdings l.choices

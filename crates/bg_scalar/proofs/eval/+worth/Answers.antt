@@ -9,4 +9,4 @@ worth-returns-in-Chain t c =
 
 pub worth-returns-in-Postfix : goal.worth-returns-in-Postfix
 worth-returns-in-Postfix t c =
-    rw (c.postfix.ensures, c.deref-in-Postfix.ensures.value, c.worth-in-Postfix.ensures, c.deref-in-Postfix-2.ensures, c.in-Postfix.is) (sym (postfix_expr c.in-Postfix.e c.in-Postfix.brackets (seen_of c.args.sight)))
+    rw (c.behind.ensures, c.deref-in-Postfix.ensures.value, c.worth-in-Postfix.ensures, c.deref-in-Postfix-2.ensures, c.in-Postfix.is) (sym (postfix_expr c.in-Postfix.e c.in-Postfix.brackets (seen_of c.args.sight)))

@@ -1,5 +1,5 @@
 use Rattle.std.proofs.Common.{◌≡◌, length}
-use Rattle.bg_scalar.specs.Worths.{signed}
+use Rattle.bg_scalar.specs.Signs.{signed}
 use Rattle.bg_scalar.proofs.eval.signed.Given as goal
 
 abbrev pub invariant-loop-last : goal.invariant-loop-last

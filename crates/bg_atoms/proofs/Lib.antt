@@ -1,0 +1,10 @@
+mod Equal
+mod Lists
+mod Reading
+mod Chained
+mod Heading
+mod Relating
+mod Ranked
+mod Joining
+mod Telling
+mod Finally

@@ -1,0 +1,11 @@
+pub mod Pairs
+pub mod Ranks
+pub mod Built
+pub mod Kinds
+pub mod Worlds
+pub mod Outside
+pub mod Made
+pub mod Heads
+pub mod Sorted
+pub mod Told
+pub mod Refusals

@@ -1,0 +1,51 @@
+use Rattle.std.proofs.Common.{subst}
+use Rattle.bg_ast.specs.Meaning.{meaning_of}
+use Rattle.bg_ast.specs.Views.{program_of}
+use Rattle.bg_cert.specs.Walks.{has}
+use Rattle.bg_places.specs.Views.{placed_of}
+use Rattle.bg_check.proofs.Replaying.{Arm, arm_here}
+use Rattle.bg_check.proofs.replayed.replayed.Goals as goal
+
+pub unreachable-requires : goal.unreachable-requires
+unreachable-requires c =
+    let p = program_of c.args.program.now in
+    let t = (placed_of c.args.place.now).place in
+    subst (Arm (meaning_of p) (has c.args.set.now) t c.args.cex) c.in-Ended.is
+    (arm_here c.replays_are_induction_runs.ensures c.blocks_are_typed.ensures p c.args.set.now t c.args.cex c.args.prepared.now c.requires.prepared c.deref.result.now c.deref-2.result.now c.deref-3.result.now c.deref-4.result.now c.in_ok-ending.ending c.requires.typed c.requires.scalars c.deref.ensures.value c.deref-2.ensures.value c.deref-3.ensures.value c.deref-4.ensures.value c.requires.fails c.in_ok-ending.ensures)
+
+pub unreachable-requires-in-Blocked : goal.unreachable-requires-in-Blocked
+unreachable-requires-in-Blocked c =
+    let p = program_of c.args.program.now in
+    let t = (placed_of c.args.place.now).place in
+    subst (Arm (meaning_of p) (has c.args.set.now) t c.args.cex) c.in-Blocked.is
+    (arm_here c.replays_are_induction_runs.ensures c.blocks_are_typed.ensures p c.args.set.now t c.args.cex c.args.prepared.now c.requires.prepared c.deref.result.now c.deref-2.result.now c.deref-3.result.now c.deref-4.result.now c.in_ok-ending.ending c.requires.typed c.requires.scalars c.deref.ensures.value c.deref-2.ensures.value c.deref-3.ensures.value c.deref-4.ensures.value c.requires.fails c.in_ok-ending.ensures)
+
+pub unreachable-requires-in-BadChoice : goal.unreachable-requires-in-BadChoice
+unreachable-requires-in-BadChoice c =
+    let p = program_of c.args.program.now in
+    let t = (placed_of c.args.place.now).place in
+    subst (Arm (meaning_of p) (has c.args.set.now) t c.args.cex) c.in-BadChoice.is
+    (arm_here c.replays_are_induction_runs.ensures c.blocks_are_typed.ensures p c.args.set.now t c.args.cex c.args.prepared.now c.requires.prepared c.deref.result.now c.deref-2.result.now c.deref-3.result.now c.deref-4.result.now c.in_ok-ending.ending c.requires.typed c.requires.scalars c.deref.ensures.value c.deref-2.ensures.value c.deref-3.ensures.value c.deref-4.ensures.value c.requires.fails c.in_ok-ending.ensures)
+
+pub unreachable-requires-in-NoScalars : goal.unreachable-requires-in-NoScalars
+unreachable-requires-in-NoScalars c =
+    let p = program_of c.args.program.now in
+    let t = (placed_of c.args.place.now).place in
+    subst (Arm (meaning_of p) (has c.args.set.now) t c.args.cex) c.in-NoScalars.is
+    (arm_here c.replays_are_induction_runs.ensures c.blocks_are_typed.ensures p c.args.set.now t c.args.cex c.args.prepared.now c.requires.prepared c.deref.result.now c.deref-2.result.now c.deref-3.result.now c.deref-4.result.now c.in_ok-ending.ending c.requires.typed c.requires.scalars c.deref.ensures.value c.deref-2.ensures.value c.deref-3.ensures.value c.deref-4.ensures.value c.requires.fails c.in_ok-ending.ensures)
+
+pub returns-in-OutOfRange : goal.returns-in-OutOfRange
+returns-in-OutOfRange c budget =
+    let p = program_of c.args.program.now in
+    let t = (placed_of c.args.place.now).place in
+    let arm = subst (Arm (meaning_of p) (has c.args.set.now) t c.args.cex) c.in-OutOfRange.is
+    (arm_here c.replays_are_induction_runs.ensures c.blocks_are_typed.ensures p c.args.set.now t c.args.cex c.args.prepared.now c.requires.prepared c.deref.result.now c.deref-2.result.now c.deref-3.result.now c.deref-4.result.now c.in_ok-ending.ending c.requires.typed c.requires.scalars c.deref.ensures.value c.deref-2.ensures.value c.deref-3.ensures.value c.deref-4.ensures.value c.requires.fails c.in_ok-ending.ensures) in
+    (c.requires.fails, arm)
+
+pub returns-in-Failed : goal.returns-in-Failed
+returns-in-Failed c budget =
+    let p = program_of c.args.program.now in
+    let t = (placed_of c.args.place.now).place in
+    let arm = subst (Arm (meaning_of p) (has c.args.set.now) t c.args.cex) c.in-Failed.is
+    (arm_here c.replays_are_induction_runs.ensures c.blocks_are_typed.ensures p c.args.set.now t c.args.cex c.args.prepared.now c.requires.prepared c.deref.result.now c.deref-2.result.now c.deref-3.result.now c.deref-4.result.now c.in_ok-ending.ending c.requires.typed c.requires.scalars c.deref.ensures.value c.deref-2.ensures.value c.deref-3.ensures.value c.deref-4.ensures.value c.requires.fails c.in_ok-ending.ensures) in
+    (c.requires.fails, arm)

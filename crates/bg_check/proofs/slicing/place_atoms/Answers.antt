@@ -1,0 +1,34 @@
+use Rattle.std.proofs.Common.{◌≡◌, ◌+◌, map, ap, ◌∙◌, arith}
+use Rattle.bg_ast.specs.Meaning.{meaning_of}
+use Rattle.bg_ast.specs.Views.{program_of}
+use Rattle.bg_places.specs.Views.{spot_of}
+use Rattle.bg_formula.specs.Atoms.{view_linear}
+use Rattle.bg_formed.specs.Used.{refused}
+use Rattle.bg_formed.specs.Views.{form_block_of, blocks_of}
+use Rattle.bg_slice.specs.Slices.{sliced, sliced_rows}
+use Rattle.bg_block_types.specs.Typed.{passives_in}
+use Rattle.bg_faithful.specs.Sorted.{sorts_in}
+use Rattle.bg_check.specs.Prepared.{encoding_of}
+use Rattle.bg_check.proofs.Prepares.{impl, proc}
+use Rattle.bg_check.proofs.Slices.{slice_encodes}
+use Rattle.bg_check.proofs.slicing.place_atoms.Goals as goal
+
+pub returns : goal.returns
+returns c =
+    let p = program_of c.args.program.now in
+    let k = c.args.place.now.implementation in
+    let w = c.args.prepared.now in
+    let a = encoding_of w.atoms in
+    let t = spot_of c.args.place.now.spot in
+    let made = c.in_ok-rows.field-0 in
+    let base : c.in-Some.base ≡ w.atoms.first + (meaning_of p).candidates = omega (arith, c.in-Some.ensures, c.in_ok-count_candidates.ensures) in
+    let forms : sliced t (map form_block_of c.deref-2.result.now) ≡ sliced t a.blocks = ap (λ l. sliced t (map form_block_of l)) c.deref-2.ensures.value in
+    let blocks : blocks_of made.blocks ≡ sliced t a.blocks = c.in_ok-rows.ensures.blocks ∙ forms in
+    let rows : map view_linear made.rows.items ≡ sliced_rows c.in-Some.base (sliced t a.blocks) a.rows =
+    c.in_ok-rows.ensures.rows
+    ∙ (ap (λ bs. sliced_rows c.in-Some.base bs (map view_linear c.deref.result.now)) forms
+    ∙ ap (λ l. sliced_rows c.in-Some.base (sliced t a.blocks) (map view_linear l)) c.deref.ensures.value) in
+    record {
+      encoding = λ h. slice_encodes c.slices_are_below.ensures c.slices_have_rows.ensures.are_rows c.slices_have_rows.ensures.agree c.slices_have_rows.ensures.below c.slices_have_rows.ensures.count c.slices_say_the_same.ensures (sorts_in (meaning_of p) k (impl p k w h) (proc p k w h)) (meaning_of p).candidates (passives_in (meaning_of p) k (impl p k w h) (proc p k w h)) a h.encoding t (map view_linear made.rows.items) (blocks_of made.blocks) c.in-Some.base blocks base rows;
+      refusals = ap (refused t) blocks ∙ c.slices_use_alike.ensures t a.blocks;
+    }

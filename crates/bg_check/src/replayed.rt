@@ -1,0 +1,58 @@
+//! The replay of a counterexample.
+ghost use Rattle.std.specs.Prelude.{◌≡◌, true, IfOk};
+ghost use Rattle.bg_ast.specs.Meaning.{meaning_of};
+ghost use Rattle.bg_ast.specs.Views.{program_of};
+ghost use Rattle.bg_sense.specs.Typed.{IsTyped};
+ghost use Rattle.bg_places.specs.Views.{placed_of};
+ghost use Rattle.bg_cert.specs.Walks.{has};
+ghost use Rattle.bg_tree.specs.declared.outcome.Budget.{Budget};
+ghost use Rattle.bg_fits.specs.Scalars.{is_over_scalars};
+ghost use Rattle.bg_check.specs.Prepared.{IsPrepared};
+ghost use Rattle.bg_check.specs.Verdicts.{IsFailure, IsRight};
+
+use crate::prepared::Prepared;
+use crate::verdict::{Cause, Verdict};
+use bg_ast::resolved::Resolved;
+use bg_block_types::laws::blocks_are_typed;
+use bg_model::Counterexample;
+use bg_places::Place;
+use bg_replay::laws::replays_are_induction_runs;
+use bg_replay::{Ending, replay};
+use std::alloc::{AllocError, Global};
+
+/// A place is refuted by a run that fails there, unless an operation on its way leaves 128 bits.
+pub fn replayed(
+    alloc: Global,
+    program: &Resolved,
+    prepared: &Prepared<'_>,
+    place: &Place,
+    set: &[bool],
+    cex: Counterexample,
+) -> Result<Verdict, AllocError>
+    requires typed { IsTyped (meaning_of (program_of program.now)) }
+    requires scalars { is_over_scalars true (meaning_of (program_of program.now)) ≡ true }
+    requires prepared { IsPrepared (program_of program.now) place.now.implementation prepared.now }
+    requires fails { IsFailure (meaning_of (program_of program.now)) (has set.now) (placed_of place.now).place cex }
+    ensures { IfOk result (λ verdict. (budget : Budget) → IsRight budget (meaning_of (program_of program.now)) (has set.now) (placed_of place.now).place verdict) }
+{
+    blocks_are_typed();
+    replays_are_induction_runs();
+    let ending = replay(
+        alloc,
+        program,
+        &prepared.blocks,
+        set,
+        place.implementation,
+        &cex.globals,
+        &cex.frame,
+        &cex.choices,
+    )?;
+    match ending {
+        Ending::OutOfRange(o) => Ok(Verdict::Unknown(Cause::Replay(cex, o))),
+        Ending::Failed(_) => Ok(Verdict::Refuted(cex)),
+        Ending::Ended => unreachable!(),
+        Ending::Blocked => unreachable!(),
+        Ending::BadChoice => unreachable!(),
+        Ending::NoScalars => unreachable!(),
+    }
+}

@@ -1,0 +1,13 @@
+pub mod Even
+pub mod Scalars
+pub mod Kinded
+pub mod Free
+pub mod Incs
+pub mod Passes
+pub mod Sorting
+pub mod Whole
+pub mod Values
+pub mod Starts
+pub mod Meets
+pub mod Packed
+pub mod Clauses

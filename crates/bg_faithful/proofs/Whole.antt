@@ -1,0 +1,104 @@
+-- What an implementation of a program over scalars has.
+use Rattle.std.proofs.Common.{◌≡◌, ℕ, ◌+◌, Bool, true, List, [], ◌∷◌, ◌++◌, length, Some, ap, ◌∙◌, subst}
+use Rattle.std.specs.Prelude.{◌&&◌, ◌==◌, slice_get}
+use Rattle.std.specs.List.{list_all}
+use Rattle.bg_ast.specs.Values.{Ty}
+use Rattle.bg_ast.specs.Syntax.{Decl, Proc, Impl, Prog}
+use Rattle.bg_ast.specs.Execution.{AtReturn}
+use Rattle.bg_sense.specs.Types.{types_of, const_types}
+use Rattle.bg_sense.specs.Typing.{Sig}
+use Rattle.bg_sense.specs.Variables.{procedure_of, wheres_of}
+use Rattle.bg_sense.proofs.Bools.{and_left, and_right}
+use Rattle.bg_calls.specs.Core.{frame_decls, demands, sayings, each_one, plain}
+use Rattle.bg_fits.specs.Truths.{is_empty}
+use Rattle.bg_fits.specs.Scalars.{decls_pass, proc_passes, impl_passes, st_passes, is_scalar_type, is_scalar, is_over_scalars}
+use Rattle.bg_atoms.specs.Sorted.{blocks_sorted}
+use Rattle.bg_block_types.specs.Typed.{sig_over, TypedBlocks, blocks_in, arrivals_in, incarnations_in, passives_in}
+use Rattle.bg_faithful.specs.Sorted.{sorts_in}
+use Rattle.bg_faithful.proofs.Scalars.{AreScalars, scalars_append, decls_scalar, ScalarProc, scalar_proc, passes_at, none_there}
+use Rattle.bg_faithful.proofs.Kinded.{sig_bare}
+use Rattle.bg_faithful.proofs.Free.{FreeBlocks, free_demands, free_sayings, free_plain, routine_free}
+use Rattle.bg_faithful.proofs.Incs.{made_scalars}
+use Rattle.bg_faithful.proofs.Passes.{passives_free}
+use Rattle.bg_faithful.proofs.Sorting.{blocks_all}
+
+module _ (p : Prog) (o : is_over_scalars true p ≡ true) where
+  abbrev globals_pass : Bool
+  globals_pass = decls_pass (is_scalar_type true) (is_scalar true) p.globals
+
+  abbrev procs_pass : Bool
+  procs_pass = list_all (proc_passes (is_scalar_type true) (is_scalar true)) p.procedures
+
+  abbrev impls_pass : Bool
+  impls_pass = list_all (impl_passes (is_scalar_type true) (is_scalar true)) p.implementations
+
+  behind_globals : (is_empty p.constants && (is_empty p.functions && (is_empty p.axioms && (p.candidates == 0 && (procs_pass && impls_pass))))) ≡ true
+  behind_globals = and_right globals_pass _ o
+
+  behind_constants : (is_empty p.functions && (is_empty p.axioms && (p.candidates == 0 && (procs_pass && impls_pass)))) ≡ true
+  behind_constants = and_right (is_empty p.constants) _ behind_globals
+
+  behind_functions : (is_empty p.axioms && (p.candidates == 0 && (procs_pass && impls_pass))) ≡ true
+  behind_functions = and_right (is_empty p.functions) _ behind_constants
+
+  parts : (procs_pass && impls_pass) ≡ true
+  parts = and_right (p.candidates == 0) _ (and_right (is_empty p.axioms) _ behind_functions)
+
+  pub no_constants : p.constants ≡ []
+  no_constants = none_there p.constants (and_left (is_empty p.constants) _ behind_globals)
+
+  pub no_functions : p.functions ≡ []
+  no_functions = none_there p.functions (and_left (is_empty p.functions) _ behind_constants)
+
+  pub no_axioms : p.axioms ≡ []
+  no_axioms = none_there p.axioms (and_left (is_empty p.axioms) _ behind_functions)
+
+  globals_scalar : AreScalars (types_of p.globals)
+  globals_scalar = decls_scalar p.globals (and_left globals_pass _ o)
+
+  procs : (j : ℕ) (c : Proc) → slice_get p.procedures j ≡ Some c → ScalarProc c
+  procs j c e =
+      scalar_proc c (passes_at (proc_passes (is_scalar_type true) (is_scalar true)) p.procedures j c (and_left procs_pass _ parts) e)
+
+  sig_same : (incs : List Ty) → sig_over p incs ≡ sig_bare incs
+  sig_same incs =
+      ap (λ cs. let s : Sig = record { constants = const_types cs; functions = p.functions; globals = []; frame = incs } in s) no_constants
+      ∙ ap (λ fs. let s : Sig = record { constants = []; functions = fs; globals = []; frame = incs } in s) no_functions
+
+  module _ (k : ℕ) (m : Impl) (q : Proc) (im : slice_get p.implementations k ≡ Some m) (pr : procedure_of p m.procedure ≡ Some q) where
+    abbrev ds : List Decl
+    ds = frame_decls m q
+
+    here : impl_passes (is_scalar_type true) (is_scalar true) m ≡ true
+    here =
+        passes_at (impl_passes (is_scalar_type true) (is_scalar true)) p.implementations k m (and_right procs_pass _ parts) im
+
+    its : ScalarProc q
+    its = procs m.procedure q pr
+
+    locals_scalar : AreScalars (types_of m.locals)
+    locals_scalar =
+        decls_scalar m.locals (and_left (decls_pass (is_scalar_type true) (is_scalar true) m.locals) (st_passes (is_scalar true) m.body) here)
+
+    frame_scalar : AreScalars (types_of ds)
+    frame_scalar = types_both q.params (q.results ++ m.locals) its.params (types_both q.results m.locals its.results locals_scalar)
+      where
+        types_both : (ds es : List Decl) → AreScalars (types_of ds) → AreScalars (types_of es) → AreScalars (types_of (ds ++ es))
+        types_both [] es h k = k
+        types_both (d ∷ ds) es h k = (h.0, types_both ds es h.1 k)
+
+    free : FreeBlocks (blocks_in p k m q)
+    free =
+        routine_free p ds procs m.body (plain (wheres_of (p.globals ++ ds)) (sayings each_one q.requires_)) (demands (AtReturn k) q.ensures_) (and_right (decls_pass (is_scalar_type true) (is_scalar true) m.locals) (st_passes (is_scalar true) m.body) here)
+        (free_plain (wheres_of (p.globals ++ ds)) (sayings each_one q.requires_) (free_sayings each_one q.requires_ its.requires_))
+        (free_demands (AtReturn k) q.ensures_ its.ensures_)
+
+    pub scalars : AreScalars (incarnations_in p k m q)
+    scalars =
+        scalars_append (types_of p.globals) _ globals_scalar
+        (scalars_append (types_of ds) _ frame_scalar (made_scalars p ds globals_scalar frame_scalar (blocks_in p k m q) [] (length p.globals + length ds) free))
+
+    pub sorted : TypedBlocks (sig_over p (incarnations_in p k m q)) (passives_in p k m q) → blocks_sorted (sorts_in p k m q) p.candidates (passives_in p k m q) ≡ true
+    sorted h =
+        let t = subst (λ g. TypedBlocks g (passives_in p k m q)) (sig_same (incarnations_in p k m q)) h in
+        blocks_all (incarnations_in p k m q) scalars p.candidates (passives_in p k m q) t (passives_free (arrivals_in p k m q).arrivals (blocks_in p k m q) free)

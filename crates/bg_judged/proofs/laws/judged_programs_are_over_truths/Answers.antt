@@ -1,5 +1,0 @@
-use Rattle.bg_judged.proofs.Judging.{judged_truths}
-use Rattle.bg_judged.proofs.laws.judged_programs_are_over_truths.Goals as goal
-
-pub returns : goal.returns
-returns c = judged_truths c.resolved_programs_are_named.ensures c.well_typed_programs_are_typed.ensures

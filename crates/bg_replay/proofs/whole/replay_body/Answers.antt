@@ -1,0 +1,11 @@
+use Rattle.std.proofs.Common.{◌∙◌}
+use Rattle.std.proofs.lemmas.Result.{IfOk-weaker}
+use Rattle.bg_ast.specs.Views.{program_of, impl_of, proc_of}
+use Rattle.bg_replay.proofs.Replays.{replays}
+use Rattle.bg_replay.proofs.whole.replay_body.Goals as goal
+
+pub returns : goal.returns
+returns c =
+    IfOk-weaker c.run.result _ _
+    (λ ending is. replays (program_of c.args.program.now) (impl_of c.args.m.now) (proc_of c.args.q.now) c.args.set.now c.args.blocks.now c.args.globals.now c.in_ok-first.first.items c.args.frame.now c.in_ok-locals.locals.items c.deref.result.now c.deref-2.result.now c.args.choices.now ending c.in_ok-first.ensures c.in_ok-locals.ensures (c.deref.ensures.value ∙ c.in_ok-of_globals.ensures) (c.deref-2.ensures.value ∙ c.in_ok-of_frame.ensures) is)
+    c.run.ensures

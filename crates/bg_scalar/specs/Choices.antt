@@ -1,0 +1,16 @@
+-- Choices and states of scalars.
+use Rattle.std.specs.Prelude.{List, map}
+use Rattle.bg_ast.specs.Execution as e
+use Rattle.bg_ast.specs.Execution.{State}
+use Rattle.bg_scalar.specs.Values.{val_of}
+use Rattle.bg_scalar.specs.declared.scalar.Scalar.{Scalar}
+use Rattle.bg_scalar.specs.declared.choice.Choice.{Choice}
+use Rattle.bg_scalar.specs.declared.choice.Choice.TheVariants as choice
+
+abbrev pub choice_of : Choice → e.Choice
+choice_of (choice.Branch k) = e.Branch k
+choice_of (choice.Chosen x) = e.Chosen (val_of x)
+
+-- the state in which variables have these values
+abbrev pub state_of : List Scalar → List Scalar → State
+state_of globals frame = record { globals = map val_of globals; frame = map val_of frame }

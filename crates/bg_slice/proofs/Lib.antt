@@ -1,0 +1,7 @@
+mod Using
+mod Below
+mod Left
+mod Saying
+mod Onward
+mod Marking
+mod Sizes

@@ -1,0 +1,12 @@
+use Rattle.std.proofs.Common.{◌≡◌, map, ◌++◌, drop}
+use Rattle.bg_places.specs.Views.{spot_of}
+use Rattle.bg_formed.specs.Used.{uses}
+use Rattle.bg_formed.specs.Seen.{use_of}
+use Rattle.bg_formed.specs.Views.{form_block_of}
+use Rattle.bg_slice.specs.Slices.{sliced}
+use Rattle.bg_slice.proofs.cut.sliced.Given as goal
+
+abbrev pub invariant-loop-b : goal.invariant-loop-b
+invariant-loop-b l =
+    (map form_block_of l.made.items ++ sliced (spot_of l.target) (map form_block_of (drop l.b-index l.blocks)) ≡ sliced (spot_of l.target) (map form_block_of l.blocks))
+    × (map use_of l.later.items ≡ uses (spot_of l.target) (map form_block_of (drop l.b-index l.blocks)))

@@ -1,0 +1,14 @@
+//! Blocks of forms and rows, cut down to what counts for one target. Atoms keep their numbers.
+#![tactic(auto)]
+
+mod cut;
+pub mod laws;
+mod made;
+mod marks;
+mod rows;
+#[cfg(test)]
+mod tests;
+mod whole;
+
+pub use made::Slice;
+pub use whole::slice;

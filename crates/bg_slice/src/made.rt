@@ -1,0 +1,10 @@
+//! What is left for a target.
+use bg_formed::FormBlock;
+use bg_formula::Linear;
+
+/// Rows and blocks of forms, cut down to what counts for a target.
+#[derive(Drop)]
+pub struct Slice {
+    pub rows: Vec<Linear>,
+    pub blocks: Vec<FormBlock>,
+}

@@ -1,0 +1,4 @@
+pub mod Written
+pub mod Given
+pub mod Below
+pub mod Incarnated

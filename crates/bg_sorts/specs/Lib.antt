@@ -1,0 +1,5 @@
+pub mod Sorts
+pub mod Written
+pub mod Views
+pub mod Arrivals
+pub mod Passive

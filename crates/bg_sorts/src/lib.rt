@@ -1,0 +1,13 @@
+//! The sorts of declared variables, and of the incarnations that passive blocks give them.
+#![tactic(auto)]
+
+mod arrival;
+mod commands;
+mod known;
+#[cfg(test)]
+mod tests;
+mod types;
+mod whole;
+
+pub use types::{frame_sorts, sorts_of};
+pub use whole::sorts;
