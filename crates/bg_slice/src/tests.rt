@@ -20,6 +20,16 @@ fn at_most(alloc: Global, variable: u32, bound: i128) -> Result<Linear, Fail> {
     }
 }
 
+/// The rows that term 6 is at most 10, 11, 12, 13.
+fn four_rows(alloc: Global) -> Result<Vec<Linear>, Fail> {
+    let mut rows = Vec::new(alloc);
+    rows.push(at_most(alloc, 6, 10)?)?;
+    rows.push(at_most(alloc, 6, 11)?)?;
+    rows.push(at_most(alloc, 6, 12)?)?;
+    rows.push(at_most(alloc, 6, 13)?)?;
+    Ok(rows)
+}
+
 fn is(atom: u32) -> Says {
     Says::Form(Form::Is(Literal { atom, sign: true }))
 }
@@ -63,10 +73,7 @@ fn says_something(k: &FormCmd) -> bool {
 #[test]
 fn what_is_left_of_three_blocks(rt: HostRuntime) -> Result<(), Fail> {
     let alloc = rt.alloc();
-    let mut rows = Vec::new(alloc);
-    for bound in 10..14 {
-        rows.push(at_most(alloc, 6, bound)?)?;
-    }
+    let rows = four_rows(alloc)?;
     let whole = blocks(alloc)?;
     // Atom 0 is a truth variable; atom 1 is the first row.
     let Slice { rows, blocks } = slice(alloc, Spot::Assert(7), 1, &rows, &whole)?;
