@@ -1,13 +1,15 @@
 #!/usr/bin/env python3
 """Makes random programs over truth values and whole numbers with the whole statement language, and has their reports judged.
 
-usage: random_programs.py --bg COMMAND [--judge COMMAND] [--count N] [--seed K] [--truths] [--keep FOLDER]
+usage: random_programs.py --bg COMMAND [--judge COMMAND] [--count N] [--seed K] [--truths] [--budget N] [--jobs N] [--keep FOLDER]
 
 COMMAND of --bg is the program, as `./bg`. COMMAND of --judge is an evaluator that gets the names of a program and of its report,
-and ends with 0 where it agrees. With --truths there are no whole numbers. The last line is `N passed, M failed`.
+and ends with 0 where it agrees. With --truths there are no whole numbers. With --budget the program gets as many inner nodes and rows.
+The last line is `N passed, M failed`.
 """
 import argparse
 import collections
+import concurrent.futures
 import os
 import random
 import re
@@ -245,7 +247,8 @@ def judged(args, folder, number):
     source, report = os.path.join(folder, f"{number}.bpl"), os.path.join(folder, f"{number}.report")
     with open(source, "w", encoding="ascii") as file:
         file.write(text)
-    ran = subprocess.run([*shlex.split(args.bg), "verify", source], capture_output=True, timeout=300)
+    budget = ["--nodes", str(args.budget), "--rows", str(args.budget)] if args.budget else []
+    ran = subprocess.run([*shlex.split(args.bg), "verify", *budget, source], capture_output=True, timeout=300)
     with open(report, "wb") as file:
         file.write(ran.stdout)
     said = re.findall(r"^implementation \S+ \S+ (\w+)$", ran.stdout.decode(), re.M)
@@ -266,18 +269,20 @@ def main():
     parser.add_argument("--count", type=int, default=300)
     parser.add_argument("--seed", type=int, default=1)
     parser.add_argument("--truths", action="store_true")
+    parser.add_argument("--budget", type=int)
+    parser.add_argument("--jobs", type=int, default=1)
     parser.add_argument("--keep")
     args = parser.parse_args()
     failed, words = 0, collections.Counter()
     with tempfile.TemporaryDirectory() as folder:
         if args.keep:
             os.makedirs(args.keep, exist_ok=True)
-        for number in range(args.count):
-            wrong, said = judged(args, args.keep or folder, number)
-            words.update(said)
-            if wrong:
-                failed += 1
-                print(f"{number}: {wrong}")
+        with concurrent.futures.ThreadPoolExecutor(args.jobs) as pool:
+            for number, (wrong, said) in enumerate(pool.map(lambda n: judged(args, args.keep or folder, n), range(args.count))):
+                words.update(said)
+                if wrong:
+                    failed += 1
+                    print(f"{number}: {wrong}", flush=True)
     print(", ".join(f"{words[word]} {word}" for word in ("verified", "refuted", "unknown")))
     print(f"{args.count - failed} passed, {failed} failed")
     return 1 if failed else 0
