@@ -2,7 +2,6 @@
 use Rattle.std.proofs.Common.{◌≡◌, ◌+◌, ℕ, Bool, true, false, not, List, [], ◌∷◌, ◌++◌, length, map, Option, Some, None, refl, sym, ap, ◌∙◌, subst, Vec, Box, Global}
 use Rattle.std.specs.Prelude.{◌&&◌}
 use Rattle.bg_base.specs.declared.pos.Pos.{Pos}
-use Rattle.bg_base.specs.declared.exact.OutOfRange.{OutOfRange}
 use Rattle.bg_text.specs.declared.expr.InfixSign.{InfixSign}
 use Rattle.bg_text.specs.declared.expr.InfixSign.TheVariants as op
 use Rattle.bg_text.specs.declared.expr.PrefixSign.{PrefixSign}
@@ -30,7 +29,7 @@ use Rattle.bg_linear.specs.Sorts.{kind_ex, is_truth, is_number, number_only, tru
 use Rattle.bg_linear.proofs.Sides.{no_truth, no_equal, sum_numbers, product_numbers}
 use Rattle.bg_atoms.specs.Kinds.{IsTruth}
 use Rattle.bg_atoms.specs.Worlds.{Means}
-use Rattle.bg_atoms.specs.Outside.{IsOutside, on_left, on_right, denied}
+use Rattle.bg_atoms.specs.Parts.{HasRelation, on_left, on_right, denied}
 
 one_link : (ls old : List Link) (l : Link) → ls ≡ old ++ l ∷ [] → old ≡ [] → map u.link_view ls ≡ u.link_view l ∷ []
 one_link ls old l h k = rw (h, k) refl
@@ -314,54 +313,54 @@ module _ (sorts : List Sort) (n : ℕ) (rows : List AtomOf) where
   not_means : (a x : s.Ex) → Means sorts n rows a x → Means sorts n rows (s.Not a) (s.Not x)
   not_means a x h = record { fits = h.fits; same = λ w g held. ap (λ v. Truth (not (truth_of v))) (h.same w g held) }
 
--- ---- relations that leave the range
+-- ---- relations in a chain
 
-module _ (sorts : List Sort) (o : OutOfRange) where
-  pub outside_first : (ls : r.Links) (a : s.Ex) → IsOutside sorts o a → IsOutside sorts o (m.chained a ls)
-  outside_first r.NoLink a h = h
-  outside_first (r.Link p op.Iff e ls) a h = outside_first ls _ (on_left s.Iff a (m.ex_of e) h)
-  outside_first (r.Link p op.Implies e ls) a h = on_left s.Implies a _ h
-  outside_first (r.Link p op.Explies e ls) a h = outside_first ls _ (on_right s.Implies (m.ex_of e) a h)
-  outside_first (r.Link p op.And e ls) a h = outside_first ls _ (on_left s.And a (m.ex_of e) h)
-  outside_first (r.Link p op.Or e ls) a h = outside_first ls _ (on_left s.Or a (m.ex_of e) h)
-  outside_first (r.Link p op.Equal e ls) a h = outside_first ls _ (on_left s.Equal a (m.ex_of e) h)
-  outside_first (r.Link p op.Unequal e ls) a h = outside_first ls _ (on_left s.Unequal a (m.ex_of e) h)
-  outside_first (r.Link p op.Less e ls) a h = outside_first ls _ (on_left s.Less a (m.ex_of e) h)
-  outside_first (r.Link p op.AtMost e ls) a h = outside_first ls _ (on_left s.AtMost a (m.ex_of e) h)
-  outside_first (r.Link p op.Greater e ls) a h = outside_first ls _ (on_left s.Greater a (m.ex_of e) h)
-  outside_first (r.Link p op.AtLeast e ls) a h = outside_first ls _ (on_left s.AtLeast a (m.ex_of e) h)
-  outside_first (r.Link p op.Plus e ls) a h = outside_first ls _ (on_left s.Plus a (m.ex_of e) h)
-  outside_first (r.Link p op.Minus e ls) a h = outside_first ls _ (on_left s.Minus a (m.ex_of e) h)
-  outside_first (r.Link p op.Times e ls) a h = outside_first ls _ (on_left s.Times a (m.ex_of e) h)
+module _ (sorts : List Sort) (P : s.Op → s.Ex → s.Ex → Type 0) where
+  pub first_has : (ls : r.Links) (a : s.Ex) → HasRelation sorts P a → HasRelation sorts P (m.chained a ls)
+  first_has r.NoLink a h = h
+  first_has (r.Link p op.Iff e ls) a h = first_has ls _ (on_left s.Iff a (m.ex_of e) h)
+  first_has (r.Link p op.Implies e ls) a h = on_left s.Implies a _ h
+  first_has (r.Link p op.Explies e ls) a h = first_has ls _ (on_right s.Implies (m.ex_of e) a h)
+  first_has (r.Link p op.And e ls) a h = first_has ls _ (on_left s.And a (m.ex_of e) h)
+  first_has (r.Link p op.Or e ls) a h = first_has ls _ (on_left s.Or a (m.ex_of e) h)
+  first_has (r.Link p op.Equal e ls) a h = first_has ls _ (on_left s.Equal a (m.ex_of e) h)
+  first_has (r.Link p op.Unequal e ls) a h = first_has ls _ (on_left s.Unequal a (m.ex_of e) h)
+  first_has (r.Link p op.Less e ls) a h = first_has ls _ (on_left s.Less a (m.ex_of e) h)
+  first_has (r.Link p op.AtMost e ls) a h = first_has ls _ (on_left s.AtMost a (m.ex_of e) h)
+  first_has (r.Link p op.Greater e ls) a h = first_has ls _ (on_left s.Greater a (m.ex_of e) h)
+  first_has (r.Link p op.AtLeast e ls) a h = first_has ls _ (on_left s.AtLeast a (m.ex_of e) h)
+  first_has (r.Link p op.Plus e ls) a h = first_has ls _ (on_left s.Plus a (m.ex_of e) h)
+  first_has (r.Link p op.Minus e ls) a h = first_has ls _ (on_left s.Minus a (m.ex_of e) h)
+  first_has (r.Link p op.Times e ls) a h = first_has ls _ (on_left s.Times a (m.ex_of e) h)
 
   -- in the operand behind a sign
-  outside_next : (p : Pos) (sign : InfixSign) (e : r.Ex) (ls : r.Links) (a : s.Ex) → IsOutside sorts o (m.ex_of e) → IsOutside sorts o (m.chained a (r.Link p sign e ls))
-  outside_next p op.Iff e ls a h = outside_first ls _ (on_right s.Iff a (m.ex_of e) h)
-  outside_next p op.Implies e ls a h = on_right s.Implies a _ (outside_first ls (m.ex_of e) h)
-  outside_next p op.Explies e ls a h = outside_first ls _ (on_left s.Implies (m.ex_of e) a h)
-  outside_next p op.And e ls a h = outside_first ls _ (on_right s.And a (m.ex_of e) h)
-  outside_next p op.Or e ls a h = outside_first ls _ (on_right s.Or a (m.ex_of e) h)
-  outside_next p op.Equal e ls a h = outside_first ls _ (on_right s.Equal a (m.ex_of e) h)
-  outside_next p op.Unequal e ls a h = outside_first ls _ (on_right s.Unequal a (m.ex_of e) h)
-  outside_next p op.Less e ls a h = outside_first ls _ (on_right s.Less a (m.ex_of e) h)
-  outside_next p op.AtMost e ls a h = outside_first ls _ (on_right s.AtMost a (m.ex_of e) h)
-  outside_next p op.Greater e ls a h = outside_first ls _ (on_right s.Greater a (m.ex_of e) h)
-  outside_next p op.AtLeast e ls a h = outside_first ls _ (on_right s.AtLeast a (m.ex_of e) h)
-  outside_next p op.Plus e ls a h = outside_first ls _ (on_right s.Plus a (m.ex_of e) h)
-  outside_next p op.Minus e ls a h = outside_first ls _ (on_right s.Minus a (m.ex_of e) h)
-  outside_next p op.Times e ls a h = outside_first ls _ (on_right s.Times a (m.ex_of e) h)
+  next_has : (p : Pos) (sign : InfixSign) (e : r.Ex) (ls : r.Links) (a : s.Ex) → HasRelation sorts P (m.ex_of e) → HasRelation sorts P (m.chained a (r.Link p sign e ls))
+  next_has p op.Iff e ls a h = first_has ls _ (on_right s.Iff a (m.ex_of e) h)
+  next_has p op.Implies e ls a h = on_right s.Implies a _ (first_has ls (m.ex_of e) h)
+  next_has p op.Explies e ls a h = first_has ls _ (on_left s.Implies (m.ex_of e) a h)
+  next_has p op.And e ls a h = first_has ls _ (on_right s.And a (m.ex_of e) h)
+  next_has p op.Or e ls a h = first_has ls _ (on_right s.Or a (m.ex_of e) h)
+  next_has p op.Equal e ls a h = first_has ls _ (on_right s.Equal a (m.ex_of e) h)
+  next_has p op.Unequal e ls a h = first_has ls _ (on_right s.Unequal a (m.ex_of e) h)
+  next_has p op.Less e ls a h = first_has ls _ (on_right s.Less a (m.ex_of e) h)
+  next_has p op.AtMost e ls a h = first_has ls _ (on_right s.AtMost a (m.ex_of e) h)
+  next_has p op.Greater e ls a h = first_has ls _ (on_right s.Greater a (m.ex_of e) h)
+  next_has p op.AtLeast e ls a h = first_has ls _ (on_right s.AtLeast a (m.ex_of e) h)
+  next_has p op.Plus e ls a h = first_has ls _ (on_right s.Plus a (m.ex_of e) h)
+  next_has p op.Minus e ls a h = first_has ls _ (on_right s.Minus a (m.ex_of e) h)
+  next_has p op.Times e ls a h = first_has ls _ (on_right s.Times a (m.ex_of e) h)
 
-  abbrev pub Fail : r.Links → Type 0
-  Fail ls = (b : s.Ex) → IsTruth sorts b → IsTruth sorts (m.chained b ls) → IsOutside sorts o (m.chained b ls)
+  abbrev pub Has : r.Links → Type 0
+  Has ls = (b : s.Ex) → IsTruth sorts b → IsTruth sorts (m.chained b ls) → HasRelation sorts P (m.chained b ls)
 
-  pub operand_outside : (sign : InfixSign) → is_implies sign ≡ false → (p : Pos) (e : r.Ex) (ls : r.Links) → (IsTruth sorts (m.ex_of e) → IsOutside sorts o (m.ex_of e)) → Fail (r.Link p sign e ls)
-  operand_outside sign i p e ls h a t w =
-      outside_next p sign e ls a (h (infix_right sorts sign i a (m.ex_of e) t (infix_truth sorts sign i p e ls a t w)))
+  pub operand_has : (sign : InfixSign) → is_implies sign ≡ false → (p : Pos) (e : r.Ex) (ls : r.Links) → (IsTruth sorts (m.ex_of e) → HasRelation sorts P (m.ex_of e)) → Has (r.Link p sign e ls)
+  operand_has sign i p e ls h a t w =
+      next_has p sign e ls a (h (infix_right sorts sign i a (m.ex_of e) t (infix_truth sorts sign i p e ls a t w)))
 
   -- in what stands behind one more operand
-  pub step_outside : (sign : InfixSign) → is_implies sign ≡ false → (p : Pos) (e : r.Ex) (ls : r.Links) → Fail ls → Fail (r.Link p sign e ls)
-  step_outside sign i p e ls h a t w =
-      subst (IsOutside sorts o) (sym (next_is sign i p e ls a)) (h _ (infix_truth sorts sign i p e ls a t w) (subst (IsTruth sorts) (next_is sign i p e ls a) w))
+  pub step_has : (sign : InfixSign) → is_implies sign ≡ false → (p : Pos) (e : r.Ex) (ls : r.Links) → Has ls → Has (r.Link p sign e ls)
+  step_has sign i p e ls h a t w =
+      subst (HasRelation sorts P) (sym (next_is sign i p e ls a)) (h _ (infix_truth sorts sign i p e ls a t w) (subst (IsTruth sorts) (next_is sign i p e ls a) w))
 
 -- ---- rows of signs
 
@@ -379,11 +378,11 @@ signed_means sorts n rows (y ∷ xs) a x t h =
     let k = prefix_truth sorts y.sign (m.signed xs a) t in
     subst (λ g. Means sorts n rows (m.prefix_of g (m.signed xs a)) (m.prefix_of g (m.signed xs x))) (sym k.0) (not_means sorts n rows (m.signed xs a) (m.signed xs x) (signed_means sorts n rows xs a x k.1 h))
 
-pub signed_outside : (sorts : List Sort) (o : OutOfRange) (xs : List TreePrefix) (a : s.Ex) → is_truth (kind_ex sorts (m.signed xs a)) ≡ true → IsOutside sorts o a → IsOutside sorts o (m.signed xs a)
-signed_outside sorts o [] a t h = h
-signed_outside sorts o (y ∷ xs) a t h =
+pub signed_has : (sorts : List Sort) (P : s.Op → s.Ex → s.Ex → Type 0) (xs : List TreePrefix) (a : s.Ex) → is_truth (kind_ex sorts (m.signed xs a)) ≡ true → HasRelation sorts P a → HasRelation sorts P (m.signed xs a)
+signed_has sorts P [] a t h = h
+signed_has sorts P (y ∷ xs) a t h =
     let k = prefix_truth sorts y.sign (m.signed xs a) t in
-    subst (λ g. IsOutside sorts o (m.prefix_of g (m.signed xs a))) (sym k.0) (denied (m.signed xs a) (signed_outside sorts o xs a k.1 h))
+    subst (λ g. HasRelation sorts P (m.prefix_of g (m.signed xs a))) (sym k.0) (denied (m.signed xs a) (signed_has sorts P xs a k.1 h))
 
 -- ---- brackets
 

@@ -18,6 +18,7 @@ use Rattle.bg_formula.specs.Atoms.{AtomOf}
 use Rattle.bg_linear.specs.declared.scalar.Sort.{Sort}
 use Rattle.bg_linear.specs.declared.scalar.Kind.{Kind}
 use Rattle.bg_linear.specs.Chains.{is_implies}
+use Rattle.bg_linear.specs.Relations.{op_of}
 use Rattle.bg_linear.specs.Sorts.{kind_ex, is_truth}
 use Rattle.bg_linear.proofs.Chained.{drop_item}
 use Rattle.bg_atoms.specs.declared.made.Made as code
@@ -26,14 +27,18 @@ use Rattle.bg_atoms.specs.declared.made.Linked as codes
 use Rattle.bg_atoms.specs.declared.made.Linked.TheVariants as linked
 use Rattle.bg_atoms.specs.Kinds.{IsTruth}
 use Rattle.bg_atoms.specs.Worlds.{Means}
-use Rattle.bg_atoms.specs.Outside.{IsOutside, on_right}
-use Rattle.bg_atoms.specs.Made.{IsMade, AreMade, Carries, Fails, IsJoined, behind}
-use Rattle.bg_atoms.specs.Heads.{IsHead, IsNext}
-use Rattle.bg_atoms.proofs.Chained.{two_truths, step_means, step_outside, operand_outside, implies_means, outside_first, signed_truth, signed_means, signed_outside}
+use Rattle.bg_atoms.specs.Parts.{HasRelation, on_right}
+use Rattle.bg_atoms.specs.Outside.{IsOutside, IsRefusedFor}
+use Rattle.bg_atoms.specs.Made.{IsMade, AreMade, Carries, HasBehind, Fails, IsJoined, behind}
+use Rattle.bg_atoms.specs.Sources.{IsRowOf, IsFrom}
+use Rattle.bg_atoms.specs.Added.{Adds, IsFromTruth, IsFromLinks}
+use Rattle.bg_atoms.specs.Heads.{IsHead, IsNext, Relates}
+use Rattle.bg_atoms.proofs.Adding.{adds_as, adds_both}
+use Rattle.bg_atoms.proofs.Chained.{two_truths, step_means, step_has, operand_has, implies_means, first_has, signed_truth, signed_means, signed_has}
 
 module _ (sorts : List Sort) (n : ℕ) (rows : List AtomOf) (a : s.Ex) where
   pub first_outside : (x : code.Made) (o : OutOfRange) (ls : List Link) → x ≡ made.Outside o → IsTruth sorts a → IsMade sorts n rows a x → IsOutside sorts o (behind a ls)
-  first_outside x o ls is t h = outside_first sorts o (u.links_of (map u.link_view ls)) a (subst (IsMade sorts n rows a) is h t)
+  first_outside x o ls is t h = first_has sorts (IsRefusedFor o) (u.links_of (map u.link_view ls)) a (subst (IsMade sorts n rows a) is h t)
 
   pub behind_outside : (xs : codes.Linked) (o : OutOfRange) (ls : List Link) → xs ≡ linked.Outside o → IsTruth sorts a → IsTruth sorts (behind a ls) → AreMade sorts n rows ls xs → IsOutside sorts o (behind a ls)
   behind_outside xs o ls is t w h = subst (AreMade sorts n rows ls) is h a t w
@@ -44,7 +49,7 @@ module _ (sorts : List Sort) (n : ℕ) (rows : List AtomOf) (a : s.Ex) where
       subst (Means sorts n rows (behind a ls)) (sym (ap m.ex_of (z.ex_of-Chain b links))) (subst (AreMade sorts n rows ls) are k a (m.ex_of (u.ex_of b.value)) t w first)
 
   pub prefixed_outside : (x : code.Made) (o : OutOfRange) (signs : List TreePrefix) → x ≡ made.Outside o → IsMade sorts n rows a x → is_truth (kind_ex sorts (m.signed signs a)) ≡ true → IsOutside sorts o (m.signed signs a)
-  prefixed_outside x o signs is h t = signed_outside sorts o signs a t (subst (IsMade sorts n rows a) is h (signed_truth sorts signs a t))
+  prefixed_outside x o signs is h t = signed_has sorts (IsRefusedFor o) signs a t (subst (IsMade sorts n rows a) is h (signed_truth sorts signs a t))
 
   pub prefixed_means : (x : code.Made) (e : Expr) (signs kept : List TreePrefix) (b : Box Expr Global) → x ≡ made.Is e → b.value ≡ e → kept ≡ signs → IsMade sorts n rows a x → is_truth (kind_ex sorts (m.signed signs a)) ≡ true → Means sorts n rows (m.signed signs a) (m.signed kept (m.ex_of (u.ex_of b.value)))
   prefixed_means x e signs kept b is boxed same h t =
@@ -76,6 +81,33 @@ chain_whole sorts n rows x1 x2 l1 l2 l3 e links whole k first rest y h1 h2 k1 k2
     let rest' = subst (λ l. AreMade sorts n rows (drop k l) rest) (k3 ∙ sym k1) are in
     let front = behind (m.ex_of (u.ex_of x1)) (take k l1) in
     subst (λ w. IsMade sorts n rows w y) (sym head.apart ∙ chain_node x1 l1 e links whole h1 k1 is) (λ t. joined sorts n rows front (drop k l1) (head.leads (subst (IsTruth sorts) (sym head.apart) t)) t first' rest')
+
+-- the rows of both are from the chain
+pub chain_from : (sorts : List Sort) (x1 x2 : Expr) (l1 l2 l3 : List Link) (e : Box Expr Global) (links : Vec Link Global) (whole : Expr) (k : ℕ) (xs ys zs : List AtomOf) → x1 ≡ e.value → x2 ≡ e.value → l1 ≡ links.items → l2 ≡ links.items → l3 ≡ links.items → whole ≡ expr.Chain e links → IsHead sorts (m.ex_of (u.ex_of x1)) l1 k → Adds (IsFromTruth sorts (behind (m.ex_of (u.ex_of x2)) (take k l2))) xs ys → Adds (IsFromLinks sorts (drop k l3)) ys zs → Adds (IsFromTruth sorts (m.ex_of (u.ex_of whole))) xs zs
+chain_from sorts x1 x2 l1 l2 l3 e links whole k xs ys zs h1 h2 k1 k2 k3 is head first behind_it =
+    let first' = subst (λ l. Adds (IsFromTruth sorts (behind (m.ex_of (u.ex_of x1)) (take k l))) xs ys) (k2 ∙ sym k1) (subst (λ x. Adds (IsFromTruth sorts (behind (m.ex_of (u.ex_of x)) (take k l2))) xs ys) (h2 ∙ sym h1) first) in
+    let rest' = subst (λ l. Adds (IsFromLinks sorts (drop k l)) ys zs) (k3 ∙ sym k1) behind_it in
+    let front = behind (m.ex_of (u.ex_of x1)) (take k l1) in
+    let made = subst (λ w. Adds (IsFromTruth sorts w) xs zs) (sym head.apart ∙ chain_node x1 l1 e links whole h1 k1 is) in
+    let led = λ (t : IsTruth sorts (behind front (drop k l1))). head.leads (subst (IsTruth sorts) (sym head.apart) t) in
+    made (adds_both (IsFromTruth sorts front) (IsFromLinks sorts (drop k l1)) (IsFromTruth sorts (behind front (drop k l1))) xs ys zs (λ r h t. first_has sorts (IsRowOf r) (u.links_of (map u.link_view (drop k l1))) front (h (led t))) (λ r h t. h front (led t) t) first' rest')
+
+pub no_front : (a : s.Ex) (ls : List Link) → length ls ≡ 0 → a ≡ behind a ls
+no_front a [] h = refl
+no_front a (l ∷ ls) h = absurd (omega (arith, h))
+
+pub from_same : (sorts : List Sort) (a b : s.Ex) (xs ys : List AtomOf) → a ≡ b → Adds (IsFromTruth sorts a) xs ys → Adds (IsFromTruth sorts b) xs ys
+from_same sorts a b xs ys h k = subst (λ e. Adds (IsFromTruth sorts e) xs ys) h k
+
+-- rows from what stands behind signs
+pub signed_from : (sorts : List Sort) (signs : List TreePrefix) (a : s.Ex) (xs ys : List AtomOf) → Adds (IsFromTruth sorts a) xs ys → Adds (IsFromTruth sorts (m.signed signs a)) xs ys
+signed_from sorts signs a xs ys h =
+    adds_as (IsFromTruth sorts a) (IsFromTruth sorts (m.signed signs a)) xs ys (λ r f t. signed_has sorts (IsRowOf r) signs a t (f (signed_truth sorts signs a t))) h
+
+-- rows from the relation of numbers that the links make
+pub relation_from : (sorts : List Sort) (a : s.Ex) (front before : List Link) (l : Link) (xs ys : List AtomOf) → front ≡ before ++ l ∷ [] → Relates sorts a before l → Adds (IsFrom sorts (s.Binary (op_of l.sign) (behind a before) (m.ex_of (u.ex_of l.operand)))) xs ys → Adds (IsFromTruth sorts (behind a front)) xs ys
+relation_from sorts a front before l xs ys split is h =
+    subst (λ f. Adds (IsFromTruth sorts (behind a f)) xs ys) (sym split) (subst (λ w. Adds (IsFromTruth sorts w) xs ys) (sym is.whole) (adds_as (IsFrom sorts (s.Binary (op_of l.sign) (behind a before) (m.ex_of (u.ex_of l.operand)))) (IsFromTruth sorts (s.Binary (op_of l.sign) (behind a before) (m.ex_of (u.ex_of l.operand)))) xs ys (λ r f t. f) h))
 
 -- ---- links
 
@@ -133,32 +165,32 @@ module _ (sorts : List Sort) (l : Link) (links : List Link) (k : ℕ) (next : Is
         by_sign true i = carry_right y zs i same h rest
         by_sign false i = carry_left y zs i same h rest
 
-  module _ (o : OutOfRange) where
-    pub fail_here : (IsTruth sorts (behind right (take k links)) → IsOutside sorts o (behind right (take k links))) → Fails sorts o (l ∷ links)
-    fail_here h = by_sign (is_implies l.sign) refl
+  module _ (P : s.Op → s.Ex → s.Ex → Type 0) where
+    pub has_here : (IsTruth sorts (behind right (take k links)) → HasRelation sorts P (behind right (take k links))) → HasBehind sorts P (l ∷ links)
+    has_here h = by_sign (is_implies l.sign) refl
       where
-        by_sign : (b : Bool) → is_implies l.sign ≡ b → Fails sorts o (l ∷ links)
+        by_sign : (b : Bool) → is_implies l.sign ≡ b → HasBehind sorts P (l ∷ links)
         by_sign true i a t w =
             let head = next.anew i in
             let whole = implied l.sign refl (implies_is l.sign i) a in
             let front = head.leads (two_truths (kind_ex sorts a) (kind_ex sorts (behind right links)) (subst (IsTruth sorts) whole w)).1 in
-            let more = outside_first sorts o (u.links_of (map u.link_view (drop k links))) (behind right (take k links)) (h front) in
-            subst (IsOutside sorts o) (sym whole) (on_right s.Implies a (behind right links) (subst (IsOutside sorts o) (sym head.apart) more))
+            let more = first_has sorts P (u.links_of (map u.link_view (drop k links))) (behind right (take k links)) (h front) in
+            subst (HasRelation sorts P) (sym whole) (on_right s.Implies a (behind right links) (subst (HasRelation sorts P) (sym head.apart) more))
         by_sign false i a t w =
-            operand_outside sorts o l.sign i l.pos (u.ex_of l.operand) ls (subst (λ j. IsTruth sorts (behind right (take j links)) → IsOutside sorts o (behind right (take j links))) (next.alone i) h) a t w
+            operand_has sorts P l.sign i l.pos (u.ex_of l.operand) ls (subst (λ j. IsTruth sorts (behind right (take j links)) → HasRelation sorts P (behind right (take j links))) (next.alone i) h) a t w
 
-    pub fail_behind : Fails sorts o (drop k links) → Fails sorts o (l ∷ links)
-    fail_behind h = by_sign (is_implies l.sign) refl
+    pub has_behind : HasBehind sorts P (drop k links) → HasBehind sorts P (l ∷ links)
+    has_behind h = by_sign (is_implies l.sign) refl
       where
-        by_sign : (b : Bool) → is_implies l.sign ≡ b → Fails sorts o (l ∷ links)
+        by_sign : (b : Bool) → is_implies l.sign ≡ b → HasBehind sorts P (l ∷ links)
         by_sign true i a t w =
             let head = next.anew i in
             let whole = implied l.sign refl (implies_is l.sign i) a in
             let right_truth = (two_truths (kind_ex sorts a) (kind_ex sorts (behind right links)) (subst (IsTruth sorts) whole w)).1 in
             let more = h (behind right (take k links)) (head.leads right_truth) (subst (IsTruth sorts) head.apart right_truth) in
-            subst (IsOutside sorts o) (sym whole) (on_right s.Implies a (behind right links) (subst (IsOutside sorts o) (sym head.apart) more))
+            subst (HasRelation sorts P) (sym whole) (on_right s.Implies a (behind right links) (subst (HasRelation sorts P) (sym head.apart) more))
         by_sign false i a t w =
-            step_outside sorts o l.sign i l.pos (u.ex_of l.operand) ls (subst (λ j. Fails sorts o (drop j links)) (next.alone i) h) a t w
+            step_has sorts P l.sign i l.pos (u.ex_of l.operand) ls (subst (λ j. HasBehind sorts P (drop j links)) (next.alone i) h) a t w
 
 -- ---- the loop over links
 
@@ -167,6 +199,9 @@ Going sorts n rows whole rest made = (zs : List Link) → Carries sorts n rows r
 
 abbrev pub Failing : List Sort → List Link → List Link → Type 0
 Failing sorts whole rest = (o : OutOfRange) → Fails sorts o rest → Fails sorts o whole
+
+abbrev pub Leading : List Sort → List Link → List Link → Type 0
+Leading sorts whole rest = (r : AtomOf) → IsFromLinks sorts rest r → IsFromLinks sorts whole r
 
 module _ (sorts : List Sort) (links : List Link) (i : ℕ) (l : Link) (rest : List Link) (k : ℕ) (lt : i < length links) (is : l ≡ get_or links i l) (behind_it : rest ≡ drop (i + 1) links) (next : IsNext sorts l rest k) where
   here : drop i links ≡ l ∷ rest
@@ -182,13 +217,27 @@ module _ (sorts : List Sort) (links : List Link) (i : ℕ) (l : Link) (rest : Li
       let so_far = going (y ∷ zs) (subst (λ d. Carries sorts n rows d (y ∷ zs)) (sym here) step) in
       subst (Carries sorts n rows whole) (sym (append_assoc old (y ∷ []) zs) ∙ ap (λ d. d ++ zs) (sym push)) so_far
 
+  has_later : (P : s.Op → s.Ex → s.Ex → Type 0) (j : ℕ) → j ≡ i + 1 + k → HasBehind sorts P (drop j links) → HasBehind sorts P (drop i links)
+  has_later P j next_at more =
+      subst (HasBehind sorts P) (sym here) (has_behind sorts l rest k next P (subst (HasBehind sorts P) (later j next_at) more))
+
+  has_now : (P : s.Op → s.Ex → s.Ex → Type 0) → (IsTruth sorts (behind (m.ex_of (u.ex_of l.operand)) (take k rest)) → HasRelation sorts P (behind (m.ex_of (u.ex_of l.operand)) (take k rest))) → HasBehind sorts P (drop i links)
+  has_now P h = subst (HasBehind sorts P) (sym here) (has_here sorts l rest k next P h)
+
   pub failing_on : (whole : List Link) (j : ℕ) → j ≡ i + 1 + k → Failing sorts whole (drop i links) → Failing sorts whole (drop j links)
-  failing_on whole j next_at failing o more =
-      failing o (subst (Fails sorts o) (sym here) (fail_behind sorts l rest k next o (subst (Fails sorts o) (later j next_at) more)))
+  failing_on whole j next_at failing o more = failing o (has_later (IsRefusedFor o) j next_at more)
+
+  pub leading_on : (whole : List Link) (j : ℕ) → j ≡ i + 1 + k → Leading sorts whole (drop i links) → Leading sorts whole (drop j links)
+  leading_on whole j next_at leading r more = leading r (has_later (IsRowOf r) j next_at more)
+
+  -- rows from the operand that is next, with the links of its relation, are from the links
+  pub adds_next : (whole : List Link) (xs ys zs : List AtomOf) → Leading sorts whole (drop i links) → Adds (IsFromLinks sorts whole) xs ys → Adds (IsFromTruth sorts (behind (m.ex_of (u.ex_of l.operand)) (take k rest))) ys zs → Adds (IsFromLinks sorts whole) xs zs
+  adds_next whole xs ys zs leading old new =
+      adds_both (IsFromLinks sorts whole) (IsFromTruth sorts (behind (m.ex_of (u.ex_of l.operand)) (take k rest))) (IsFromLinks sorts whole) xs ys zs (λ r h. h) (λ r h. leading r (has_now (IsRowOf r) h)) old new
 
   pub failed : (n : ℕ) (rows : List AtomOf) (whole : List Link) (x : code.Made) (o : OutOfRange) → x ≡ made.Outside o → IsMade sorts n rows (behind (m.ex_of (u.ex_of l.operand)) (take k rest)) x → Failing sorts whole (drop i links) → Fails sorts o whole
   failed n rows whole x o out h failing =
-      failing o (subst (Fails sorts o) (sym here) (fail_here sorts l rest k next o (subst (IsMade sorts n rows (behind (m.ex_of (u.ex_of l.operand)) (take k rest))) out h)))
+      failing o (has_now (IsRefusedFor o) (subst (IsMade sorts n rows (behind (m.ex_of (u.ex_of l.operand)) (take k rest))) out h))
 
 pub going_none : (sorts : List Sort) (n : ℕ) (rows : List AtomOf) (whole old : List Link) → old ≡ [] → Going sorts n rows whole whole old
 going_none sorts n rows whole old none zs h = subst (λ d. Carries sorts n rows whole (d ++ zs)) (sym none) h

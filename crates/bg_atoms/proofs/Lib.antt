@@ -1,5 +1,6 @@
 mod Equal
 mod Lists
+mod Adding
 mod Reading
 mod Chained
 mod Heading
@@ -7,4 +8,5 @@ mod Relating
 mod Ranked
 mod Joining
 mod Telling
+mod Sourcing
 mod Finally

@@ -3,8 +3,11 @@ pub mod Ranks
 pub mod Built
 pub mod Kinds
 pub mod Worlds
+pub mod Parts
 pub mod Outside
+pub mod Sources
 pub mod Made
+pub mod Added
 pub mod Heads
 pub mod Sorted
 pub mod Told

@@ -18,7 +18,8 @@ use Rattle.bg_atoms.specs.declared.made.Linked as codes
 use Rattle.bg_atoms.specs.declared.made.Linked.TheVariants as linked
 use Rattle.bg_atoms.specs.Kinds.{IsTruth}
 use Rattle.bg_atoms.specs.Worlds.{Means}
-use Rattle.bg_atoms.specs.Outside.{IsOutside}
+use Rattle.bg_atoms.specs.Parts.{HasRelation}
+use Rattle.bg_atoms.specs.Outside.{IsOutside, IsRefusedFor}
 
 abbrev pub rows_in : Vec Linear Global → List AtomOf
 rows_in rows = map view_linear rows.items
@@ -45,9 +46,13 @@ abbrev pub Carries : List Sort → ℕ → List AtomOf → List Link → List Li
 Carries sorts n rows ls xs =
     (a x : Ex) → IsTruth sorts a → IsTruth sorts (behind a ls) → Means sorts n rows a x → Means sorts n rows (behind a ls) (behind x xs)
 
+-- put behind a truth, some relation of two numbers in the links is such a one
+abbrev pub HasBehind : List Sort → (Op → Ex → Ex → Type 0) → List Link → Type 0
+HasBehind sorts P ls = (a : Ex) → IsTruth sorts a → IsTruth sorts (behind a ls) → HasRelation sorts P (behind a ls)
+
 -- put behind a truth, a relation in the links leaves the range
 abbrev pub Fails : List Sort → OutOfRange → List Link → Type 0
-Fails sorts o ls = (a : Ex) → IsTruth sorts a → IsTruth sorts (behind a ls) → IsOutside sorts o (behind a ls)
+Fails sorts o ls = HasBehind sorts (IsRefusedFor o) ls
 
 abbrev pub AreMade : List Sort → ℕ → List AtomOf → List Link → codes.Linked → Type 0
 AreMade sorts n rows ls (linked.Are xs) = Carries sorts n rows ls xs.items

@@ -5,6 +5,7 @@ ghost use Rattle.bg_ast.specs.Views.{ex_of};
 ghost use Rattle.bg_formula.specs.Atoms.{AtomOf};
 ghost use Rattle.bg_atoms.specs.Worlds.{Begins, Grows};
 ghost use Rattle.bg_atoms.specs.Made.{rows_in, behind, IsMade, AreMade};
+ghost use Rattle.bg_atoms.specs.Added.{Adds, IsFromTruth, IsFromLinks};
 ghost use Rattle.bg_atoms.specs.Heads.{IsRelation};
 
 use crate::build::plain;
@@ -29,6 +30,7 @@ fn begun(
 ) -> Result<Made, AllocError>
     requires { IsRelation names.now.sorts.items (m.ex_of (ex_of first.now)) front.now }
     ensures grows { OnOk result (Grows (length names.now.sorts.items) (rows_in table.old.rows) (rows_in table.new.rows)) }
+    ensures adds { OnOk result (Adds (IsFromTruth names.now.sorts.items (behind (m.ex_of (ex_of first.now)) front.now)) (rows_in table.old.rows) (rows_in table.new.rows)) }
     ensures made { IfOk result (λ x. (all : List AtomOf) → Begins (rows_in table.new.rows) all → IsMade names.now.sorts.items names.now.base all (behind (m.ex_of (ex_of first.now)) front.now) x) }
 {
     match front.split_last() {
@@ -48,6 +50,7 @@ fn links_from(
     from: usize,
 ) -> Result<Linked, AllocError>
     ensures grows { OnOk result (Grows (length names.now.sorts.items) (rows_in table.old.rows) (rows_in table.new.rows)) }
+    ensures adds { OnOk result (Adds (IsFromLinks names.now.sorts.items (drop from links.now)) (rows_in table.old.rows) (rows_in table.new.rows)) }
     ensures made { IfOk result (λ x. (all : List AtomOf) → Begins (rows_in table.new.rows) all → AreMade names.now.sorts.items names.now.base all (drop from links.now) x) }
 {
     let mut made = Vec::new(alloc);
@@ -79,6 +82,7 @@ pub fn abstracted(
     e: &Expr,
 ) -> Result<Made, AllocError>
     ensures grows { OnOk result (Grows (length names.now.sorts.items) (rows_in table.old.rows) (rows_in table.new.rows)) }
+    ensures adds { OnOk result (Adds (IsFromTruth names.now.sorts.items (m.ex_of (ex_of e.now))) (rows_in table.old.rows) (rows_in table.new.rows)) }
     ensures made { IfOk result (λ x. (all : List AtomOf) → Begins (rows_in table.new.rows) all → IsMade names.now.sorts.items names.now.base all (m.ex_of (ex_of e.now)) x) }
 {
     match e {

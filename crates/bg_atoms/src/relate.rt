@@ -1,5 +1,6 @@
 //! Relations of numbers as expressions over the atoms of their rows.
-ghost use Rattle.std.specs.Prelude.{◌≡◌, true, List, [], ◌∷◌, length, map, IfOk, OnOk};
+ghost use Rattle.std.specs.Prelude.{◌≡◌, true, List, [], ◌∷◌, length, map, Contains, IfOk, OnOk};
+ghost use Rattle.bg_ast.specs.Syntax.{Binary};
 ghost use Rattle.bg_ast.specs.Meaning as m;
 ghost use Rattle.bg_ast.specs.Views.{ex_of};
 ghost use Rattle.bg_rows.specs.Rows.{row_of};
@@ -8,6 +9,8 @@ ghost use Rattle.bg_linear.specs.Relations.{op_of};
 ghost use Rattle.bg_atoms.specs.Built.{says_ex};
 ghost use Rattle.bg_atoms.specs.Worlds.{Begins, Grows, AddsInside, SaysRow, SaysAll};
 ghost use Rattle.bg_atoms.specs.Made.{rows_in, behind, IsRange, IsRelated};
+ghost use Rattle.bg_atoms.specs.Sources.{IsFrom};
+ghost use Rattle.bg_atoms.specs.Added.{Adds};
 ghost use Rattle.bg_atoms.specs.Heads.{Relates};
 
 use crate::build::{both, literal, plain};
@@ -26,6 +29,7 @@ use std::alloc::{AllocError, Global};
 fn row_expr(alloc: Global, table: &mut Table, base: u32, a: Linear) -> Result<Expr, AllocError>
     ensures begins { OnOk result (Begins (rows_in table.old.rows) (rows_in table.new.rows)) }
     ensures inside { OnOk result (AddsInside (view_linear a ∷ []) (rows_in table.old.rows) (rows_in table.new.rows)) }
+    ensures adds { OnOk result (Adds (Contains (view_linear a ∷ [])) (rows_in table.old.rows) (rows_in table.new.rows)) }
     ensures row { IfOk result (λ x. (all : List AtomOf) → Begins (rows_in table.new.rows) all → SaysRow base all (row_of a.row) (m.ex_of (ex_of x))) }
 {
     if a.row.entries.is_empty() {
@@ -44,6 +48,7 @@ fn all_rows(
 ) -> Result<Expr, AllocError>
     ensures begins { OnOk result (Begins (rows_in table.old.rows) (rows_in table.new.rows)) }
     ensures inside { OnOk result (AddsInside (map view_linear rows.items) (rows_in table.old.rows) (rows_in table.new.rows)) }
+    ensures adds { OnOk result (Adds (Contains (map view_linear rows.items)) (rows_in table.old.rows) (rows_in table.new.rows)) }
     ensures rows { IfOk result (λ x. (all : List AtomOf) → Begins (rows_in table.new.rows) all → SaysAll names.now.base all names.now.sorts.items (map view_linear rows.items) (m.ex_of (ex_of x))) }
 {
     let mut rows = rows;
@@ -87,6 +92,7 @@ pub fn related(
 ) -> Result<Made, AllocError>
     requires { Relates names.now.sorts.items (m.ex_of (ex_of first.now)) before.now l.now }
     ensures grows { OnOk result (Grows (length names.now.sorts.items) (rows_in table.old.rows) (rows_in table.new.rows)) }
+    ensures adds { OnOk result (Adds (IsFrom names.now.sorts.items (Binary (op_of l.now.sign) (behind (m.ex_of (ex_of first.now)) before.now) (m.ex_of (ex_of l.now.operand)))) (rows_in table.old.rows) (rows_in table.new.rows)) }
     ensures made { IfOk result (λ x. (all : List AtomOf) → Begins (rows_in table.new.rows) all → IsRelated names.now.sorts.items names.now.base all (op_of l.now.sign) (behind (m.ex_of (ex_of first.now)) before.now) (m.ex_of (ex_of l.now.operand)) x) }
 {
     match relation_of_chain(alloc, l.sign, first, before, &l.operand) {

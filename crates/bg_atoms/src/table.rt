@@ -1,9 +1,10 @@
 //! Rows, each once, with the literals that say that they hold.
-ghost use Rattle.std.specs.Prelude.{◌≡◌, true, List, [], ◌∷◌, IfOk, OnOk, IfSome};
+ghost use Rattle.std.specs.Prelude.{◌≡◌, true, List, [], ◌∷◌, Contains, IfOk, OnOk, IfSome};
 ghost use Rattle.bg_rows.specs.Rows.{row_of};
 ghost use Rattle.bg_formula.specs.Atoms.{AtomOf, view_linear, entries_eq, row_eq};
 ghost use Rattle.bg_atoms.specs.Worlds.{Begins, AddsInside, IsLiteral};
 ghost use Rattle.bg_atoms.specs.Made.{rows_in};
+ghost use Rattle.bg_atoms.specs.Added.{Adds};
 
 use crate::named::sum;
 use bg_formula::{Linear, Literal};
@@ -111,6 +112,7 @@ impl Table {
     ) -> Result<Literal, AllocError>
         ensures begins { OnOk result (Begins (rows_in self.old.rows) (rows_in self.new.rows)) }
         ensures inside { OnOk result (AddsInside (view_linear a ∷ []) (rows_in self.old.rows) (rows_in self.new.rows)) }
+        ensures adds { OnOk result (Adds (Contains (view_linear a ∷ [])) (rows_in self.old.rows) (rows_in self.new.rows)) }
         ensures literal { IfOk result (λ l. (all : List AtomOf) → Begins (rows_in self.new.rows) all → IsLiteral base all (row_of a.row) l) }
     {
         let count = match u32::try_from(self.rows.len()) {
@@ -129,6 +131,7 @@ impl Table {
     pub fn literal(&mut self, alloc: Global, base: u32, a: Linear) -> Result<Literal, AllocError>
         ensures begins { OnOk result (Begins (rows_in self.old.rows) (rows_in self.new.rows)) }
         ensures inside { OnOk result (AddsInside (view_linear a ∷ []) (rows_in self.old.rows) (rows_in self.new.rows)) }
+        ensures adds { OnOk result (Adds (Contains (view_linear a ∷ [])) (rows_in self.old.rows) (rows_in self.new.rows)) }
         ensures literal { IfOk result (λ l. (all : List AtomOf) → Begins (rows_in self.new.rows) all → IsLiteral base all (row_of a.row) l) }
     {
         let key = key(alloc, &a.row)?;

@@ -12,6 +12,7 @@ ghost use Rattle.bg_formed.specs.Views.{blocks_of};
 ghost use Rattle.bg_linear.specs.Sorts.{HoldScalars};
 ghost use Rattle.bg_atoms.specs.Ranks.{rank, truths};
 ghost use Rattle.bg_atoms.specs.Made.{rows_in};
+ghost use Rattle.bg_atoms.specs.Sources.{AreFrom};
 ghost use Rattle.bg_atoms.specs.Sorted.{blocks_sorted};
 ghost use Rattle.bg_atoms.specs.Refusals.{BlocksRefusals};
 
@@ -38,8 +39,8 @@ fn count(sorts: &[Sort]) -> Result<u32, AllocError>
 /// no truth over these incarnations, or names a candidate that isn't below `candidates`.
 ///
 /// A relation of numbers is a literal of its row's atom, or of that of the row which it denies; `==` is the conjunction of its two
-/// rows' literals, and `!=` its denial. A command of which a relation leaves 128 bits says `Outside` with the first operation that does
-/// so, from left to right. 2^32 atoms or incarnations count as want of memory.
+/// rows' literals, and `!=` its denial. Each row is one of such a relation in some command. A command of which a relation leaves 128
+/// bits says `Outside` with the first operation that does so, from left to right. 2^32 atoms or incarnations count as want of memory.
 pub fn atoms(
     alloc: Global,
     sorts: &[Sort],
@@ -54,6 +55,7 @@ pub fn atoms(
     ensures rows { IfOk result (λ made. IfSome made (λ a. AreRows (rows_in a.rows))) }
     ensures denials { IfOk result (λ made. IfSome made (λ a. AtomsAgree (rows_in a.rows))) }
     ensures inside { IfOk result (λ made. IfSome made (λ a. rows_below a.terms (rows_in a.rows) ≡ true)) }
+    ensures sources { IfOk result (λ made. IfSome made (λ a. AreFrom sorts.now (map passive_block_of blocks.now) (rows_in a.rows))) }
     ensures refusals { IfOk result (λ made. IfSome made (λ a. BlocksRefusals sorts.now (map passive_block_of blocks.now) (blocks_of a.blocks))) }
 {
     if !blocks_sorted(sorts, candidates, blocks) {

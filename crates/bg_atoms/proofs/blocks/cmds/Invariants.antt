@@ -4,6 +4,8 @@ use Rattle.bg_formula.specs.Atoms.{AtomOf}
 use Rattle.bg_formed.specs.Views.{form_cmds_of}
 use Rattle.bg_atoms.specs.Worlds.{Begins, Grows}
 use Rattle.bg_atoms.specs.Made.{rows_in}
+use Rattle.bg_atoms.specs.Sources.{InCmds}
+use Rattle.bg_atoms.specs.Added.{Adds, IsFromTruth}
 use Rattle.bg_atoms.specs.Told.{CmdsTold}
 use Rattle.bg_atoms.proofs.blocks.cmds.Given as goal
 
@@ -11,3 +13,4 @@ abbrev pub invariant-loop-k : goal.invariant-loop-k
 invariant-loop-k l =
     Grows (length l.names.sorts.items) (rows_in l.fn.table.rows) (rows_in l.table.rows)
     × ((all : List AtomOf) → Begins (rows_in l.table.rows) all → CmdsTold l.names.sorts.items l.names.base all (cmds_of (take l.k-index l.ks)) (form_cmds_of l.made.items))
+    × Adds (λ r. InCmds (λ e. IsFromTruth l.names.sorts.items e r) (cmds_of l.ks)) (rows_in l.fn.table.rows) (rows_in l.table.rows)

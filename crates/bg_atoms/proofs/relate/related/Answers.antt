@@ -7,11 +7,15 @@ use Rattle.bg_linear.specs.Relations.{op_of}
 use Rattle.bg_linear.proofs.Inside.{relation_inside}
 use Rattle.bg_atoms.specs.Made.{behind}
 use Rattle.bg_atoms.proofs.Lists.{grows_itself}
-use Rattle.bg_atoms.proofs.Relating.{relation_means, refused_means, range_of}
+use Rattle.bg_atoms.proofs.Adding.{adds_none, adds_as}
+use Rattle.bg_atoms.proofs.Relating.{relation_means, refused_means, range_of, row_from}
 use Rattle.bg_atoms.proofs.relate.related.Goals as goal
 
 pub returns-in-Err-clause-grows : goal.returns-in-Err-clause-grows
 returns-in-Err-clause-grows c = IfOk-weaker c.refused.result _ _ (λ x is. grows_itself _ _) c.refused.ensures
+
+pub returns-in-Err-clause-adds : goal.returns-in-Err-clause-adds
+returns-in-Err-clause-adds c = IfOk-weaker c.refused.result _ _ (λ x is. adds_none _ _) c.refused.ensures
 
 pub returns-in-Err-clause-made : goal.returns-in-Err-clause-made
 returns-in-Err-clause-made c =
@@ -26,6 +30,11 @@ returns-in_ok-said-in-Ok-clause-grows c =
       begins = c.in_ok-all-in-Ok.ensures.begins;
       inside = c.in_ok-all-in-Ok.ensures.inside (length sorts) (relation_inside sorts (op_of c.args.l.now.sign) (behind (m.ex_of (ex_of c.args.first.now)) c.args.before.now) (m.ex_of (ex_of c.args.l.now.operand)) (map view_linear c.in-Ok.rows.items) r.left r.right c.in-Ok.ensures);
     }
+
+pub returns-in_ok-said-in-Ok-clause-adds : goal.returns-in_ok-said-in-Ok-clause-adds
+returns-in_ok-said-in-Ok-clause-adds c =
+    let r = c.requires in
+    adds_as _ _ _ _ (λ q h. row_from c.args.names.now.sorts.items (op_of c.args.l.now.sign) _ _ (map view_linear c.in-Ok.rows.items) q r.related r.left r.right c.in-Ok.ensures h) c.in_ok-all-in-Ok.ensures.adds
 
 pub returns-in_ok-said-in-Ok-clause-made : goal.returns-in_ok-said-in-Ok-clause-made
 returns-in_ok-said-in-Ok-clause-made c =

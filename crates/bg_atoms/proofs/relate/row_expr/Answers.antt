@@ -8,11 +8,15 @@ use Rattle.std.proofs.lemmas.Result.{IfOk-weaker}
 use Rattle.bg_rows.specs.Rows.{row_of}
 use Rattle.bg_atoms.specs.Worlds.{SaysRow}
 use Rattle.bg_atoms.proofs.Lists.{begins_itself}
+use Rattle.bg_atoms.proofs.Adding.{adds_none}
 use Rattle.bg_atoms.proofs.Reading.{plain_says, literal_says}
 use Rattle.bg_atoms.proofs.relate.row_expr.Goals as goal
 
 pub returns-then-is_empty-clause-begins : goal.returns-then-is_empty-clause-begins
 returns-then-is_empty-clause-begins c = begins_itself _
+
+pub returns-then-is_empty-clause-adds : goal.returns-then-is_empty-clause-adds
+returns-then-is_empty-clause-adds c = adds_none _ _
 
 pub returns-then-is_empty-clause-row : goal.returns-then-is_empty-clause-row
 returns-then-is_empty-clause-row c =

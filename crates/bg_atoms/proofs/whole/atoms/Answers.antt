@@ -2,6 +2,7 @@ use Rattle.std.proofs.Common.{◌+◌, map, sym, ◌∙◌}
 use Rattle.bg_incarnate.specs.Views.{passive_block_of}
 use Rattle.bg_formed.specs.Views.{blocks_of}
 use Rattle.bg_atoms.specs.Made.{rows_in}
+use Rattle.bg_atoms.proofs.Sourcing.{from_now}
 use Rattle.bg_atoms.proofs.Finally.{are_rows, rows_agree, blocks_said, blocks_under, blocks_refused, moved, inside_now}
 use Rattle.bg_atoms.proofs.whole.atoms.Goals as goal
 
@@ -31,3 +32,7 @@ returns-clause-inside c =
     let terms = c.in_ok-terms.ensures in
     let sorts = c.in_ok-names.ensures.sorts in
     inside_now c.in_ok-names.names.sorts.items c.args.sorts.now c.in_ok-terms.terms c.new-table.result.rows.items c.blocks_told.new.table.rows.items c.into_rows-rows.result.items sorts terms c.new-table.ensures c.into_rows-rows.ensures c.in_ok-made.ensures.grows
+
+pub returns-clause-sources : goal.returns-clause-sources
+returns-clause-sources c =
+    from_now c.in_ok-names.names.sorts.items c.args.sorts.now c.args.candidates c.new-table.result.rows.items c.blocks_told.new.table.rows.items c.into_rows-rows.result.items (map passive_block_of c.args.blocks.now) c.in_ok-names.ensures.sorts c.new-table.ensures c.into_rows-rows.ensures (sym c.blocks_sorted.ensures ∙ c.if-not-blocks_sorted.false) c.in_ok-made.ensures.adds
