@@ -25,6 +25,7 @@ use Rattle.bg_atoms.specs.Ranks.{rank, truths}
 use Rattle.bg_atoms.specs.Made.{rows_in}
 use Rattle.bg_atoms.specs.declared.product.Atoms.{Atoms}
 use Rattle.bg_atoms.specs.Refusals.{BlocksRefusals}
+use Rattle.bg_atoms.specs.Sources.{AreFrom}
 use Rattle.bg_sense.specs.Variables.{procedure_of}
 use Rattle.bg_sense.specs.Typed.{IsTypedImpl, IsTyped}
 use Rattle.bg_calls.specs.Core.{frame_decls}
@@ -51,6 +52,7 @@ use Rattle.bg_faithful.specs.Encoded.{Encoding, Encodes, IsEncoding, HasClauses}
 use Rattle.bg_check.specs.declared.prepared.Prepared.{Prepared}
 use Rattle.bg_check.specs.Prepared.{IsPassive, IsPrepared, encoding_of, frame_declared}
 use Rattle.bg_check.specs.Verdicts.{HasOutside}
+use Rattle.bg_check.specs.Cuts.{HasCutClauses}
 use Rattle.bg_check.specs.Slices.{IsSliceFor}
 use Rattle.bg_check.specs.Made.{ClausesOf}
 use Rattle.bg_check.proofs.LawTypes.{EvenLaw, SortLaw}
@@ -155,6 +157,17 @@ module _ (p : r.Program) (n : ℕ) (w : Prepared) (h : IsPrepared p n w) where
   clauses_here spot candidate x f cut e =
       record { implementation = impl; procedure = proc; is_there = impl_at; is_its = proc_at; encoding = encoding_of x; is_encoding = cut.encoding h; clauses = e }
 
+  -- the same, cut down to what counts for the place
+  pub cut_here : (spot : Spot) (candidate : Option ℕ) (x : Atoms) (f : Formula) → IsSliceFor p n w spot x → ClausesOf (meaning_of p) x (record { implementation = n; spot = spot; candidate = candidate }) f → HasCutClauses (meaning_of p) (record { implementation = n; spot = spot; candidate = candidate }) f
+  cut_here spot candidate x f cut e =
+      record {
+        clauses = record { implementation = impl; procedure = proc; is_there = impl_at; is_its = proc_at; encoding = encoding_of x; is_encoding = cut.encoding h; clauses = e };
+        whole = encoding_of w.atoms;
+        is_whole = h.encoding;
+        sources = subst (λ ss. AreFrom ss (passives_in (meaning_of p) n impl proc) (encoding_of w.atoms).rows) h.sorts h.sources;
+        is_cut = cut.cut;
+      }
+
 -- ---- what is made of passive blocks
 
 -- what is answered encodes the blocks
@@ -167,6 +180,10 @@ encodes_some ss k bs (Some x) a e first terms said below rows denials inside =
 pub refusals_some : (ss : List Sort) (bs : List PassiveBlock) (o : Option Atoms) (a : Atoms) → o ≡ Some a → IfSome o (λ x. BlocksRefusals ss bs (blocks_of x.blocks)) → BlocksRefusals ss bs (blocks_of a.blocks)
 refusals_some ss bs None a e h = absurd (let bad : ⊥ = cc in bad)
 refusals_some ss bs (Some x) a e h = let same : x ≡ a = cc in subst (λ y. BlocksRefusals ss bs (blocks_of y.blocks)) same h
+
+pub sources_some : (ss : List Sort) (bs : List PassiveBlock) (o : Option Atoms) (a : Atoms) → o ≡ Some a → IfSome o (λ x. AreFrom ss bs (rows_in x.rows)) → AreFrom ss bs (rows_in a.rows)
+sources_some ss bs None a e h = absurd (let bad : ⊥ = cc in bad)
+sources_some ss bs (Some x) a e h = let same : x ≡ a = cc in subst (λ y. AreFrom ss bs (rows_in y.rows)) same h
 
 -- ---- how an implementation is prepared
 

@@ -1,5 +1,6 @@
 pub mod Numbered
 pub mod Leaves
+pub mod Cuts
 pub mod Prepared
 pub mod Slices
 pub mod Replays

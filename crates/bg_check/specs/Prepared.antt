@@ -15,6 +15,7 @@ use Rattle.bg_incarnate.specs.Walked.{next_in}
 use Rattle.bg_incarnate.specs.declared.blocks.Passive.{Passive}
 use Rattle.bg_block_types.specs.Typed.{passives_in}
 use Rattle.bg_atoms.specs.Refusals.{BlocksRefusals}
+use Rattle.bg_atoms.specs.Sources.{AreFrom}
 use Rattle.bg_atoms.specs.declared.product.Atoms.{Atoms}
 use Rattle.bg_faithful.specs.Sorted.{sorts_in}
 use Rattle.bg_faithful.specs.Encoded.{Encoding, IsEncoding}
@@ -46,3 +47,4 @@ pub record IsPrepared (p : r.Program) (number : ℕ) (w : Prepared) : Type 0 whe
   pub sorts : w.sorts.items ≡ sorts_in (meaning_of p) number (impl_of (named_of p.types) implementation) (proc_of (named_of p.types) procedure)
   pub encoding : IsEncoding (meaning_of p) number (impl_of (named_of p.types) implementation) (proc_of (named_of p.types) procedure) (encoding_of w.atoms)
   pub refusals : BlocksRefusals w.sorts.items (passives_in (meaning_of p) number (impl_of (named_of p.types) implementation) (proc_of (named_of p.types) procedure)) (blocks_of w.atoms.blocks)
+  pub sources : AreFrom w.sorts.items (passives_in (meaning_of p) number (impl_of (named_of p.types) implementation) (proc_of (named_of p.types) procedure)) (encoding_of w.atoms).rows

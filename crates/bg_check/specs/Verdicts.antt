@@ -28,6 +28,7 @@ use Rattle.bg_faithful.specs.Interps.{no_interp}
 use Rattle.bg_scalar.specs.Choices.{choice_of, state_of}
 use Rattle.bg_replay.specs.Said.{Stops, Leaves}
 use Rattle.bg_model.specs.declared.failure.Counterexample.{Counterexample}
+use Rattle.bg_check.specs.Cuts.{HasCutClauses}
 use Rattle.bg_check.specs.declared.verdict.Cause.{Cause}
 use Rattle.bg_check.specs.declared.verdict.Cause.TheVariants.{Search, Form, Replay}
 use Rattle.bg_check.specs.declared.verdict.Verdict.{Verdict}
@@ -45,10 +46,10 @@ pub record HasCertificate (p : Prog) (set : ℕ → Bool) (t : Place) (nodes : L
   pub is : HasClauses p t formula
   pub accepted : Accepts formula set no_instance (map node_of nodes)
 
--- this is why they are left unknown within the budget
+-- this is why clauses of the place, of which no more is left than counts for it, are left unknown within the budget
 pub record HasWhy (p : Prog) (set : ℕ → Bool) (t : Place) (budget : Budget) (why : Why) : Type 0 where
   pub formula : Formula
-  pub is : HasClauses p t formula
+  pub is : HasCutClauses p t formula
   pub cause : IsCause formula set budget why
 
 -- there are no clauses of the place: an operation of a relation's linear form, which counts for the place, leaves the range

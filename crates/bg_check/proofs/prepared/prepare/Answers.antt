@@ -9,9 +9,11 @@ use Rattle.bg_block_types.specs.Typed.{passives_in}
 use Rattle.bg_linear.specs.declared.scalar.Sort.{Sort}
 use Rattle.bg_formed.specs.Views.{blocks_of}
 use Rattle.bg_atoms.specs.Refusals.{BlocksRefusals}
+use Rattle.bg_atoms.specs.Sources.{AreFrom}
+use Rattle.bg_atoms.specs.Made.{rows_in}
 use Rattle.bg_incarnate.specs.Views.{passive_block_of}
 use Rattle.bg_check.specs.Prepared.{encoding_of}
-use Rattle.bg_check.proofs.Prepares.{there, many, passives_made, sorted_here, encodes, made_here, encodes_some, refusals_some}
+use Rattle.bg_check.proofs.Prepares.{there, many, passives_made, sorted_here, encodes, made_here, encodes_some, refusals_some, sources_some}
 use Rattle.bg_check.proofs.prepared.prepare.Goals as goal
 
 pub unreachable-requires : goal.unreachable-requires
@@ -51,6 +53,9 @@ returns c =
     let refusals = refusals_some c.deref-4.result.now (map passive_block_of c.deref-5.result.now) c.in_ok-atoms.field-0 c.in-Some.atoms c.in-Some.is c.in_ok-atoms.ensures.refusals in
     let R : List Sort → Type 0 = λ ss. BlocksRefusals ss (passives_in (meaning_of p) c.args.number (mean.impl_of (named_of p.types) t.implementation) (mean.proc_of (named_of p.types) t.procedure)) (blocks_of c.in-Some.atoms.blocks) in
     let B : List PassiveBlock → Type 0 = λ bs. BlocksRefusals c.deref-4.result.now bs (blocks_of c.in-Some.atoms.blocks) in
+    let sources = sources_some c.deref-4.result.now (map passive_block_of c.deref-5.result.now) c.in_ok-atoms.field-0 c.in-Some.atoms c.in-Some.is c.in_ok-atoms.ensures.sources in
+    let S : List Sort → Type 0 = λ ss. AreFrom ss (passives_in (meaning_of p) c.args.number (mean.impl_of (named_of p.types) t.implementation) (mean.proc_of (named_of p.types) t.procedure)) (rows_in c.in-Some.atoms.rows) in
+    let F : List PassiveBlock → Type 0 = λ bs. AreFrom c.deref-4.result.now bs (rows_in c.in-Some.atoms.rows) in
     let declared = many p c.args.number t.implementation t.procedure t.impl_there t.proc_there c.in_ok-frame.frame.items frame in
     record {
       implementation = t.implementation;
@@ -63,4 +68,5 @@ returns c =
       sorts = x.1;
       encoding = encodes p c.args.number t.implementation t.procedure t.impl_there t.proc_there evens c.requires.typed c.requires.scalars c.in_ok-blocks.blocks.items made c.deref-4.result.now c.in_ok-candidates.candidates (map passive_block_of c.deref-5.result.now) (encoding_of c.in-Some.atoms) sorts c.in_ok-candidates.ensures passives whole;
       refusals = subst R c.deref-4.ensures.value (subst B passives refusals);
+      sources = subst S c.deref-4.ensures.value (subst F passives sources);
     }

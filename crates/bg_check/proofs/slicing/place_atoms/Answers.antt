@@ -1,4 +1,4 @@
-use Rattle.std.proofs.Common.{◌≡◌, ◌+◌, map, ap, ◌∙◌, arith}
+use Rattle.std.proofs.Common.{◌≡◌, refl, ◌+◌, map, ap, ◌∙◌, arith}
 use Rattle.bg_ast.specs.Meaning.{meaning_of}
 use Rattle.bg_ast.specs.Views.{program_of}
 use Rattle.bg_places.specs.Views.{spot_of}
@@ -30,5 +30,6 @@ returns c =
     ∙ ap (λ l. sliced_rows c.in-Some.base (sliced t a.blocks) (map view_linear l)) c.deref.ensures.value) in
     record {
       encoding = λ h. slice_encodes c.slices_are_below.ensures c.slices_have_rows.ensures.are_rows c.slices_have_rows.ensures.agree c.slices_have_rows.ensures.below c.slices_have_rows.ensures.count c.slices_say_the_same.ensures (sorts_in (meaning_of p) k (impl p k w h) (proc p k w h)) (meaning_of p).candidates (passives_in (meaning_of p) k (impl p k w h) (proc p k w h)) a h.encoding t (map view_linear made.rows.items) (blocks_of made.blocks) c.in-Some.base blocks base rows;
+      cut = record { first = refl; terms = refl; rows = rows ∙ ap (λ n. sliced_rows n (sliced t a.blocks) a.rows) base; blocks = blocks };
       refusals = ap (refused t) blocks ∙ c.slices_use_alike.ensures t a.blocks;
     }
