@@ -56,11 +56,24 @@ pub fn settle(alloc: Global, f: &Clauses, trail: &Trail, budget: u32) -> Result<
     }
 }
 
-/// Whether one of the decisions from a place on is a row.
+/// Whether a row isn't always true by itself.
+fn tells(row: &Row) -> bool {
+    !row.entries.is_empty() || row.bound < 0
+}
+
+/// Whether an atom with this sign is a row that isn't always true by itself.
+fn is_telling(f: &Clauses, a: usize, sign: bool) -> bool {
+    match f.atoms.get(a) {
+        Some(Atom::Holds(both)) => tells(if sign { &both.row } else { &both.denial }),
+        _ => false,
+    }
+}
+
+/// Whether one of the decisions from a place on is a row that isn't always true by itself.
 fn any_row_from(f: &Clauses, trail: &Trail, from: usize) -> bool {
     for n in from..trail.decisions.len() {
-        if let Decision::Atom(a, _) = trail.decisions[n] {
-            if let Some(Atom::Holds(_)) = f.atoms.get(a) {
+        if let Decision::Atom(a, sign) = trail.decisions[n] {
+            if is_telling(f, a, sign) {
                 return true;
             }
         }
