@@ -40,7 +40,8 @@ fn count(sorts: &[Sort]) -> Result<u32, AllocError>
 ///
 /// A relation of numbers is a literal of its row's atom, or of that of the row which it denies; `==` is the conjunction of its two
 /// rows' literals, and `!=` its denial. Each row is one of such a relation in some command. A command of which a relation leaves 128
-/// bits says `Outside` with the first operation that does so, from left to right. 2^32 atoms or incarnations count as want of memory.
+/// bits says `Outside` with the first operation that does so in some such relation; of several relations it is the first one's in the
+/// text, which no clause says. 2^32 atoms or incarnations count as want of memory.
 pub fn atoms(
     alloc: Global,
     sorts: &[Sort],
