@@ -12,82 +12,10 @@ use Rattle.std.proofs.lemmas.Map.Lookups.{exact_unsigned, exact_signed, exact_pa
 use Rattle.bg_rows.specs.declared.entry.Entry.{Entry}
 use Rattle.bg_rows.specs.Rows.{RowOf}
 use Rattle.bg_rows.specs.Steps.{row_at}
-use Rattle.bg_elim.specs.Keys.{pair_cmp, key_cmp, pairs_of, key_of, place_of}
+use Rattle.bg_keys.specs.Keys.{KeyOf, key_cmp, key_of}
+use Rattle.bg_keys.proofs.Keyed.{key_is, key_same, row_from_key}
+use Rattle.bg_elim.specs.Keys.{place_of}
 use Rattle.bg_elim.specs.Kept.{entries_eq, row_eq, is_new}
-
--- ---- keys that compare equal are equal
-
-first_equal : (o p : Ordering) → is_eq (ordering_then o p) ≡ true → (o ≡ Equal) × (is_eq p ≡ true)
-first_equal Less p h = absurd (cc)
-first_equal Equal p h = (refl, h)
-first_equal Greater p h = absurd (cc)
-
-equal_is : (o : Ordering) → is_eq o ≡ true → o ≡ Equal
-equal_is Less h = absurd (cc)
-equal_is Equal h = refl
-equal_is Greater h = absurd (cc)
-
-pair_is : (p q : ℕ × ℤ) → pair_cmp p q ≡ Equal → p ≡ q
-pair_is p q h = exact_pairs nat_cmp int_cmp exact_unsigned exact_signed p q h
-
-list_is : (xs ys : List (ℕ × ℤ)) → is_eq (slice_cmp pair_cmp xs ys) ≡ true → xs ≡ ys
-list_is [] [] h = refl
-list_is [] (y ∷ ys) h = absurd (cc)
-list_is (x ∷ xs) [] h = absurd (cc)
-list_is (x ∷ xs) (y ∷ ys) h =
-    let e = first_equal (pair_cmp x y) (slice_cmp pair_cmp xs ys) h in
-    let a = pair_is x y e.0 in
-    let b = list_is xs ys e.1 in
-    cc
-
-pub key_is : (x y : List (ℕ × ℤ) × ℤ) → is_eq (key_cmp x y) ≡ true → x ≡ y
-key_is x y h =
-    let e = first_equal (slice_cmp pair_cmp x.0 y.0) (int_cmp x.1 y.1) h in
-    let a = list_is x.0 y.0 (ap is_eq e.0) in
-    let b = exact_signed x.1 y.1 (equal_is (int_cmp x.1 y.1) e.1) in
-    ap (λ z. (z, x.1)) a ∙ ap (λ z. (y.0, z)) b
-
--- ---- and the other way round
-
-reversed : (o : Ordering) → o ≡ ordering_reverse o → o ≡ Equal
-reversed Less h = absurd (cc)
-reversed Equal h = refl
-reversed Greater h = absurd (cc)
-
-nat_same : (n : ℕ) → nat_cmp n n ≡ Equal
-nat_same n = reversed (nat_cmp n n) (nat_cmp_total.antisymm n n)
-
-int_same : (z : ℤ) → int_cmp z z ≡ Equal
-int_same z = reversed (int_cmp z z) (int_cmp_total.antisymm z z)
-
-pairs_same : (xs : List (ℕ × ℤ)) → slice_cmp pair_cmp xs xs ≡ Equal
-pairs_same [] = refl
-pairs_same (x ∷ xs) = rw (nat_same x.0, int_same x.1) (pairs_same xs)
-
-pub key_same : (x : List (ℕ × ℤ) × ℤ) → is_eq (key_cmp x x) ≡ true
-key_same x = rw (pairs_same x.0) (rw (int_same x.1) refl)
-
--- ---- rows by their keys
-
-entries_from_pairs : (ts us : List Entry) → pairs_of ts ≡ pairs_of us → ts ≡ us
-entries_from_pairs [] [] h = refl
-entries_from_pairs [] (u ∷ us) h = absurd (cc)
-entries_from_pairs (t ∷ ts) [] h = absurd (cc)
-entries_from_pairs (t ∷ ts) (u ∷ us) h =
-    let p : ℕ × ℤ = (t.variable, t.by) in
-    let q : ℕ × ℤ = (u.variable, u.by) in
-    let a : p ≡ q = cc in
-    let x : t.variable ≡ u.variable = ap (λ (z : ℕ × ℤ). z.0) a in
-    let y : t.by ≡ u.by = ap (λ (z : ℕ × ℤ). z.1) a in
-    let e : t ≡ u = ap (λ (z : ℕ). record { variable = z; by = t.by }) x ∙ ap (λ (z : ℤ). record { variable = u.variable; by = z }) y in
-    let b = entries_from_pairs ts us (cc) in
-    ap (λ z. z ∷ ts) e ∙ ap (λ z. u ∷ z) b
-
-pub row_from_key : (r s : RowOf) → key_of r ≡ key_of s → r ≡ s
-row_from_key r s h =
-    let a = entries_from_pairs r.entries s.entries (ap (λ k. k.0) h) in
-    let b : r.bound ≡ s.bound = ap (λ k. k.1) h in
-    ap (λ (z : List Entry). record { entries = z; bound = r.bound }) a ∙ ap (λ (z : ℤ). record { entries = s.entries; bound = z }) b
 
 pub found_from : (r : RowOf) (n i : ℕ) (rows : List RowOf) → place_of (key_of r) n rows ≡ Some i → (j : ℕ) × (i ≡ n + j) × (row_at rows j ≡ Some r)
 found_from r n i [] h = absurd (cc)
@@ -126,7 +54,7 @@ new_test r s n rows false f e g = and_from (not (row_eq s r)) _ (differs (row_eq
     differs : (b : Bool) → row_eq s r ≡ b → not b ≡ true
     differs true g =
         let same : key_of r ≡ key_of s = ap key_of (sym (row_eq_is s r g)) in
-        let f : is_eq (key_cmp (key_of r) (key_of s)) ≡ true = subst (λ (k : List (ℕ × ℤ) × ℤ). is_eq (key_cmp k (key_of s)) ≡ true) (sym same) (key_same (key_of s)) in
+        let f : is_eq (key_cmp (key_of r) (key_of s)) ≡ true = subst (λ (k : KeyOf). is_eq (key_cmp k (key_of s)) ≡ true) (sym same) (key_same (key_of s)) in
         absurd (cc)
     differs false g = refl
 
@@ -140,7 +68,7 @@ abbrev pub or_last : Option ℕ → Bool → ℕ → Option ℕ
 or_last None b n = cond b (Some n) None
 or_last (Some i) b n = Some i
 
-pub place_last : (k : List (ℕ × ℤ) × ℤ) (n : ℕ) (rows : List RowOf) (r : RowOf) → place_of k n (rows ++ (r ∷ [])) ≡ or_last (place_of k n rows) (is_eq (key_cmp k (key_of r))) (n + length rows)
+pub place_last : (k : KeyOf) (n : ℕ) (rows : List RowOf) (r : RowOf) → place_of k n (rows ++ (r ∷ [])) ≡ or_last (place_of k n rows) (is_eq (key_cmp k (key_of r))) (n + length rows)
 place_last k n [] r = elim (is_eq (key_cmp k (key_of r))) as (λ b. cond b (Some n) None ≡ cond b (Some (n + 0)) None) [ true ↦ ap Some (omega arith) | false ↦ refl ]
 place_last k n (s ∷ rows) r = by_test (place_last k (suc n) rows r) (is_eq (key_cmp k (key_of s)))
   where
@@ -149,21 +77,21 @@ place_last k n (s ∷ rows) r = by_test (place_last k (suc n) rows r) (is_eq (ke
     by_test h false = h ∙ ap (or_last (place_of k (suc n) rows) (is_eq (key_cmp k (key_of r)))) (omega arith)
 
 -- a key that was put in is found at its row; each other one where it was
-pub place_put : (k q : List (ℕ × ℤ) × ℤ) (r : RowOf) (rows : List RowOf) (old new : Option ℕ) (m : ℕ) → m ≡ length rows → k ≡ key_of r → place_of (key_of r) 0 rows ≡ None → old ≡ place_of q 0 rows → new ≡ cond (is_eq (key_cmp k q)) (Some m) old → new ≡ place_of q 0 (rows ++ (r ∷ []))
+pub place_put : (k q : KeyOf) (r : RowOf) (rows : List RowOf) (old new : Option ℕ) (m : ℕ) → m ≡ length rows → k ≡ key_of r → place_of (key_of r) 0 rows ≡ None → old ≡ place_of q 0 rows → new ≡ cond (is_eq (key_cmp k q)) (Some m) old → new ≡ place_of q 0 (rows ++ (r ∷ []))
 place_put k q r rows old new m len e none o h = h ∙ (by_test (is_eq (key_cmp k q)) refl (is_eq (key_cmp q (key_of r))) refl ∙ sym (place_last q 0 rows r))
   where
     by_test : (b : Bool) → is_eq (key_cmp k q) ≡ b → (d : Bool) → is_eq (key_cmp q (key_of r)) ≡ d → cond b (Some m) old ≡ or_last (place_of q 0 rows) d (0 + length rows)
     by_test true f true g =
         let same : key_of r ≡ q = sym e ∙ key_is k q f in
-        let p : place_of q 0 rows ≡ None = subst (λ (z : List (ℕ × ℤ) × ℤ). place_of z 0 rows ≡ None) same none in
+        let p : place_of q 0 rows ≡ None = subst (λ (z : KeyOf). place_of z 0 rows ≡ None) same none in
         rw p (ap Some (omega arith))
     by_test true f false g =
         let same : q ≡ key_of r = sym (key_is k q f) ∙ e in
-        let p : is_eq (key_cmp q (key_of r)) ≡ true = subst (λ (z : List (ℕ × ℤ) × ℤ). is_eq (key_cmp q z) ≡ true) same (key_same q) in
+        let p : is_eq (key_cmp q (key_of r)) ≡ true = subst (λ (z : KeyOf). is_eq (key_cmp q z) ≡ true) same (key_same q) in
         absurd (cc)
     by_test false f true g =
         let same : q ≡ k = key_is q (key_of r) g ∙ sym e in
-        let p : is_eq (key_cmp k q) ≡ true = subst (λ (z : List (ℕ × ℤ) × ℤ). is_eq (key_cmp k z) ≡ true) (sym same) (key_same k) in
+        let p : is_eq (key_cmp k q) ≡ true = subst (λ (z : KeyOf). is_eq (key_cmp k z) ≡ true) (sym same) (key_same k) in
         absurd (cc)
     by_test false f false g = o ∙ still (place_of q 0 rows)
       where

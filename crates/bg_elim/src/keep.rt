@@ -1,33 +1,15 @@
 //! Rows are kept once.
 ghost use Rattle.std.specs.Prelude.{◌≡◌, ◌≤◌, IfOk, OnOk, length, None, option_copied};
-ghost use Rattle.std.specs.BTreeMap.{get_by};
 ghost use Rattle.bg_rows.specs.Rows.{row_of};
-ghost use Rattle.bg_elim.specs.Keys.{key_cmp, key_of, pairs_of, place_of};
+ghost use Rattle.bg_keys.specs.Keys.{key_of};
+ghost use Rattle.bg_elim.specs.Keys.{place_of};
 ghost use Rattle.bg_elim.specs.Work.{work_of, with_row, IsIndexed, KeptAs, IsPlace};
 
 use crate::order::Reason;
-use crate::work::{Key, Work};
-use bg_rows::{Entry, Row};
+use crate::work::Work;
+use bg_keys::{Key, key};
+use bg_rows::Row;
 use std::alloc::{AllocError, Global};
-
-/// The variables with their coefficients.
-fn pairs(alloc: Global, entries: &[Entry]) -> Result<Vec<(u32, i128)>, AllocError>
-    ensures { IfOk result (λ v. v.items ≡ pairs_of entries.now) }
-{
-    let mut made = Vec::new(alloc);
-    for t in entries {
-        made.push((t.variable, t.by))?;
-    }
-    Ok(made)
-}
-
-/// The key of a row.
-pub fn key(alloc: Global, row: &Row) -> Result<Key, AllocError>
-    ensures { IfOk result (λ k. (k.0.items, k.1) ≡ key_of (row_of row.now)) }
-{
-    let entries = pairs(alloc, &row.entries)?;
-    Ok((entries, row.bound))
-}
 
 /// The number of the row with this key, if it is kept.
 fn find(work: &Work, key: &Key) -> Option<usize>

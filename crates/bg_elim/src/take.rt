@@ -6,9 +6,10 @@ ghost use Rattle.bg_elim.specs.declared.work.Taken.TheVariants.{Done};
 ghost use Rattle.bg_elim.specs.Kept.{entries_eq};
 ghost use Rattle.bg_elim.specs.Work.{work_of, Extends, IsIndexed, StaysSound, IsTaken, IsThere, IsImplied};
 
-use crate::keep::{keep, key};
+use crate::keep::keep;
 use crate::order::Reason;
 use crate::work::{Taken, Work};
+use bg_keys::key;
 use bg_rows::{Entry, Row, copy, is_false, tighten};
 use std::alloc::{AllocError, Global};
 

@@ -2,11 +2,9 @@
 
 use crate::order::{Further, Reason};
 use bg_base::OutOfRange;
+use bg_keys::Key;
 use bg_rows::Row;
 use std::collections::BTreeMap;
-
-/// A row as a key: its variables with their coefficients, and its bound.
-pub type Key = (Vec<(u32, i128)>, i128);
 
 /// The variables done, the kept rows with their reasons, where each row is found by its key, and
 /// the numbers of the rows that are still to be paired.
