@@ -19,7 +19,7 @@ adds_as P Q xs ys f h r c = ⊎_elim inl (λ p. inr (f r p)) (h r c)
 pub adds_both : (P Q W : AtomOf → Type 0) (xs ys zs : List AtomOf) → ((r : AtomOf) → P r → W r) → ((r : AtomOf) → Q r → W r) → Adds P xs ys → Adds Q ys zs → Adds W xs zs
 adds_both P Q W xs ys zs f g h k = adds_on W xs ys zs (adds_as P W xs ys f h) (adds_as Q W ys zs g k)
 
-pushed : (xs ys : List Linear) (a : Linear) → ys ≡ xs ++ a ∷ [] → map view_linear ys ≡ map view_linear xs ++ view_linear a ∷ []
+pub pushed : (xs ys : List Linear) (a : Linear) → ys ≡ xs ++ a ∷ [] → map view_linear ys ≡ map view_linear xs ++ view_linear a ∷ []
 pushed xs ys a h = ap (map view_linear) h ∙ map-append view_linear xs (a ∷ [])
 
 pub adds_push : (xs ys : List Linear) (a : Linear) → ys ≡ xs ++ a ∷ [] → Adds (Contains (view_linear a ∷ [])) (map view_linear xs) (map view_linear ys)

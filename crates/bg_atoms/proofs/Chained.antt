@@ -1,6 +1,7 @@
 -- Chains of truths over atoms, and how what is known of operands is known of a chain.
 use Rattle.std.proofs.Common.{◌≡◌, ◌+◌, ℕ, Bool, true, false, not, List, [], ◌∷◌, ◌++◌, length, map, Option, Some, None, refl, sym, ap, ◌∙◌, subst, Vec, Box, Global}
-use Rattle.std.specs.Prelude.{◌&&◌}
+use Rattle.std.specs.Prelude.{◌&&◌, if◌then◌else◌}
+use Rattle.bg_base.specs.declared.exact.OutOfRange.{OutOfRange}
 use Rattle.bg_base.specs.declared.pos.Pos.{Pos}
 use Rattle.bg_text.specs.declared.expr.InfixSign.{InfixSign}
 use Rattle.bg_text.specs.declared.expr.InfixSign.TheVariants as op
@@ -19,15 +20,18 @@ use Rattle.bg_ast.proofs.Lists as z
 use Rattle.bg_sense.specs.Eval.{ev, operate}
 use Rattle.bg_formula.specs.Atoms.{AtomOf}
 use Rattle.bg_forms.specs.Fitting.{fits_ex, joins_truths}
+use Rattle.bg_formed.specs.Used.{first_of}
 use Rattle.bg_formed.proofs.Below.{and_left, and_right, and_both}
 use Rattle.bg_linear.specs.declared.scalar.Sort.{Sort}
 use Rattle.bg_linear.specs.declared.scalar.Kind.{Kind}
 use Rattle.bg_linear.specs.declared.scalar.Kind.TheVariants as kind
-use Rattle.bg_linear.specs.Relations.{relates, op_of}
+use Rattle.bg_linear.specs.Relations.{relates, relation, op_of}
 use Rattle.bg_linear.specs.Chains.{is_implies}
 use Rattle.bg_linear.specs.Sorts.{kind_ex, is_truth, is_number, number_only, truth_if, both_truths, related_kind, equal_kind, sum_kind, product_kind}
 use Rattle.bg_linear.proofs.Sides.{no_truth, no_equal, sum_numbers, product_numbers}
 use Rattle.bg_atoms.specs.Kinds.{IsTruth}
+use Rattle.bg_atoms.specs.Orders.{before_sign, behind_sign}
+use Rattle.bg_atoms.specs.Over.{relates_numbers, relation_ex, over, refusal, first_refused}
 use Rattle.bg_atoms.specs.Worlds.{Means}
 use Rattle.bg_atoms.specs.Parts.{HasRelation, on_left, on_right, denied}
 
@@ -272,22 +276,47 @@ module _ (sorts : List Sort) where
   infix_right op.Minus i a e t w = absurd (no_sum (kind_ex sorts a) (kind_ex sorts e) w)
   infix_right op.Times i a e t w = absurd (no_product (kind_ex sorts a) (kind_ex sorts e) w)
 
+-- ---- what relates no numbers goes into its parts
+
+and_no : (p q r : Bool) → (q ≡ true → ⊥) → (p && (q && r)) ≡ false
+and_no true true r h = absurd (h refl)
+and_no true false r h = refl
+and_no false q r h = refl
+
+none_both : (o p : Option OutOfRange) → first_of o p ≡ None → (o ≡ None) × (p ≡ None)
+none_both None p h = (refl, h)
+none_both (Some x) p h = absurd (let bad : ⊥ = cc in bad)
+
+no_numbers : (sorts : List Sort) (o : s.Op) (a b : s.Ex) → NoNumber sorts a → relates_numbers sorts o a b ≡ false
+no_numbers sorts o a b h = and_no (relates o) (is_number (kind_ex sorts a)) (is_number (kind_ex sorts b)) h
+
+over_parts : (sorts : List Sort) (n : ℕ) (rows : List AtomOf) (o : s.Op) (a b : s.Ex) → relates_numbers sorts o a b ≡ false → over sorts n rows (s.Binary o a b) ≡ s.Binary o (over sorts n rows a) (over sorts n rows b)
+over_parts sorts n rows o a b h =
+    ap (λ c. if c then relation_ex n rows o (relation o a b) else s.Binary o (over sorts n rows a) (over sorts n rows b)) h
+
+first_parts : (sorts : List Sort) (o : s.Op) (a b : s.Ex) → relates_numbers sorts o a b ≡ false → first_refused sorts (s.Binary o a b) ≡ first_of (first_refused sorts a) (first_refused sorts b)
+first_parts sorts o a b h =
+    ap (λ c. if c then refusal (relation o a b) else first_of (first_refused sorts a) (first_refused sorts b)) h
+
 module _ (sorts : List Sort) (n : ℕ) (rows : List AtomOf) where
-  binary_means : (o : s.Op) (a b x y : s.Ex) → joins_truths o ≡ true → Means sorts n rows a x → Means sorts n rows b y → Means sorts n rows (s.Binary o a b) (s.Binary o x y)
-  binary_means o a b x y j h k =
+  binary_means : (o : s.Op) (a b x y : s.Ex) → joins_truths o ≡ true → relates_numbers sorts o a b ≡ false → Means sorts n rows a x → Means sorts n rows b y → Means sorts n rows (s.Binary o a b) (s.Binary o x y)
+  binary_means o a b x y j apart h k =
       record {
         fits = and_both (joins_truths o) _ j (and_both (fits_ex (n + length rows) x) (fits_ex (n + length rows) y) h.fits k.fits);
-        same = λ w g held. ap (λ v. operate o v (ev y w.atoms)) (h.same w g held) ∙ ap (λ v. operate o (ev a w.scope) v) (k.same w g held);
+        exact = ap (λ z. s.Binary o z y) h.exact ∙ ap (λ z. s.Binary o (over sorts n rows a) z) k.exact ∙ sym (over_parts sorts n rows o a b apart);
+        same = λ fine w g held.
+            let both = none_both (first_refused sorts a) (first_refused sorts b) (sym (first_parts sorts o a b apart) ∙ fine) in
+            ap (λ v. operate o v (ev y w.atoms)) (h.same both.0 w g held) ∙ ap (λ v. operate o (ev a w.scope) v) (k.same both.1 w g held);
       }
 
   infix_means : (sign : InfixSign) → is_implies sign ≡ false → (a e x y : s.Ex) → IsTruth sorts a → IsTruth sorts (m.infix_of sign a e) → Means sorts n rows a x → Means sorts n rows e y → Means sorts n rows (m.infix_of sign a e) (m.infix_of sign x y)
-  infix_means op.Iff i a e x y t w h k = binary_means s.Iff a e x y refl h k
+  infix_means op.Iff i a e x y t w h k = binary_means s.Iff a e x y refl refl h k
   infix_means op.Implies i a e x y t w h k = absurd (let bad : ⊥ = cc in bad)
-  infix_means op.Explies i a e x y t w h k = binary_means s.Implies e a y x refl k h
-  infix_means op.And i a e x y t w h k = binary_means s.And a e x y refl h k
-  infix_means op.Or i a e x y t w h k = binary_means s.Or a e x y refl h k
-  infix_means op.Equal i a e x y t w h k = binary_means s.Equal a e x y refl h k
-  infix_means op.Unequal i a e x y t w h k = binary_means s.Unequal a e x y refl h k
+  infix_means op.Explies i a e x y t w h k = binary_means s.Implies e a y x refl refl k h
+  infix_means op.And i a e x y t w h k = binary_means s.And a e x y refl refl h k
+  infix_means op.Or i a e x y t w h k = binary_means s.Or a e x y refl refl h k
+  infix_means op.Equal i a e x y t w h k = binary_means s.Equal a e x y refl (no_numbers sorts s.Equal a e (truth_other sorts a t)) h k
+  infix_means op.Unequal i a e x y t w h k = binary_means s.Unequal a e x y refl (no_numbers sorts s.Unequal a e (truth_other sorts a t)) h k
   infix_means op.Less i a e x y t w h k = absurd (truth_other sorts a t (two_numbers (kind_ex sorts a) (kind_ex sorts e) w).0)
   infix_means op.AtMost i a e x y t w h k = absurd (truth_other sorts a t (two_numbers (kind_ex sorts a) (kind_ex sorts e) w).0)
   infix_means op.Greater i a e x y t w h k = absurd (truth_other sorts a t (two_numbers (kind_ex sorts a) (kind_ex sorts e) w).0)
@@ -308,10 +337,63 @@ module _ (sorts : List Sort) (n : ℕ) (rows : List AtomOf) where
 
   -- an implication, whose right side is a chain
   pub implies_means : (a x b y : s.Ex) → Means sorts n rows a x → Means sorts n rows b y → Means sorts n rows (s.Binary s.Implies a b) (s.Binary s.Implies x y)
-  implies_means a x b y h k = binary_means s.Implies a b x y refl h k
+  implies_means a x b y h k = binary_means s.Implies a b x y refl refl h k
 
   not_means : (a x : s.Ex) → Means sorts n rows a x → Means sorts n rows (s.Not a) (s.Not x)
-  not_means a x h = record { fits = h.fits; same = λ w g held. ap (λ v. Truth (not (truth_of v))) (h.same w g held) }
+  not_means a x h =
+      record {
+        fits = h.fits;
+        exact = ap s.Not h.exact;
+        same = λ fine w g held. ap (λ v. Truth (not (truth_of v))) (h.same fine w g held);
+      }
+
+-- ---- refusals in a chain
+
+module _ (sorts : List Sort) where
+  infix_refused : (sign : InfixSign) → is_implies sign ≡ false → (a e : s.Ex) → IsTruth sorts a → first_refused sorts (m.infix_of sign a e) ≡ behind_sign sign (first_refused sorts a) (first_refused sorts e)
+  infix_refused op.Iff i a e t = refl
+  infix_refused op.Implies i a e t = absurd (let bad : ⊥ = cc in bad)
+  infix_refused op.Explies i a e t = refl
+  infix_refused op.And i a e t = refl
+  infix_refused op.Or i a e t = refl
+  infix_refused op.Equal i a e t = first_parts sorts s.Equal a e (no_numbers sorts s.Equal a e (truth_other sorts a t))
+  infix_refused op.Unequal i a e t = first_parts sorts s.Unequal a e (no_numbers sorts s.Unequal a e (truth_other sorts a t))
+  infix_refused op.Less i a e t = first_parts sorts s.Less a e (no_numbers sorts s.Less a e (truth_other sorts a t))
+  infix_refused op.AtMost i a e t = first_parts sorts s.AtMost a e (no_numbers sorts s.AtMost a e (truth_other sorts a t))
+  infix_refused op.Greater i a e t = first_parts sorts s.Greater a e (no_numbers sorts s.Greater a e (truth_other sorts a t))
+  infix_refused op.AtLeast i a e t = first_parts sorts s.AtLeast a e (no_numbers sorts s.AtLeast a e (truth_other sorts a t))
+  infix_refused op.Plus i a e t = refl
+  infix_refused op.Minus i a e t = refl
+  infix_refused op.Times i a e t = refl
+
+  -- a sign that begins no chain leaves what stands before it
+  pub before_left : (sign : InfixSign) → is_implies sign ≡ false → (before here : Option OutOfRange) → before_sign sign before here ≡ before
+  before_left op.Iff i before here = refl
+  before_left op.Implies i before here = absurd (let bad : ⊥ = cc in bad)
+  before_left op.Explies i before here = refl
+  before_left op.And i before here = refl
+  before_left op.Or i before here = refl
+  before_left op.Equal i before here = refl
+  before_left op.Unequal i before here = refl
+  before_left op.Less i before here = refl
+  before_left op.AtMost i before here = refl
+  before_left op.Greater i before here = refl
+  before_left op.AtLeast i before here = refl
+  before_left op.Plus i before here = refl
+  before_left op.Minus i before here = refl
+  before_left op.Times i before here = refl
+
+  abbrev pub RefusesIn : Option OutOfRange → r.Links → Option OutOfRange → Type 0
+  RefusesIn first ls all =
+      (b : s.Ex) → IsTruth sorts b → IsTruth sorts (m.chained b ls) → first_refused sorts b ≡ first → first_refused sorts (m.chained b ls) ≡ all
+
+  -- one more operand behind truths
+  pub step_refused : (sign : InfixSign) → is_implies sign ≡ false → (p : Pos) (e : r.Ex) (ls : r.Links) (here operand all : Option OutOfRange) → (IsTruth sorts (m.ex_of e) → first_refused sorts (m.ex_of e) ≡ operand) → RefusesIn (behind_sign sign here operand) ls all → RefusesIn here (r.Link p sign e ls) all
+  step_refused sign i p e ls here operand all k rest a t w is =
+      let both = infix_truth sorts sign i p e ls a t w in
+      let right = k (infix_right sorts sign i a (m.ex_of e) t both) in
+      let made = infix_refused sign i a (m.ex_of e) t ∙ ap (λ x. behind_sign sign x (first_refused sorts (m.ex_of e))) is ∙ ap (λ x. behind_sign sign here x) right in
+      ap (first_refused sorts) (next_is sign i p e ls a) ∙ rest (m.infix_of sign a (m.ex_of e)) both (subst (IsTruth sorts) (next_is sign i p e ls a) w) made
 
 -- ---- relations in a chain
 
@@ -377,6 +459,12 @@ signed_means sorts n rows [] a x t h = h
 signed_means sorts n rows (y ∷ xs) a x t h =
     let k = prefix_truth sorts y.sign (m.signed xs a) t in
     subst (λ g. Means sorts n rows (m.prefix_of g (m.signed xs a)) (m.prefix_of g (m.signed xs x))) (sym k.0) (not_means sorts n rows (m.signed xs a) (m.signed xs x) (signed_means sorts n rows xs a x k.1 h))
+
+pub signed_refused : (sorts : List Sort) (xs : List TreePrefix) (a : s.Ex) → is_truth (kind_ex sorts (m.signed xs a)) ≡ true → first_refused sorts (m.signed xs a) ≡ first_refused sorts a
+signed_refused sorts [] a t = refl
+signed_refused sorts (y ∷ xs) a t =
+    let k = prefix_truth sorts y.sign (m.signed xs a) t in
+    ap (λ g. first_refused sorts (m.prefix_of g (m.signed xs a))) k.0 ∙ signed_refused sorts xs a k.1
 
 pub signed_has : (sorts : List Sort) (P : s.Op → s.Ex → s.Ex → Type 0) (xs : List TreePrefix) (a : s.Ex) → is_truth (kind_ex sorts (m.signed xs a)) ≡ true → HasRelation sorts P a → HasRelation sorts P (m.signed xs a)
 signed_has sorts P [] a t h = h

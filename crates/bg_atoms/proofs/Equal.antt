@@ -1,5 +1,5 @@
 -- Rows that are equal.
-use Rattle.std.proofs.Common.{◌≡◌, ℕ, suc, Bool, true, false, List, [], ◌∷◌, length, ℤ, refl, ap, arith}
+use Rattle.std.proofs.Common.{◌≡◌, ℕ, true, List, [], ◌∷◌, ℤ, refl, arith}
 use Rattle.std.specs.Prelude.{◌&&◌, ◌==◌}
 use Rattle.std.specs.Ordering.{int_eq}
 use Rattle.std.proofs.lemmas.Int.{ints}
@@ -8,17 +8,6 @@ use Rattle.bg_rows.specs.declared.entry.Entry.{Entry}
 use Rattle.bg_rows.specs.Rows.{RowOf}
 use Rattle.bg_formula.specs.Atoms.{entries_eq, row_eq}
 use Rattle.bg_formed.proofs.Below.{and_left, and_right}
-
-pub unequal : (a b : List Entry) → (length a ≡ length b → ⊥) → false ≡ entries_eq a b
-unequal [] [] h = absurd (h refl)
-unequal [] (u ∷ us) h = refl
-unequal (t ∷ ts) [] h = refl
-unequal (t ∷ ts) (u ∷ us) h = by_tests (t.variable == u.variable) (int_eq t.by u.by) (unequal ts us (λ e. h (ap suc e)))
-  where
-    by_tests : (a b : Bool) → false ≡ entries_eq ts us → false ≡ (a && (b && entries_eq ts us))
-    by_tests true true g = g
-    by_tests true false g = refl
-    by_tests false b g = refl
 
 same_number : (x y : ℕ) → (x == y) ≡ true → x ≡ y
 same_number x y h = grind (arith, nat_tests)

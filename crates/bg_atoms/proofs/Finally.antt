@@ -13,13 +13,15 @@ use Rattle.bg_formed.specs.Said.{SaidCmds, SaidEdges, SaidBlocks}
 use Rattle.bg_formed.proofs.Below.{and_left, and_right, and_both}
 use Rattle.bg_linear.specs.declared.scalar.Sort.{Sort}
 use Rattle.bg_linear.specs.Sorts.{kind_ex, is_truth, HoldScalars}
-use Rattle.bg_atoms.specs.Pairs.{Pairs}
+use Rattle.bg_atoms.specs.declared.table.Table.{Table}
 use Rattle.bg_atoms.specs.Ranks.{rank}
-use Rattle.bg_atoms.specs.Worlds.{Begins, Grows}
+use Rattle.bg_atoms.specs.Encoded.{cmd_over, edge_over, blocks_over}
+use Rattle.bg_atoms.specs.Worlds.{Begins}
+use Rattle.bg_atoms.specs.Made.{rows_in}
+use Rattle.bg_atoms.specs.Growing.{Grows}
 use Rattle.bg_atoms.specs.Sorted.{cmds_sorted, edges_sorted, blocks_sorted}
 use Rattle.bg_atoms.specs.Told.{CmdsTold, EdgesTold, BlocksTold}
 use Rattle.bg_atoms.proofs.Lists.{begins_itself}
-use Rattle.bg_atoms.specs.Refusals.{CmdRefusal, EdgeRefusals, BlocksRefusals}
 
 pub are_rows : (rows : List Linear) → AreRows (map view_linear rows)
 are_rows [] = tt
@@ -94,43 +96,57 @@ module _ (sorts : List Sort) (m n : ℕ) (rows : List AtomOf) where
       let more = and_right (cmds_sorted sorts m b.cmds) (edges_sorted sorts m b.next && blocks_sorted sorts m bs) h in
       and_both (cmds_below many m f.cmds) _ (cmds_under b.cmds f.cmds (and_left (cmds_sorted sorts m b.cmds) (edges_sorted sorts m b.next && blocks_sorted sorts m bs) h) t.0.0) (and_both (edges_below many m f.next) _ (edges_under b.next f.next (and_left (edges_sorted sorts m b.next) (blocks_sorted sorts m bs) more) t.0.1) (blocks_under bs fs (and_right (edges_sorted sorts m b.next) (blocks_sorted sorts m bs) more) t.1))
 
-  cmds_refused : (ks : List PassiveCmd) (ls : List FormCmd) → cmds_sorted sorts m ks ≡ true → CmdsTold sorts n rows ks ls → Pairs (CmdRefusal sorts) ks ls
-  cmds_refused [] [] h t = tt
-  cmds_refused [] (l ∷ ls) h t = absurd t
-  cmds_refused (k ∷ ks) [] h t = absurd t
-  cmds_refused (Claims s b e ∷ ks) (Asks p q r ∷ ls) h t =
+  cmds_exact : (ks : List PassiveCmd) (ls : List FormCmd) → cmds_sorted sorts m ks ≡ true → CmdsTold sorts n rows ks ls → ls ≡ map (cmd_over sorts n rows) ks
+  cmds_exact [] [] h t = refl
+  cmds_exact [] (l ∷ ls) h t = absurd t
+  cmds_exact (k ∷ ks) [] h t = absurd t
+  cmds_exact (Claims s b e ∷ ks) (Asks p q r ∷ ls) h t =
       let more = and_right (fits_candidate m b) (is_truth (kind_ex sorts e) && cmds_sorted sorts m ks) h in
       let tells = t.0.1.1 (and_left (is_truth (kind_ex sorts e)) (cmds_sorted sorts m ks) more) in
-      (tells.refusal, cmds_refused ks ls (and_right (is_truth (kind_ex sorts e)) (cmds_sorted sorts m ks) more) t.1)
-  cmds_refused (Supposes b e ∷ ks) (Takes q r ∷ ls) h t =
+      let place : p ≡ s = sym t.0.0 in
+      let candidate : q ≡ b = sym t.0.1.0 in
+      let rest = cmds_exact ks ls (and_right (is_truth (kind_ex sorts e)) (cmds_sorted sorts m ks) more) t.1 in
+      let said_so = tells.exact in
+      λ i. Asks (place i) (candidate i) (said_so i) ∷ rest i
+  cmds_exact (Supposes b e ∷ ks) (Takes q r ∷ ls) h t =
       let more = and_right (fits_candidate m b) (is_truth (kind_ex sorts e) && cmds_sorted sorts m ks) h in
       let tells = t.0.1 (and_left (is_truth (kind_ex sorts e)) (cmds_sorted sorts m ks) more) in
-      (tells.refusal, cmds_refused ks ls (and_right (is_truth (kind_ex sorts e)) (cmds_sorted sorts m ks) more) t.1)
-  cmds_refused (Claims s b e ∷ ks) (Takes q r ∷ ls) h t = absurd t.0
-  cmds_refused (Supposes b e ∷ ks) (Asks p q r ∷ ls) h t = absurd t.0
+      let candidate : q ≡ b = sym t.0.0 in
+      let rest = cmds_exact ks ls (and_right (is_truth (kind_ex sorts e)) (cmds_sorted sorts m ks) more) t.1 in
+      let said_so = tells.exact in
+      λ i. Takes (candidate i) (said_so i) ∷ rest i
+  cmds_exact (Claims s b e ∷ ks) (Takes q r ∷ ls) h t = absurd t.0
+  cmds_exact (Supposes b e ∷ ks) (Asks p q r ∷ ls) h t = absurd t.0
 
-  edges_refused : (es : List Edge) (fs : List FormEdge) → edges_sorted sorts m es ≡ true → EdgesTold sorts n rows es fs → Pairs (EdgeRefusals sorts) es fs
-  edges_refused [] [] h t = tt
-  edges_refused [] (f ∷ fs) h t = absurd t
-  edges_refused (e ∷ es) [] h t = absurd t
-  edges_refused (e ∷ es) (f ∷ fs) h t =
-      (cmds_refused e.cmds f.cmds (and_left (cmds_sorted sorts m e.cmds) (edges_sorted sorts m es) h) t.0.1, edges_refused es fs (and_right (cmds_sorted sorts m e.cmds) (edges_sorted sorts m es) h) t.1)
+  edges_exact : (es : List Edge) (fs : List FormEdge) → edges_sorted sorts m es ≡ true → EdgesTold sorts n rows es fs → fs ≡ map (edge_over sorts n rows) es
+  edges_exact [] [] h t = refl
+  edges_exact [] (f ∷ fs) h t = absurd t
+  edges_exact (e ∷ es) [] h t = absurd t
+  edges_exact (e ∷ es) (f ∷ fs) h t =
+      let cmds = cmds_exact e.cmds f.cmds (and_left (cmds_sorted sorts m e.cmds) (edges_sorted sorts m es) h) t.0.1 in
+      let target : f.to ≡ e.to = sym t.0.0 in
+      let rest = edges_exact es fs (and_right (cmds_sorted sorts m e.cmds) (edges_sorted sorts m es) h) t.1 in
+      λ i. record { cmds = cmds i; to = target i } ∷ rest i
 
-  pub blocks_refused : (bs : List PassiveBlock) (fs : List FormBlock) → blocks_sorted sorts m bs ≡ true → BlocksTold sorts n rows bs fs → BlocksRefusals sorts bs fs
-  blocks_refused [] [] h t = tt
-  blocks_refused [] (f ∷ fs) h t = absurd t
-  blocks_refused (b ∷ bs) [] h t = absurd t
-  blocks_refused (b ∷ bs) (f ∷ fs) h t =
+  pub blocks_exact : (bs : List PassiveBlock) (fs : List FormBlock) → blocks_sorted sorts m bs ≡ true → BlocksTold sorts n rows bs fs → fs ≡ blocks_over sorts n rows bs
+  blocks_exact [] [] h t = refl
+  blocks_exact [] (f ∷ fs) h t = absurd t
+  blocks_exact (b ∷ bs) [] h t = absurd t
+  blocks_exact (b ∷ bs) (f ∷ fs) h t =
       let more = and_right (cmds_sorted sorts m b.cmds) (edges_sorted sorts m b.next && blocks_sorted sorts m bs) h in
-      ((cmds_refused b.cmds f.cmds (and_left (cmds_sorted sorts m b.cmds) (edges_sorted sorts m b.next && blocks_sorted sorts m bs) h) t.0.0, edges_refused b.next f.next (and_left (edges_sorted sorts m b.next) (blocks_sorted sorts m bs) more) t.0.1), blocks_refused bs fs (and_right (edges_sorted sorts m b.next) (blocks_sorted sorts m bs) more) t.1)
+      let cmds = cmds_exact b.cmds f.cmds (and_left (cmds_sorted sorts m b.cmds) (edges_sorted sorts m b.next && blocks_sorted sorts m bs) h) t.0.0 in
+      let next = edges_exact b.next f.next (and_left (edges_sorted sorts m b.next) (blocks_sorted sorts m bs) more) t.0.1 in
+      let rest = blocks_exact bs fs (and_right (edges_sorted sorts m b.next) (blocks_sorted sorts m bs) more) t.1 in
+      λ i. record { cmds = cmds i; next = next i } ∷ rest i
 
-pub moved : (sorts sorts' : List Sort) (n n' : ℕ) (rows rows' : List Linear) (bs : List PassiveBlock) (fs : List FormBlock) → sorts ≡ sorts' → n ≡ n' → rows' ≡ rows → ((all : List AtomOf) → Begins (map view_linear rows) all → BlocksTold sorts n all bs fs) → BlocksTold sorts' n' (map view_linear rows') bs fs
-moved sorts sorts' n n' rows rows' bs fs h k is told =
+-- what is told of blocks, where the rows and what they are from are named otherwise
+pub told_now : (sorts sorts' : List Sort) (n n' : ℕ) (rows rows' : List Linear) (bs : List PassiveBlock) (fs : List FormBlock) → sorts ≡ sorts' → n ≡ n' → rows' ≡ rows → ((all : List AtomOf) → Begins (map view_linear rows) all → BlocksTold sorts n all bs fs) → BlocksTold sorts' n' (map view_linear rows') bs fs
+told_now sorts sorts' n n' rows rows' bs fs h k is told =
     subst (λ l. BlocksTold l n' (map view_linear rows') bs fs) h (subst (λ b. BlocksTold sorts b (map view_linear rows') bs fs) k (told (map view_linear rows') (subst (λ l. Begins (map view_linear rows) (map view_linear l)) (sym is) (begins_itself (map view_linear rows)))))
 
 -- rows that grew from none name incarnations that are there
-pub inside_now : (sorts sorts' : List Sort) (terms : ℕ) (none rows rows' : List Linear) → sorts ≡ sorts' → terms ≡ length sorts' → none ≡ [] → rows' ≡ rows → Grows (length sorts) (map view_linear none) (map view_linear rows) → rows_below terms (map view_linear rows') ≡ true
-inside_now sorts sorts' terms none rows rows' h k start is grows =
+pub inside_now : (sorts sorts' : List Sort) (base terms : ℕ) (start end : Table) (rows : List Linear) → sorts ≡ sorts' → terms ≡ length sorts' → start.rows.items ≡ [] → rows ≡ end.rows.items → Grows base (length sorts) start end → rows_below terms (map view_linear rows) ≡ true
+inside_now sorts sorts' base terms start end rows h k none is grows =
     let same : terms ≡ length sorts = k ∙ ap length (sym h) in
-    let first = subst (λ l. rows_below (length sorts) (map view_linear l) ≡ true) (sym start) refl in
-    subst (λ n. rows_below n (map view_linear rows') ≡ true) (sym same) (subst (λ l. rows_below (length sorts) (map view_linear l) ≡ true) (sym is) (grows.inside first))
+    let first : rows_below (length sorts) (rows_in start.rows) ≡ true = ap (λ l. rows_below (length sorts) (map view_linear l)) none in
+    subst (λ n. rows_below n (map view_linear rows) ≡ true) (sym same) (ap (λ l. rows_below (length sorts) (map view_linear l)) is ∙ grows.inside first)

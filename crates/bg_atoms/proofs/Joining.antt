@@ -1,5 +1,5 @@
 -- Chains of what was made of their operands.
-use Rattle.std.proofs.Common.{◌≡◌, ◌<◌, ◌≤◌, ◌+◌, ℕ, Bool, true, false, List, [], ◌∷◌, ◌++◌, length, get_or, take, drop, map, Option, None, refl, sym, ap, ◌∙◌, subst, arith, Vec, Box, Global}
+use Rattle.std.proofs.Common.{◌≡◌, ◌<◌, ◌≤◌, ◌+◌, ℕ, Bool, true, false, List, [], ◌∷◌, ◌++◌, length, get_or, take, drop, map, Option, Some, None, refl, sym, ap, ◌∙◌, subst, arith, Vec, Box, Global}
 use Rattle.std.proofs.lemmas.List.{drop-drop, drop_all, append_assoc, append-nil}
 use Rattle.bg_base.specs.declared.exact.OutOfRange.{OutOfRange}
 use Rattle.bg_text.specs.declared.expr.InfixSign.{InfixSign}
@@ -15,45 +15,48 @@ use Rattle.bg_ast.specs.Resolved as r
 use Rattle.bg_ast.specs.Views as u
 use Rattle.bg_ast.proofs.Lists as z
 use Rattle.bg_formula.specs.Atoms.{AtomOf}
+use Rattle.bg_formed.specs.Used.{first_of}
 use Rattle.bg_linear.specs.declared.scalar.Sort.{Sort}
 use Rattle.bg_linear.specs.declared.scalar.Kind.{Kind}
 use Rattle.bg_linear.specs.Chains.{is_implies}
 use Rattle.bg_linear.specs.Relations.{op_of}
 use Rattle.bg_linear.specs.Sorts.{kind_ex, is_truth}
 use Rattle.bg_linear.proofs.Chained.{drop_item}
-use Rattle.bg_atoms.specs.declared.made.Made as code
-use Rattle.bg_atoms.specs.declared.made.Made.TheVariants as made
-use Rattle.bg_atoms.specs.declared.made.Linked as codes
-use Rattle.bg_atoms.specs.declared.made.Linked.TheVariants as linked
+use Rattle.bg_atoms.specs.declared.made.Made.{Made}
+use Rattle.bg_atoms.specs.declared.made.Linked.{Linked}
+use Rattle.bg_atoms.specs.Orders.{before_sign, behind_sign}
+use Rattle.bg_atoms.specs.Over.{first_refused}
 use Rattle.bg_atoms.specs.Kinds.{IsTruth}
 use Rattle.bg_atoms.specs.Worlds.{Means}
 use Rattle.bg_atoms.specs.Parts.{HasRelation, on_right}
-use Rattle.bg_atoms.specs.Outside.{IsOutside, IsRefusedFor}
-use Rattle.bg_atoms.specs.Made.{IsMade, AreMade, Carries, HasBehind, Fails, IsJoined, behind}
+use Rattle.bg_atoms.specs.Made.{Shows, Makes, IsMade, AreMade, Carries, Refuses, HasBehind, behind}
 use Rattle.bg_atoms.specs.Sources.{IsRowOf, IsFrom}
 use Rattle.bg_atoms.specs.Added.{Adds, IsFromTruth, IsFromLinks}
 use Rattle.bg_atoms.specs.Heads.{IsHead, IsNext, Relates}
 use Rattle.bg_atoms.proofs.Adding.{adds_as, adds_both}
-use Rattle.bg_atoms.proofs.Chained.{two_truths, step_means, step_has, operand_has, implies_means, first_has, signed_truth, signed_means, signed_has}
+use Rattle.bg_atoms.proofs.Chained.{two_truths, step_means, step_has, operand_has, implies_means, first_has, signed_truth, signed_means, signed_refused, signed_has, step_refused, before_left}
 
-module _ (sorts : List Sort) (n : ℕ) (rows : List AtomOf) (a : s.Ex) where
-  pub first_outside : (x : code.Made) (o : OutOfRange) (ls : List Link) → x ≡ made.Outside o → IsTruth sorts a → IsMade sorts n rows a x → IsOutside sorts o (behind a ls)
-  first_outside x o ls is t h = first_has sorts (IsRefusedFor o) (u.links_of (map u.link_view ls)) a (subst (IsMade sorts n rows a) is h t)
+-- what stands behind signs
+pub signed_made : (sorts : List Sort) (n : ℕ) (rows : List AtomOf) (signs : List TreePrefix) (a : s.Ex) (x y : Made) (kept : List TreePrefix) → kept ≡ signs → Shows (m.signed kept (m.ex_of (u.ex_of x.says))) x.refused y → IsMade sorts n rows a x → IsMade sorts n rows (m.signed signs a) y
+signed_made sorts n rows signs a x y kept same is h t =
+    let made = h (signed_truth sorts signs a t) in
+    let says = is.says ∙ ap (λ l. m.signed l (m.ex_of (u.ex_of x.says))) same in
+    record {
+      means = subst (Means sorts n rows (m.signed signs a)) (sym says) (signed_means sorts n rows signs a (m.ex_of (u.ex_of x.says)) t made.means);
+      refused = signed_refused sorts signs a t ∙ made.refused ∙ sym is.refused;
+    }
 
-  pub behind_outside : (xs : codes.Linked) (o : OutOfRange) (ls : List Link) → xs ≡ linked.Outside o → IsTruth sorts a → IsTruth sorts (behind a ls) → AreMade sorts n rows ls xs → IsOutside sorts o (behind a ls)
-  behind_outside xs o ls is t w h = subst (AreMade sorts n rows ls) is h a t w
+pub chain_shows : (first : Expr) (b : Box Expr Global) (links : Vec Link Global) (o : Option OutOfRange) → b.value ≡ first → Shows (behind (m.ex_of (u.ex_of first)) links.items) o (record { says = expr.Chain b links; refused = o })
+chain_shows first b links o h =
+    record {
+      says = ap m.ex_of (z.ex_of-Chain b links) ∙ ap (λ x. behind (m.ex_of (u.ex_of x)) links.items) h;
+      refused = refl;
+    }
 
-  pub both_mean : (x : code.Made) (xs : codes.Linked) (e : Expr) (b : Box Expr Global) (links : Vec Link Global) (ls : List Link) → x ≡ made.Is e → xs ≡ linked.Are links → b.value ≡ e → IsTruth sorts a → IsTruth sorts (behind a ls) → IsMade sorts n rows a x → AreMade sorts n rows ls xs → Means sorts n rows (behind a ls) (m.ex_of (u.ex_of (expr.Chain b links)))
-  both_mean x xs e b links ls is are boxed t w h k =
-      let first = subst (λ y. Means sorts n rows a (m.ex_of (u.ex_of y))) (sym boxed) (subst (IsMade sorts n rows a) is h t) in
-      subst (Means sorts n rows (behind a ls)) (sym (ap m.ex_of (z.ex_of-Chain b links))) (subst (AreMade sorts n rows ls) are k a (m.ex_of (u.ex_of b.value)) t w first)
-
-  pub prefixed_outside : (x : code.Made) (o : OutOfRange) (signs : List TreePrefix) → x ≡ made.Outside o → IsMade sorts n rows a x → is_truth (kind_ex sorts (m.signed signs a)) ≡ true → IsOutside sorts o (m.signed signs a)
-  prefixed_outside x o signs is h t = signed_has sorts (IsRefusedFor o) signs a t (subst (IsMade sorts n rows a) is h (signed_truth sorts signs a t))
-
-  pub prefixed_means : (x : code.Made) (e : Expr) (signs kept : List TreePrefix) (b : Box Expr Global) → x ≡ made.Is e → b.value ≡ e → kept ≡ signs → IsMade sorts n rows a x → is_truth (kind_ex sorts (m.signed signs a)) ≡ true → Means sorts n rows (m.signed signs a) (m.signed kept (m.ex_of (u.ex_of b.value)))
-  prefixed_means x e signs kept b is boxed same h t =
-      subst (λ l. Means sorts n rows (m.signed signs a) (m.signed l (m.ex_of (u.ex_of b.value)))) (sym same) (signed_means sorts n rows signs a (m.ex_of (u.ex_of b.value)) t (subst (λ y. Means sorts n rows a (m.ex_of (u.ex_of y))) (sym boxed) (subst (IsMade sorts n rows a) is h (signed_truth sorts signs a t))))
+-- what has no relations of numbers
+pub plain_made : (sorts : List Sort) (n : ℕ) (rows : List AtomOf) (e y : s.Ex) (x : Made) → first_refused sorts e ≡ None → Shows y None x → (IsTruth sorts e → Means sorts n rows e y) → IsMade sorts n rows e x
+plain_made sorts n rows e y x fine is h t =
+    record { means = subst (Means sorts n rows e) (sym is.says) (h t); refused = fine ∙ sym is.refused }
 
 -- ---- nodes of the code's
 
@@ -74,13 +77,23 @@ chain_node x ls e links whole h k is =
     ∙ sym (ap m.ex_of (z.ex_of-Chain e links))
     ∙ ap (λ y. m.ex_of (u.ex_of y)) (sym is)
 
+-- a chain of what was made of a truth and of the links behind it
+behind_made : (sorts : List Sort) (n : ℕ) (rows : List AtomOf) (a : s.Ex) (ls : List Link) (first : Made) (rest : Linked) (y : Made) → (IsTruth sorts (behind a ls) → IsTruth sorts a) → Shows (behind (m.ex_of (u.ex_of first.says)) rest.links.items) rest.refused y → IsMade sorts n rows a first → AreMade sorts n rows first.refused ls rest → IsMade sorts n rows (behind a ls) y
+behind_made sorts n rows a ls first rest y leads shows made are t =
+    let begins = made (leads t) in
+    record {
+      means = subst (Means sorts n rows (behind a ls)) (sym shows.says) (are.carries a (m.ex_of (u.ex_of first.says)) (leads t) t begins.means);
+      refused = are.refuses a (leads t) t begins.refused ∙ sym shows.refused;
+    }
+
 -- a chain of what its head makes, and of what the links behind it make
-pub chain_whole : (sorts : List Sort) (n : ℕ) (rows : List AtomOf) (x1 x2 : Expr) (l1 l2 l3 : List Link) (e : Box Expr Global) (links : Vec Link Global) (whole : Expr) (k : ℕ) (first : code.Made) (rest : codes.Linked) (y : code.Made) → x1 ≡ e.value → x2 ≡ e.value → l1 ≡ links.items → l2 ≡ links.items → l3 ≡ links.items → whole ≡ expr.Chain e links → IsHead sorts (m.ex_of (u.ex_of x1)) l1 k → IsMade sorts n rows (behind (m.ex_of (u.ex_of x2)) (take k l2)) first → AreMade sorts n rows (drop k l3) rest → IsJoined first rest y → IsMade sorts n rows (m.ex_of (u.ex_of whole)) y
-chain_whole sorts n rows x1 x2 l1 l2 l3 e links whole k first rest y h1 h2 k1 k2 k3 is head made are joined =
+pub chain_whole : (sorts : List Sort) (n : ℕ) (rows : List AtomOf) (x1 x2 : Expr) (l1 l2 l3 : List Link) (e : Box Expr Global) (links : Vec Link Global) (whole : Expr) (k : ℕ) (first : Made) (rest : Linked) (y : Made) → x1 ≡ e.value → x2 ≡ e.value → l1 ≡ links.items → l2 ≡ links.items → l3 ≡ links.items → whole ≡ expr.Chain e links → IsHead sorts (m.ex_of (u.ex_of x1)) l1 k → IsMade sorts n rows (behind (m.ex_of (u.ex_of x2)) (take k l2)) first → AreMade sorts n rows first.refused (drop k l3) rest → Shows (behind (m.ex_of (u.ex_of first.says)) rest.links.items) rest.refused y → IsMade sorts n rows (m.ex_of (u.ex_of whole)) y
+chain_whole sorts n rows x1 x2 l1 l2 l3 e links whole k first rest y h1 h2 k1 k2 k3 is head made are shows =
     let first' = subst (λ l. IsMade sorts n rows (behind (m.ex_of (u.ex_of x1)) (take k l)) first) (k2 ∙ sym k1) (subst (λ x. IsMade sorts n rows (behind (m.ex_of (u.ex_of x)) (take k l2)) first) (h2 ∙ sym h1) made) in
-    let rest' = subst (λ l. AreMade sorts n rows (drop k l) rest) (k3 ∙ sym k1) are in
+    let rest' = subst (λ l. AreMade sorts n rows first.refused (drop k l) rest) (k3 ∙ sym k1) are in
     let front = behind (m.ex_of (u.ex_of x1)) (take k l1) in
-    subst (λ w. IsMade sorts n rows w y) (sym head.apart ∙ chain_node x1 l1 e links whole h1 k1 is) (λ t. joined sorts n rows front (drop k l1) (head.leads (subst (IsTruth sorts) (sym head.apart) t)) t first' rest')
+    let led = λ (t : IsTruth sorts (behind front (drop k l1))). head.leads (subst (IsTruth sorts) (sym head.apart) t) in
+    subst (λ w. IsMade sorts n rows w y) (sym head.apart ∙ chain_node x1 l1 e links whole h1 k1 is) (behind_made sorts n rows front (drop k l1) first rest y led shows first' rest')
 
 -- the rows of both are from the chain
 pub chain_from : (sorts : List Sort) (x1 x2 : Expr) (l1 l2 l3 : List Link) (e : Box Expr Global) (links : Vec Link Global) (whole : Expr) (k : ℕ) (xs ys zs : List AtomOf) → x1 ≡ e.value → x2 ≡ e.value → l1 ≡ links.items → l2 ≡ links.items → l3 ≡ links.items → whole ≡ expr.Chain e links → IsHead sorts (m.ex_of (u.ex_of x1)) l1 k → Adds (IsFromTruth sorts (behind (m.ex_of (u.ex_of x2)) (take k l2))) xs ys → Adds (IsFromLinks sorts (drop k l3)) ys zs → Adds (IsFromTruth sorts (m.ex_of (u.ex_of whole))) xs zs
@@ -99,6 +112,11 @@ no_front a (l ∷ ls) h = absurd (omega (arith, h))
 pub from_same : (sorts : List Sort) (a b : s.Ex) (xs ys : List AtomOf) → a ≡ b → Adds (IsFromTruth sorts a) xs ys → Adds (IsFromTruth sorts b) xs ys
 from_same sorts a b xs ys h k = subst (λ e. Adds (IsFromTruth sorts e) xs ys) h k
 
+-- what was made of a relation of numbers is what the links make
+pub relation_made : (sorts : List Sort) (n : ℕ) (rows : List AtomOf) (a : s.Ex) (front before : List Link) (l : Link) (x : Made) → front ≡ before ++ l ∷ [] → Relates sorts a before l → Makes sorts n rows (s.Binary (op_of l.sign) (behind a before) (m.ex_of (u.ex_of l.operand))) x → IsMade sorts n rows (behind a front) x
+relation_made sorts n rows a front before l x split is h t =
+    subst (λ f. Makes sorts n rows (behind a f) x) (sym split) (subst (λ e. Makes sorts n rows e x) (sym is.whole) h)
+
 -- rows from what stands behind signs
 pub signed_from : (sorts : List Sort) (signs : List TreePrefix) (a : s.Ex) (xs ys : List AtomOf) → Adds (IsFromTruth sorts a) xs ys → Adds (IsFromTruth sorts (m.signed signs a)) xs ys
 signed_from sorts signs a xs ys h =
@@ -110,6 +128,15 @@ relation_from sorts a front before l xs ys split is h =
     subst (λ f. Adds (IsFromTruth sorts (behind a f)) xs ys) (sym split) (subst (λ w. Adds (IsFromTruth sorts w) xs ys) (sym is.whole) (adds_as (IsFrom sorts (s.Binary (op_of l.sign) (behind a before) (m.ex_of (u.ex_of l.operand)))) (IsFromTruth sorts (s.Binary (op_of l.sign) (behind a before) (m.ex_of (u.ex_of l.operand)))) xs ys (λ r f t. f) h))
 
 -- ---- links
+
+first_assoc : (a b c : Option OutOfRange) → first_of (first_of a b) c ≡ first_of a (first_of b c)
+first_assoc None b c = refl
+first_assoc (Some o) b c = refl
+
+-- what the links on the right refuse, put behind what stands before, is what all of them refuse
+abbrev pub Ordered : List Sort → Option OutOfRange → List Link → Option OutOfRange → Option OutOfRange → List Link → Type 0
+Ordered sorts first whole before here rest =
+    (all : Option OutOfRange) → Refuses sorts here rest all → Refuses sorts first whole (first_of before all)
 
 implies_is : (sign : InfixSign) → is_implies sign ≡ true → sign ≡ op.Implies
 implies_is op.Iff h = absurd (let bad : ⊥ = cc in bad)
@@ -165,6 +192,41 @@ module _ (sorts : List Sort) (l : Link) (links : List Link) (k : ℕ) (next : Is
         by_sign true i = carry_right y zs i same h rest
         by_sign false i = carry_left y zs i same h rest
 
+  refuse_left : is_implies l.sign ≡ false → (before operand all : Option OutOfRange) → (IsTruth sorts (behind right (take k links)) → first_refused sorts (behind right (take k links)) ≡ operand) → Refuses sorts (behind_sign l.sign before operand) (drop k links) all → Refuses sorts before (l ∷ links) all
+  refuse_left i before operand all h rest =
+      let none = next.alone i in
+      let made = subst (λ j. IsTruth sorts (behind right (take j links)) → first_refused sorts (behind right (take j links)) ≡ operand) none h in
+      let others = subst (λ j. Refuses sorts (behind_sign l.sign before operand) (drop j links) all) none rest in
+      step_refused sorts l.sign i l.pos (u.ex_of l.operand) ls before operand all made others
+
+  refuse_right : is_implies l.sign ≡ true → (before operand all : Option OutOfRange) → (IsTruth sorts (behind right (take k links)) → first_refused sorts (behind right (take k links)) ≡ operand) → Refuses sorts operand (drop k links) all → Refuses sorts before (l ∷ links) (first_of before all)
+  refuse_right i before operand all h rest a t w is =
+      let head = next.anew i in
+      let whole = implied l.sign refl (implies_is l.sign i) a in
+      let right_truth = (two_truths (kind_ex sorts a) (kind_ex sorts (behind right links)) (subst (IsTruth sorts) whole w)).1 in
+      let front = head.leads right_truth in
+      let made = rest (behind right (take k links)) front (subst (IsTruth sorts) head.apart right_truth) (h front) in
+      ap (first_refused sorts) whole
+      ∙ ap (λ o. first_of o (first_refused sorts (behind right links))) is
+      ∙ ap (λ e. first_of before (first_refused sorts e)) head.apart
+      ∙ ap (first_of before) made
+
+  -- what comes first before the last `==>` and behind it, behind one more sign
+  pub refuse : (first : Option OutOfRange) (whole : List Link) (before here before' here' operand : Option OutOfRange) → before' ≡ before_sign l.sign before here → here' ≡ behind_sign l.sign here operand → (IsTruth sorts (behind right (take k links)) → first_refused sorts (behind right (take k links)) ≡ operand) → Ordered sorts first whole before here (l ∷ links) → Ordered sorts first whole before' here' (drop k links)
+  refuse first whole before here before' here' operand b' h' h ordered = by_sign (is_implies l.sign) refl
+    where
+      by_sign : (b : Bool) → is_implies l.sign ≡ b → Ordered sorts first whole before' here' (drop k links)
+      by_sign true i all rest =
+          let sign = implies_is l.sign i in
+          let behind_it : here' ≡ operand = h' ∙ ap (λ g. behind_sign g here operand) sign in
+          let before_it : before' ≡ first_of before here = b' ∙ ap (λ g. before_sign g before here) sign in
+          let made = ordered (first_of here all) (refuse_right i here operand all h (subst (λ o. Refuses sorts o (drop k links) all) behind_it rest)) in
+          subst (Refuses sorts first whole) (sym (ap (λ o. first_of o all) before_it ∙ first_assoc before here all)) made
+      by_sign false i all rest =
+          let before_it = b' ∙ before_left sorts l.sign i before here in
+          let made = ordered all (refuse_left i here operand all h (subst (λ o. Refuses sorts o (drop k links) all) h' rest)) in
+          subst (Refuses sorts first whole) (sym (ap (λ o. first_of o all) before_it)) made
+
   module _ (P : s.Op → s.Ex → s.Ex → Type 0) where
     pub has_here : (IsTruth sorts (behind right (take k links)) → HasRelation sorts P (behind right (take k links))) → HasBehind sorts P (l ∷ links)
     has_here h = by_sign (is_implies l.sign) refl
@@ -197,8 +259,10 @@ module _ (sorts : List Sort) (l : Link) (links : List Link) (k : ℕ) (next : Is
 abbrev pub Going : List Sort → ℕ → List AtomOf → List Link → List Link → List Link → Type 0
 Going sorts n rows whole rest made = (zs : List Link) → Carries sorts n rows rest zs → Carries sorts n rows whole (made ++ zs)
 
-abbrev pub Failing : List Sort → List Link → List Link → Type 0
-Failing sorts whole rest = (o : OutOfRange) → Fails sorts o rest → Fails sorts o whole
+-- as far as the links that are left make a chain, all do
+pub record Linking (sorts : List Sort) (n : ℕ) (rows : List AtomOf) (first before here : Option OutOfRange) (whole rest made : List Link) : Type 0 where
+  pub going : Going sorts n rows whole rest made
+  pub ordered : Ordered sorts first whole before here rest
 
 abbrev pub Leading : List Sort → List Link → List Link → Type 0
 Leading sorts whole rest = (r : AtomOf) → IsFromLinks sorts rest r → IsFromLinks sorts whole r
@@ -210,12 +274,23 @@ module _ (sorts : List Sort) (links : List Link) (i : ℕ) (l : Link) (rest : Li
   later : (j : ℕ) → j ≡ i + 1 + k → drop j links ≡ drop k rest
   later j h = ap (λ x. drop x links) h ∙ sym (drop-drop k (i + 1) links) ∙ ap (drop k) (sym behind_it)
 
-  pub going_on : (n : ℕ) (rows : List AtomOf) (whole old new : List Link) (y : Link) (x : code.Made) (e : Expr) (j : ℕ) → j ≡ i + 1 + k → l.sign ≡ y.sign → y.operand ≡ e → x ≡ made.Is e → new ≡ old ++ y ∷ [] → IsMade sorts n rows (behind (m.ex_of (u.ex_of l.operand)) (take k rest)) x → Going sorts n rows whole (drop i links) old → Going sorts n rows whole (drop j links) new
-  going_on n rows whole old new y x e j next_at same operand made push h going zs more =
-      let made_of = λ (t : IsTruth sorts (behind (m.ex_of (u.ex_of l.operand)) (take k rest))). subst (λ q. Means sorts n rows (behind (m.ex_of (u.ex_of l.operand)) (take k rest)) (m.ex_of (u.ex_of q))) (sym operand) (subst (IsMade sorts n rows (behind (m.ex_of (u.ex_of l.operand)) (take k rest))) made h t) in
+  going_on : (n : ℕ) (rows : List AtomOf) (whole old new : List Link) (y : Link) (x : Made) (j : ℕ) → j ≡ i + 1 + k → l.sign ≡ y.sign → y.operand ≡ x.says → new ≡ old ++ y ∷ [] → IsMade sorts n rows (behind (m.ex_of (u.ex_of l.operand)) (take k rest)) x → Going sorts n rows whole (drop i links) old → Going sorts n rows whole (drop j links) new
+  going_on n rows whole old new y x j next_at same operand push h going zs more =
+      let made_of = λ (t : IsTruth sorts (behind (m.ex_of (u.ex_of l.operand)) (take k rest))). subst (λ q. Means sorts n rows (behind (m.ex_of (u.ex_of l.operand)) (take k rest)) (m.ex_of (u.ex_of q))) (sym operand) (h t).means in
       let step = carry sorts l rest k next n rows y zs same made_of (subst (λ d. Carries sorts n rows d zs) (later j next_at) more) in
       let so_far = going (y ∷ zs) (subst (λ d. Carries sorts n rows d (y ∷ zs)) (sym here) step) in
       subst (Carries sorts n rows whole) (sym (append_assoc old (y ∷ []) zs) ∙ ap (λ d. d ++ zs) (sym push)) so_far
+
+  ordered_on : (first : Option OutOfRange) (whole : List Link) (before now before' now' operand : Option OutOfRange) (j : ℕ) → j ≡ i + 1 + k → before' ≡ before_sign l.sign before now → now' ≡ behind_sign l.sign now operand → (IsTruth sorts (behind (m.ex_of (u.ex_of l.operand)) (take k rest)) → first_refused sorts (behind (m.ex_of (u.ex_of l.operand)) (take k rest)) ≡ operand) → Ordered sorts first whole before now (drop i links) → Ordered sorts first whole before' now' (drop j links)
+  ordered_on first whole before now before' now' operand j next_at b' n' h ordered =
+      subst (Ordered sorts first whole before' now') (sym (later j next_at)) (refuse sorts l rest k next first whole before now before' now' operand b' n' h (subst (Ordered sorts first whole before now) here ordered))
+
+  pub linking_on : (n : ℕ) (rows : List AtomOf) (first before now before' now' : Option OutOfRange) (whole old new : List Link) (y : Link) (x : Made) (j : ℕ) → j ≡ i + 1 + k → l.sign ≡ y.sign → y.operand ≡ x.says → new ≡ old ++ y ∷ [] → before' ≡ before_sign l.sign before now → now' ≡ behind_sign l.sign now x.refused → IsMade sorts n rows (behind (m.ex_of (u.ex_of l.operand)) (take k rest)) x → Linking sorts n rows first before now whole (drop i links) old → Linking sorts n rows first before' now' whole (drop j links) new
+  linking_on n rows first before now before' now' whole old new y x j next_at same operand push b' n' h linking =
+      record {
+        going = going_on n rows whole old new y x j next_at same operand push h linking.going;
+        ordered = ordered_on first whole before now before' now' x.refused j next_at b' n' (λ t. (h t).refused) linking.ordered;
+      }
 
   has_later : (P : s.Op → s.Ex → s.Ex → Type 0) (j : ℕ) → j ≡ i + 1 + k → HasBehind sorts P (drop j links) → HasBehind sorts P (drop i links)
   has_later P j next_at more =
@@ -223,9 +298,6 @@ module _ (sorts : List Sort) (links : List Link) (i : ℕ) (l : Link) (rest : Li
 
   has_now : (P : s.Op → s.Ex → s.Ex → Type 0) → (IsTruth sorts (behind (m.ex_of (u.ex_of l.operand)) (take k rest)) → HasRelation sorts P (behind (m.ex_of (u.ex_of l.operand)) (take k rest))) → HasBehind sorts P (drop i links)
   has_now P h = subst (HasBehind sorts P) (sym here) (has_here sorts l rest k next P h)
-
-  pub failing_on : (whole : List Link) (j : ℕ) → j ≡ i + 1 + k → Failing sorts whole (drop i links) → Failing sorts whole (drop j links)
-  failing_on whole j next_at failing o more = failing o (has_later (IsRefusedFor o) j next_at more)
 
   pub leading_on : (whole : List Link) (j : ℕ) → j ≡ i + 1 + k → Leading sorts whole (drop i links) → Leading sorts whole (drop j links)
   leading_on whole j next_at leading r more = leading r (has_later (IsRowOf r) j next_at more)
@@ -235,14 +307,18 @@ module _ (sorts : List Sort) (links : List Link) (i : ℕ) (l : Link) (rest : Li
   adds_next whole xs ys zs leading old new =
       adds_both (IsFromLinks sorts whole) (IsFromTruth sorts (behind (m.ex_of (u.ex_of l.operand)) (take k rest))) (IsFromLinks sorts whole) xs ys zs (λ r h. h) (λ r h. leading r (has_now (IsRowOf r) h)) old new
 
-  pub failed : (n : ℕ) (rows : List AtomOf) (whole : List Link) (x : code.Made) (o : OutOfRange) → x ≡ made.Outside o → IsMade sorts n rows (behind (m.ex_of (u.ex_of l.operand)) (take k rest)) x → Failing sorts whole (drop i links) → Fails sorts o whole
-  failed n rows whole x o out h failing =
-      failing o (has_now (IsRefusedFor o) (subst (IsMade sorts n rows (behind (m.ex_of (u.ex_of l.operand)) (take k rest))) out h))
+pub linking_none : (sorts : List Sort) (n : ℕ) (rows : List AtomOf) (first before now : Option OutOfRange) (whole old : List Link) → before ≡ None → now ≡ first → old ≡ [] → Linking sorts n rows first before now whole whole old
+linking_none sorts n rows first before now whole old b h none =
+    record {
+      going = λ zs c. subst (λ d. Carries sorts n rows whole (d ++ zs)) (sym none) c;
+      ordered = λ all r. subst (Refuses sorts first whole) (sym (ap (λ o. first_of o all) b)) (subst (λ o. Refuses sorts o whole all) h r);
+    }
 
-pub going_none : (sorts : List Sort) (n : ℕ) (rows : List AtomOf) (whole old : List Link) → old ≡ [] → Going sorts n rows whole whole old
-going_none sorts n rows whole old none zs h = subst (λ d. Carries sorts n rows whole (d ++ zs)) (sym none) h
-
-pub gone : (sorts : List Sort) (n : ℕ) (rows : List AtomOf) (whole made links : List Link) (i : ℕ) → length links ≤ i → Going sorts n rows whole (drop i links) made → Carries sorts n rows whole made
-gone sorts n rows whole made links i end going =
-    let nothing = λ (a x : s.Ex) (t : IsTruth sorts a) (w : IsTruth sorts a) (h : Means sorts n rows a x). h in
-    subst (Carries sorts n rows whole) (append-nil made) (going [] (subst (λ d. Carries sorts n rows d []) (sym (drop_all i links end)) nothing))
+pub linked : (sorts : List Sort) (n : ℕ) (rows : List AtomOf) (first before now : Option OutOfRange) (whole links : List Link) (made : Linked) (i : ℕ) → length links ≤ i → made.refused ≡ first_of before now → Linking sorts n rows first before now whole (drop i links) made.links.items → AreMade sorts n rows first whole made
+linked sorts n rows first before now whole links made i end same h =
+    let nothing = λ (a x : s.Ex) (t : IsTruth sorts a) (w : IsTruth sorts a) (g : Means sorts n rows a x). g in
+    let none = λ (a : s.Ex) (t : IsTruth sorts a) (w : IsTruth sorts a) (g : first_refused sorts a ≡ now). g in
+    record {
+      carries = subst (Carries sorts n rows whole) (append-nil made.links.items) (h.going [] (subst (λ d. Carries sorts n rows d []) (sym (drop_all i links end)) nothing));
+      refuses = subst (Refuses sorts first whole) (sym same) (h.ordered now (subst (λ d. Refuses sorts now d now) (sym (drop_all i links end)) none));
+    }

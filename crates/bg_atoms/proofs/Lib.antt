@@ -1,6 +1,8 @@
 mod Equal
 mod Lists
 mod Adding
+mod Tabled
+mod Growing
 mod Reading
 mod Chained
 mod Heading

@@ -1,11 +1,11 @@
 -- Lists that go on behind others, and lists place by place.
-use Rattle.std.proofs.Common.{◌≡◌, ◌<◌, ◌+◌, ℕ, zero, suc, true, List, [], ◌∷◌, ◌++◌, length, map, take, get_or, Some, refl, sym, ap, ◌∙◌, arith, subst}
+use Rattle.std.proofs.Common.{◌≡◌, ◌<◌, ◌+◌, ℕ, true, List, [], ◌∷◌, ◌++◌, length, map, take, get_or, refl, sym, ap, ◌∙◌, subst}
 use Rattle.std.proofs.lemmas.List.{take_more}
 use Rattle.bg_formula.specs.declared.atom.Linear.{Linear}
-use Rattle.bg_formula.specs.Atoms.{AtomOf, view_linear, at}
+use Rattle.bg_formula.specs.Atoms.{AtomOf, view_linear}
 use Rattle.bg_formula.specs.Formulas.{atom_below, rows_below}
 use Rattle.bg_formed.proofs.Below.{and_left, and_right, and_both}
-use Rattle.bg_atoms.specs.Worlds.{Begins, Grows, AddsInside}
+use Rattle.bg_atoms.specs.Worlds.{Begins, AddsInside}
 use Rattle.bg_atoms.specs.Pairs.{Pairs}
 
 pub begins_itself : (xs : List AtomOf) → Begins xs xs
@@ -17,13 +17,6 @@ begins_on [] ys zs h k = tt
 begins_on (x ∷ xs) [] zs h k = absurd h
 begins_on (x ∷ xs) (y ∷ ys) [] h k = absurd k
 begins_on (x ∷ xs) (y ∷ ys) (z ∷ zs) h k = (h.0 ∙ k.0, begins_on xs ys zs h.1 k.1)
-
-pub grows_itself : (terms : ℕ) (xs : List AtomOf) → Grows terms xs xs
-grows_itself terms xs = record { begins = begins_itself xs; inside = λ h. h }
-
-pub grows_on : (terms : ℕ) (xs ys zs : List AtomOf) → Grows terms xs ys → Grows terms ys zs → Grows terms xs zs
-grows_on terms xs ys zs h k =
-    record { begins = begins_on xs ys zs h.begins k.begins; inside = λ i. k.inside (h.inside i) }
 
 begins_end : (xs : List Linear) (a : Linear) → Begins (map view_linear xs) (map view_linear (xs ++ a ∷ []))
 begins_end [] a = tt
@@ -50,24 +43,6 @@ inside_apart terms (x ∷ xs) a h =
 
 pub inside_split : (terms : ℕ) (ys xs : List Linear) (a : Linear) → ys ≡ xs ++ a ∷ [] → rows_below terms (map view_linear ys) ≡ true → (rows_below terms (map view_linear xs) ≡ true) × (rows_below terms (view_linear a ∷ []) ≡ true)
 inside_split terms ys xs a is h = inside_apart terms xs a (subst (λ l. rows_below terms (map view_linear l) ≡ true) is h)
-
-at_end : (xs : List Linear) (a : Linear) → at (map view_linear (xs ++ a ∷ [])) (length xs) ≡ Some (view_linear a)
-at_end [] a = refl
-at_end (x ∷ xs) a = at_end xs a
-
-pub at_push : (xs ys : List Linear) (a : Linear) → ys ≡ xs ++ a ∷ [] → at (map view_linear ys) (length xs) ≡ Some (view_linear a)
-at_push xs ys a h = ap (λ l. at (map view_linear l) (length xs)) h ∙ at_end xs a
-
-pub at_read : (xs : List Linear) (i : ℕ) (a : Linear) → i < length xs → a ≡ get_or xs i a → at (map view_linear xs) i ≡ Some (view_linear a)
-at_read [] i a lt h = absurd (omega (arith, lt))
-at_read (x ∷ xs) zero a lt h = ap (λ y. Some (view_linear y)) (sym h)
-at_read (x ∷ xs) (suc i) a lt h = at_read xs i a (omega (arith, lt)) h
-
-pub begins_at : (xs ys : List AtomOf) (i : ℕ) (a : AtomOf) → Begins xs ys → at xs i ≡ Some a → at ys i ≡ Some a
-begins_at [] ys i a h k = absurd (let bad : ⊥ = cc in bad)
-begins_at (x ∷ xs) [] i a h k = absurd h
-begins_at (x ∷ xs) (y ∷ ys) zero a h k = ap Some (sym h.0) ∙ k
-begins_at (x ∷ xs) (y ∷ ys) (suc i) a h k = begins_at xs ys i a h.1 k
 
 module _ {X Y A B : Type 0} (R : A → B → Type 0) (f : X → A) (g : Y → B) where
   pairs_end : (xs : List X) (ys : List Y) (x : X) (y : Y) → Pairs R (map f xs) (map g ys) → R (f x) (g y) → Pairs R (map f (xs ++ x ∷ [])) (map g (ys ++ y ∷ []))

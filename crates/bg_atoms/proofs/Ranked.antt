@@ -1,7 +1,7 @@
 -- The atoms of truth incarnations, and what reads them.
-use Rattle.std.proofs.Common.{◌≡◌, ◌<◌, ◌≤◌, ◌+◌, ℕ, zero, suc, Bool, true, List, [], ◌∷◌, length, Option, Some, None, refl, sym, ap, ◌∙◌, arith, subst}
+use Rattle.std.proofs.Common.{◌≡◌, ◌<◌, ◌≤◌, ◌+◌, ℕ, zero, suc, true, List, [], ◌∷◌, length, Option, Some, None, refl, sym, ap, ◌∙◌, arith, subst}
 use Rattle.std.specs.Prelude.{slice_get}
-use Rattle.bg_ast.specs.Syntax.{Ex, Fact, Read, Var, Local, Global}
+use Rattle.bg_ast.specs.Syntax.{Ex, Read, Var, Local, Global}
 use Rattle.bg_formula.specs.Atoms.{AtomOf}
 use Rattle.bg_linear.specs.declared.scalar.Sort.{Sort}
 use Rattle.bg_linear.specs.declared.scalar.Sort.TheVariants as sort
@@ -36,12 +36,9 @@ read_means sorts n rows ranks j x are below is h =
     let lt = rank_below sorts j there in
     subst (Means sorts n rows (Read (Local j))) (sym place) (record {
       fits = is_below (rank sorts j) (n + length rows) (omega (arith, lt, below));
-      same = λ k g held. g.reads (rank sorts j) (omega (arith, lt, below)) ∙ sym (held.truth j there);
+      exact = sym place ∙ is ∙ ap (λ l. read_by (slice_get l j)) are;
+      same = λ fine k g held. g.reads (rank sorts j) (omega (arith, lt, below)) ∙ sym (held.truth j there);
     })
-
-pub plain_means : (sorts : List Sort) (n : ℕ) (rows : List AtomOf) (b : Bool) (x : Ex) → x ≡ Fact b → Means sorts n rows (Fact b) x
-plain_means sorts n rows b x is =
-    subst (Means sorts n rows (Fact b)) (sym is) (record { fits = refl; same = λ k g held. refl })
 
 pub variable_means : (sorts : List Sort) (n : ℕ) (rows : List AtomOf) (ranks : List ℕ) (v : Var) (e x : Ex) → ranks ≡ ranks_from 0 sorts → truths sorts ≤ n → e ≡ Read v → x ≡ read_var ranks v → is_truth (kind_ex sorts e) ≡ true → Means sorts n rows e x
 variable_means sorts n rows ranks (Local j) e x are below node is h =

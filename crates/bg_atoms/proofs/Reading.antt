@@ -1,6 +1,6 @@
 -- Literals of rows.
-use Rattle.std.proofs.Common.{◌≡◌, ◌<◌, ◌+◌, ℕ, zero, suc, Bool, true, false, not, List, [], ◌∷◌, length, Some, ℤ, pos, ◌≤ℤ◌, refl, sym, ap, ◌∙◌, arith, subst}
-use Rattle.std.specs.Prelude.{Ok, int_le, nat_lt}
+use Rattle.std.proofs.Common.{◌≡◌, ◌<◌, ◌+◌, ℕ, zero, suc, Bool, true, false, not, List, [], ◌∷◌, length, Some, ℤ, pos, ◌≤ℤ◌, refl, sym, ap, ◌∙◌, arith, subst, inl, inr}
+use Rattle.std.specs.Prelude.{Ok, int_le, nat_lt, if◌then◌else◌, ◌⊎◌}
 use Rattle.std.proofs.lemmas.Int.{ints}
 use Rattle.std.proofs.lemmas.Bool.Decides.{nat_tests}
 use Rattle.bg_ast.specs.Values.{Truth, truth_of}
@@ -8,7 +8,7 @@ use Rattle.bg_ast.specs.Syntax.{Ex, Fact}
 use Rattle.bg_sense.specs.Eval.{ev, value_at}
 use Rattle.bg_rows.specs.declared.entry.Entry.{Entry}
 use Rattle.bg_rows.specs.Entries.{total}
-use Rattle.bg_rows.specs.Rows.{RowOf, holds, denied}
+use Rattle.bg_rows.specs.Rows.{RowOf, holds, denied, is_empty}
 use Rattle.bg_rows.proofs.Meaning.{denied_follows, denied_denies}
 use Rattle.bg_formula.specs.declared.atom.Literal.{Literal}
 use Rattle.bg_formula.specs.Atoms.{AtomOf, IsTruth, IsRow, at}
@@ -17,7 +17,10 @@ use Rattle.bg_forms.specs.Fitting.{fits_ex}
 use Rattle.bg_forms.proofs.Meaning.{same_true}
 use Rattle.bg_formed.specs.Agree.{RowsAgree}
 use Rattle.bg_atoms.specs.Built.{literal_ex}
+use Rattle.bg_atoms.specs.Literals.{literal_of}
+use Rattle.bg_atoms.specs.Over.{read_literal}
 use Rattle.bg_atoms.specs.Worlds.{World, IsLiteral, SaysRow}
+use Rattle.bg_atoms.proofs.Tabled.{Stands, stands}
 
 pub row_agrees : (z : ℕ → ℤ) (w : ℕ → Bool) (n : ℕ) (rows : List AtomOf) (i : ℕ) (r d : RowOf) → RowsAgree z w n rows → at rows i ≡ Some (IsRow r d) → w (n + i) ≡ holds z r
 row_agrees z w n [] i r d h k = absurd (let bad : ⊥ = cc in bad)
@@ -72,23 +75,23 @@ same_not : (a : Bool) → same a false ≡ not a
 same_not true = refl
 same_not false = refl
 
-module _ (n : ℕ) (rows : List AtomOf) (i : ℕ) (r d : RowOf) (l : Literal) (stands : at rows i ≡ Some (IsRow r d)) (atom : l.atom ≡ n + i) where
-  below_it : l.atom < n + length rows
-  below_it = let m = there rows i (IsRow r d) stands in omega (arith, m, atom)
-
-  pub positive : l.sign ≡ true → IsLiteral n rows r l
-  positive s =
-      record {
-        below = below_it;
-        same = λ k a. ap (λ x. same (k.truth l.atom) x) s ∙ same_true (k.truth l.atom) ∙ ap k.truth atom ∙ row_agrees k.numbers k.truth n rows i r d a.atoms stands;
-      }
-
-  pub negative : l.sign ≡ false → IsLiteral n rows d l
-  negative s =
-      record {
-        below = below_it;
-        same = λ k a. ap (λ x. same (k.truth l.atom) x) s ∙ same_not (k.truth l.atom) ∙ ap not (ap k.truth atom ∙ row_agrees k.numbers k.truth n rows i r d a.atoms stands) ∙ denial_holds k.numbers r d (denial_is rows i r d a.denials stands);
-      }
+-- the literal of a row says it
+pub is_literal : (n : ℕ) (rows : List AtomOf) (r : RowOf) (l : Literal) → literal_of r n rows ≡ Some l → IsLiteral n rows r l
+is_literal n rows r l h = let s = stands r n rows l h in by_sign s s.is
+  where
+    by_sign : (s : Stands r n rows l) → ((l.sign ≡ true) × (s.row ≡ r)) ⊎ ((l.sign ≡ false) × (s.denial ≡ r)) → IsLiteral n rows r l
+    by_sign s (inl e) =
+        record {
+          below = let m = there rows s.place _ s.there in omega (arith, m, s.atom);
+          found = h;
+          same = λ k a. ap (λ x. same (k.truth l.atom) x) e.0 ∙ same_true (k.truth l.atom) ∙ ap k.truth s.atom ∙ row_agrees k.numbers k.truth n rows s.place s.row s.denial a.atoms s.there ∙ ap (holds k.numbers) e.1;
+        }
+    by_sign s (inr e) =
+        record {
+          below = let m = there rows s.place _ s.there in omega (arith, m, s.atom);
+          found = h;
+          same = λ k a. ap (λ x. same (k.truth l.atom) x) e.0 ∙ same_not (k.truth l.atom) ∙ ap not (ap k.truth s.atom ∙ row_agrees k.numbers k.truth n rows s.place s.row s.denial a.atoms s.there) ∙ denial_holds k.numbers s.row s.denial (denial_is rows s.place s.row s.denial a.denials s.there) ∙ ap (holds k.numbers) e.1;
+        }
 
 -- ---- expressions of literals
 
@@ -103,24 +106,36 @@ fits_by_sign : (n : ℕ) (s : Bool) (a : ℕ) → a < n → fits_ex n (literal_e
 fits_by_sign n true a h = is_below a n h
 fits_by_sign n false a h = is_below a n h
 
-pub literal_says : (n : ℕ) (rows : List AtomOf) (r : RowOf) (l : Literal) → IsLiteral n rows r l → SaysRow n rows r (literal_ex l.sign l.atom)
-literal_says n rows r l h =
+-- what says that a row holds, where it has entries or not
+row_by : (n : ℕ) (rows : List AtomOf) (r : RowOf) (b c : Bool) → b ≡ c → (if b then Fact (int_le (pos 0) r.bound) else read_literal (literal_of r n rows)) ≡ (if c then Fact (int_le (pos 0) r.bound) else read_literal (literal_of r n rows))
+row_by n rows r b c h = ap (λ d. if d then Fact (int_le (pos 0) r.bound) else read_literal (literal_of r n rows)) h
+
+-- a row with entries
+pub literal_says : (n : ℕ) (rows : List AtomOf) (r : RowOf) (l : Literal) → is_empty r.entries ≡ false → IsLiteral n rows r l → SaysRow n rows r (literal_ex l.sign l.atom)
+literal_says n rows r l some h =
     record {
       fits = fits_by_sign (n + length rows) l.sign l.atom h.below;
+      exact = sym (row_by n rows r (is_empty r.entries) false some ∙ ap read_literal h.found);
       same = λ k a. by_sign k l.sign l.atom (holds k.numbers r) (a.reads l.atom h.below) (h.same k a);
     }
 
-pub for_row : (n : ℕ) (rows : List AtomOf) (l : Literal) (r s : RowOf) → r ≡ s → IsLiteral n rows r l → IsLiteral n rows s l
-for_row n rows l r s h k = subst (λ q. IsLiteral n rows q l) h k
+no_entries : (z : ℕ → ℤ) (ts : List Entry) → is_empty ts ≡ true → total z ts ≡ pos 0
+no_entries z [] h = refl
+no_entries z (t ∷ ts) h = absurd (let bad : ⊥ = cc in bad)
 
-no_entries : (z : ℕ → ℤ) (r : RowOf) → length r.entries ≡ 0 → total z r.entries ≡ pos 0
-no_entries z r h = by_list r.entries h
-  where
-    by_list : (ts : List Entry) → length ts ≡ 0 → total z ts ≡ pos 0
-    by_list [] h = refl
-    by_list (t ∷ ts) h = absurd (omega (arith, h))
+pub empty_list : (ts : List Entry) → length ts ≡ 0 → is_empty ts ≡ true
+empty_list [] h = refl
+empty_list (t ∷ ts) h = absurd (omega (arith, h))
+
+pub some_list : (ts : List Entry) → (length ts ≡ 0 → ⊥) → is_empty ts ≡ false
+some_list [] h = absurd (h refl)
+some_list (t ∷ ts) h = refl
 
 -- a row without entries
-pub plain_says : (n : ℕ) (rows : List AtomOf) (r : RowOf) (x : Ex) → length r.entries ≡ 0 → x ≡ Fact (int_le (pos 0) r.bound) → SaysRow n rows r x
+pub plain_says : (n : ℕ) (rows : List AtomOf) (r : RowOf) (x : Ex) → is_empty r.entries ≡ true → x ≡ Fact (int_le (pos 0) r.bound) → SaysRow n rows r x
 plain_says n rows r x h is =
-    subst (SaysRow n rows r) (sym is) (record { fits = refl; same = λ k g. ap (λ t. Truth (int_le t r.bound)) (sym (no_entries k.numbers r h)) })
+    subst (SaysRow n rows r) (sym is) (record {
+      fits = refl;
+      exact = sym (row_by n rows r (is_empty r.entries) true h);
+      same = λ k g. ap (λ t. Truth (int_le t r.bound)) (sym (no_entries k.numbers r.entries h));
+    })

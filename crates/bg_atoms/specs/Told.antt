@@ -1,5 +1,5 @@
 -- Blocks of forms that say what passive blocks say, as far as the rows go.
-use Rattle.std.specs.Prelude.{◌≡◌, ℕ, ◌+◌, ℤ, Bool, true, List, length, Ok, Err}
+use Rattle.std.specs.Prelude.{◌≡◌, ℕ, ◌+◌, ℤ, Bool, true, List, length}
 use Rattle.bg_ast.specs.Syntax.{Ex}
 use Rattle.bg_sense.specs.Eval.{Scope}
 use Rattle.bg_passive.specs.Passive.{PassiveCmd, Claims, Supposes, Edge, PassiveBlock}
@@ -12,18 +12,13 @@ use Rattle.bg_linear.specs.declared.scalar.Sort.{Sort}
 use Rattle.bg_linear.specs.Sorts.{kind_ex, is_truth, HoldScalars}
 use Rattle.bg_atoms.specs.Pairs.{Pairs}
 use Rattle.bg_atoms.specs.Ranks.{rank}
-use Rattle.bg_atoms.specs.Outside.{IsOutside}
-
--- what was refused was refused for a relation in the expression
-abbrev pub IsRefusal : List Sort → Ex → Says → Type 0
-IsRefusal sorts e (Ok f) = Unit {0}
-IsRefusal sorts e (Err o) = IsOutside sorts o e
+use Rattle.bg_atoms.specs.Over.{says_over}
 
 -- what is said of a truth over incarnations, where these rows are the atoms from n on
 pub record Tells (sorts : List Sort) (n : ℕ) (rows : List AtomOf) (e : Ex) (r : Says) : Type 0 where
   pub below : form_below (n + length rows) (said r) ≡ true
   pub same : (numbers : ℕ → ℤ) (truth : ℕ → Bool) (c : Scope) → RowsAgree numbers truth n rows → AtomsAgree rows → HoldScalars sorts numbers (λ j. truth (rank sorts j)) c.frame → IsSaid truth c e r
-  pub refusal : IsRefusal sorts e r
+  pub exact : r ≡ says_over sorts n rows e
 
 abbrev pub IsTold : List Sort → ℕ → List AtomOf → Ex → Says → Type 0
 IsTold sorts n rows e r = is_truth (kind_ex sorts e) ≡ true → Tells sorts n rows e r

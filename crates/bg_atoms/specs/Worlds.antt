@@ -1,5 +1,5 @@
 -- Rows behind truth variables, and the numbers and truth values with which they agree.
-use Rattle.std.specs.Prelude.{◌≡◌, ℕ, ◌+◌, ◌<◌, ℤ, Bool, true, List, [], ◌∷◌, length}
+use Rattle.std.specs.Prelude.{◌≡◌, ℕ, ◌+◌, ◌<◌, ℤ, Bool, true, List, [], ◌∷◌, length, Some, None}
 use Rattle.bg_ast.specs.Values.{Truth}
 use Rattle.bg_ast.specs.Syntax.{Ex}
 use Rattle.bg_sense.specs.Eval.{Scope, ev, value_at}
@@ -15,6 +15,8 @@ use Rattle.bg_linear.specs.declared.scalar.Sort.{Sort}
 use Rattle.bg_linear.specs.Relations.{all_true}
 use Rattle.bg_linear.specs.Sorts.{HoldScalars}
 use Rattle.bg_atoms.specs.Ranks.{rank}
+use Rattle.bg_atoms.specs.Literals.{literal_of}
+use Rattle.bg_atoms.specs.Over.{row_ex, rows_ex, over, first_refused}
 
 -- the second list goes on behind the first one
 abbrev pub Begins : List AtomOf → List AtomOf → Type 0
@@ -26,11 +28,6 @@ Begins (x ∷ xs) (y ∷ ys) = (x ≡ y) × Begins xs ys
 abbrev pub AddsInside : List AtomOf → List AtomOf → List AtomOf → Type 0
 AddsInside more xs ys =
     (terms : ℕ) → rows_below terms more ≡ true → rows_below terms xs ≡ true → rows_below terms ys ≡ true
-
--- the second list goes on behind the first one, and names the first terms alone if that did
-pub record Grows (terms : ℕ) (xs ys : List AtomOf) : Type 0 where
-  pub begins : Begins xs ys
-  pub inside : rows_below terms xs ≡ true → rows_below terms ys ≡ true
 
 -- numbers of incarnations and truth values of atoms, a scope over incarnations and one over atoms
 pub record World : Type 0 where
@@ -53,22 +50,26 @@ Holds sorts k = HoldScalars sorts k.numbers (λ j. k.truth (rank sorts j)) k.sco
 abbrev pub valuation_of : List Sort → World → Valuation
 valuation_of sorts k = record { numbers = k.numbers; truths = λ j. k.truth (rank sorts j) }
 
--- a literal of an atom that is there, which is true exactly where the row holds
+-- the literal of the row's atom, which is there; it is true exactly where the row holds
 pub record IsLiteral (n : ℕ) (rows : List AtomOf) (r : RowOf) (l : Literal) : Type 0 where
   pub below : l.atom < n + length rows
+  pub found : literal_of r n rows ≡ Some l
   pub same : (k : World) → Agrees n rows k → literal_in k.truth l ≡ holds k.numbers r
 
--- an expression over atoms that are there, which is true exactly where the row holds
+-- what says that the row holds, over atoms that are there; it is true exactly where the row holds
 pub record SaysRow (n : ℕ) (rows : List AtomOf) (r : RowOf) (x : Ex) : Type 0 where
   pub fits : fits_ex (n + length rows) x ≡ true
+  pub exact : x ≡ row_ex n rows r
   pub same : (k : World) → Agrees n rows k → ev x k.atoms ≡ Truth (holds k.numbers r)
 
 -- the same of several rows
-pub record SaysAll (n : ℕ) (rows : List AtomOf) (sorts : List Sort) (rs : List AtomOf) (x : Ex) : Type 0 where
+pub record SaysAll (n : ℕ) (rows : List AtomOf) (rs : List AtomOf) (x : Ex) : Type 0 where
   pub fits : fits_ex (n + length rows) x ≡ true
-  pub same : (k : World) → Agrees n rows k → ev x k.atoms ≡ Truth (all_true (valuation_of sorts k) rs)
+  pub exact : x ≡ rows_ex n rows rs
+  pub same : (sorts : List Sort) (k : World) → Agrees n rows k → ev x k.atoms ≡ Truth (all_true (valuation_of sorts k) rs)
 
--- an expression over atoms that is worth what one over incarnations is
+-- what one over incarnations is over atoms that are there; it is worth what that is, where no relation in it is refused
 pub record Means (sorts : List Sort) (n : ℕ) (rows : List AtomOf) (e x : Ex) : Type 0 where
   pub fits : fits_ex (n + length rows) x ≡ true
-  pub same : (k : World) → Agrees n rows k → Holds sorts k → ev x k.atoms ≡ ev e k.scope
+  pub exact : x ≡ over sorts n rows e
+  pub same : first_refused sorts e ≡ None → (k : World) → Agrees n rows k → Holds sorts k → ev x k.atoms ≡ ev e k.scope

@@ -5,14 +5,15 @@ ghost use Rattle.bg_ast.specs.Views.{ex_of};
 ghost use Rattle.bg_incarnate.specs.Views.{passive_cmd_of, cmds_of, edge_of, passive_block_of};
 ghost use Rattle.bg_formula.specs.Atoms.{AtomOf};
 ghost use Rattle.bg_formed.specs.Views.{says_of, form_cmd_of, form_cmds_of, form_edge_of, form_block_of};
-ghost use Rattle.bg_atoms.specs.Worlds.{Begins, Grows};
+ghost use Rattle.bg_atoms.specs.Worlds.{Begins};
 ghost use Rattle.bg_atoms.specs.Made.{rows_in};
 ghost use Rattle.bg_atoms.specs.Sources.{expression_of, InCmds, InEdges, InBlock, InBlocks};
+ghost use Rattle.bg_atoms.specs.Tables.{IsTable};
 ghost use Rattle.bg_atoms.specs.Added.{Adds, IsFromTruth};
+ghost use Rattle.bg_atoms.specs.Growing.{Grows};
 ghost use Rattle.bg_atoms.specs.Told.{IsTold, CmdTold, CmdsTold, EdgeTold, EdgesTold, BlockTold, BlocksTold};
 
 use crate::exprs::abstracted;
-use crate::made::Made;
 use crate::named::Names;
 use crate::table::Table;
 use bg_ast::resolved::Expr;
@@ -23,13 +24,15 @@ use std::alloc::{AllocError, Global};
 
 /// What a truth over incarnations says.
 fn told(alloc: Global, table: &mut Table, names: &Names, e: &Expr) -> Result<Says, AllocError>
-    ensures grows { OnOk result (Grows (length names.now.sorts.items) (rows_in table.old.rows) (rows_in table.new.rows)) }
+    requires table { IsTable names.now.base table.old }
+    ensures grows { OnOk result (Grows names.now.base (length names.now.sorts.items) table.old table.new) }
     ensures adds { OnOk result (Adds (IsFromTruth names.now.sorts.items (m.ex_of (ex_of e.now))) (rows_in table.old.rows) (rows_in table.new.rows)) }
     ensures told { IfOk result (λ x. (all : List AtomOf) → Begins (rows_in table.new.rows) all → IsTold names.now.sorts.items names.now.base all (m.ex_of (ex_of e.now)) (says_of x)) }
 {
-    match abstracted(alloc, table, names, e)? {
-        Made::Outside(o) => Ok(Says::Outside(o)),
-        Made::Is(x) => Ok(Says::Form(form_ex(alloc, &x)?)),
+    let x = abstracted(alloc, table, names, e)?;
+    match x.refused {
+        Some(o) => Ok(Says::Outside(o)),
+        None => Ok(Says::Form(form_ex(alloc, &x.says)?)),
     }
 }
 
@@ -39,7 +42,8 @@ fn cmd(
     names: &Names,
     k: &PassiveCmd,
 ) -> Result<FormCmd, AllocError>
-    ensures grows { OnOk result (Grows (length names.now.sorts.items) (rows_in table.old.rows) (rows_in table.new.rows)) }
+    requires table { IsTable names.now.base table.old }
+    ensures grows { OnOk result (Grows names.now.base (length names.now.sorts.items) table.old table.new) }
     ensures adds { OnOk result (Adds (IsFromTruth names.now.sorts.items (expression_of (passive_cmd_of k.now))) (rows_in table.old.rows) (rows_in table.new.rows)) }
     ensures told { IfOk result (λ x. (all : List AtomOf) → Begins (rows_in table.new.rows) all → CmdTold names.now.sorts.items names.now.base all (passive_cmd_of k.now) (form_cmd_of x)) }
 {
@@ -61,7 +65,8 @@ fn cmds(
     names: &Names,
     ks: &[PassiveCmd],
 ) -> Result<Vec<FormCmd>, AllocError>
-    ensures grows { OnOk result (Grows (length names.now.sorts.items) (rows_in table.old.rows) (rows_in table.new.rows)) }
+    requires table { IsTable names.now.base table.old }
+    ensures grows { OnOk result (Grows names.now.base (length names.now.sorts.items) table.old table.new) }
     ensures adds { OnOk result (Adds (λ r. InCmds (λ e. IsFromTruth names.now.sorts.items e r) (cmds_of ks.now)) (rows_in table.old.rows) (rows_in table.new.rows)) }
     ensures told { IfOk result (λ x. (all : List AtomOf) → Begins (rows_in table.new.rows) all → CmdsTold names.now.sorts.items names.now.base all (cmds_of ks.now) (form_cmds_of x.items)) }
 {
@@ -74,7 +79,8 @@ fn cmds(
 }
 
 fn edge(alloc: Global, table: &mut Table, names: &Names, e: &Edge) -> Result<FormEdge, AllocError>
-    ensures grows { OnOk result (Grows (length names.now.sorts.items) (rows_in table.old.rows) (rows_in table.new.rows)) }
+    requires table { IsTable names.now.base table.old }
+    ensures grows { OnOk result (Grows names.now.base (length names.now.sorts.items) table.old table.new) }
     ensures adds { OnOk result (Adds (λ r. InCmds (λ x. IsFromTruth names.now.sorts.items x r) (edge_of e.now).cmds) (rows_in table.old.rows) (rows_in table.new.rows)) }
     ensures told { IfOk result (λ x. (all : List AtomOf) → Begins (rows_in table.new.rows) all → EdgeTold names.now.sorts.items names.now.base all (edge_of e.now) (form_edge_of x)) }
 {
@@ -91,7 +97,8 @@ fn edges(
     names: &Names,
     es: &[Edge],
 ) -> Result<Vec<FormEdge>, AllocError>
-    ensures grows { OnOk result (Grows (length names.now.sorts.items) (rows_in table.old.rows) (rows_in table.new.rows)) }
+    requires table { IsTable names.now.base table.old }
+    ensures grows { OnOk result (Grows names.now.base (length names.now.sorts.items) table.old table.new) }
     ensures adds { OnOk result (Adds (λ r. InEdges (λ e. IsFromTruth names.now.sorts.items e r) (map edge_of es.now)) (rows_in table.old.rows) (rows_in table.new.rows)) }
     ensures told { IfOk result (λ x. (all : List AtomOf) → Begins (rows_in table.new.rows) all → EdgesTold names.now.sorts.items names.now.base all (map edge_of es.now) (map form_edge_of x.items)) }
 {
@@ -109,7 +116,8 @@ fn block(
     names: &Names,
     b: &PassiveBlock,
 ) -> Result<FormBlock, AllocError>
-    ensures grows { OnOk result (Grows (length names.now.sorts.items) (rows_in table.old.rows) (rows_in table.new.rows)) }
+    requires table { IsTable names.now.base table.old }
+    ensures grows { OnOk result (Grows names.now.base (length names.now.sorts.items) table.old table.new) }
     ensures adds { OnOk result (Adds (λ r. InBlock (λ e. IsFromTruth names.now.sorts.items e r) (passive_block_of b.now)) (rows_in table.old.rows) (rows_in table.new.rows)) }
     ensures told { IfOk result (λ x. (all : List AtomOf) → Begins (rows_in table.new.rows) all → BlockTold names.now.sorts.items names.now.base all (passive_block_of b.now) (form_block_of x)) }
 {
@@ -125,7 +133,8 @@ pub fn blocks_told(
     names: &Names,
     bs: &[PassiveBlock],
 ) -> Result<Vec<FormBlock>, AllocError>
-    ensures grows { OnOk result (Grows (length names.now.sorts.items) (rows_in table.old.rows) (rows_in table.new.rows)) }
+    requires table { IsTable names.now.base table.old }
+    ensures grows { OnOk result (Grows names.now.base (length names.now.sorts.items) table.old table.new) }
     ensures adds { OnOk result (Adds (λ r. InBlocks (λ e. IsFromTruth names.now.sorts.items e r) (map passive_block_of bs.now)) (rows_in table.old.rows) (rows_in table.new.rows)) }
     ensures told { IfOk result (λ x. (all : List AtomOf) → Begins (rows_in table.new.rows) all → BlocksTold names.now.sorts.items names.now.base all (map passive_block_of bs.now) (map form_block_of x.items)) }
 {

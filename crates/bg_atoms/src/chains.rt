@@ -1,6 +1,8 @@
 //! Chains and rows of signs over atoms.
 ghost use Rattle.std.specs.Prelude.{IfOk};
-ghost use Rattle.bg_atoms.specs.Made.{IsJoined, IsPrefixed};
+ghost use Rattle.bg_ast.specs.Meaning as m;
+ghost use Rattle.bg_ast.specs.Views.{ex_of};
+ghost use Rattle.bg_atoms.specs.Made.{Shows, behind};
 
 use crate::made::{Linked, Made};
 use crate::signs::copied;
@@ -9,27 +11,24 @@ use bg_text::TreePrefix;
 use std::alloc::{AllocError, Global};
 
 /// A chain of truths.
-pub fn joined(alloc: Global, first: Made, behind: Linked) -> Result<Made, AllocError>
-    ensures { IfOk result (λ x. IsJoined first behind x) }
+pub fn joined(alloc: Global, first: Expr, rest: Linked) -> Result<Made, AllocError>
+    ensures { IfOk result (Shows (behind (m.ex_of (ex_of first)) rest.links.items) rest.refused) }
 {
-    match first {
-        Made::Outside(o) => Ok(Made::Outside(o)),
-        Made::Is(e) => match behind {
-            Linked::Outside(o) => Ok(Made::Outside(o)),
-            Linked::Are(links) => Ok(Made::Is(Expr::Chain(Box::new(alloc, e)?, links))),
-        },
-    }
+    let refused = rest.refused;
+    Ok(Made {
+        says: Expr::Chain(Box::new(alloc, first)?, rest.links),
+        refused,
+    })
 }
 
 /// What stands behind prefix signs.
 pub fn prefixed(alloc: Global, signs: &[TreePrefix], x: Made) -> Result<Made, AllocError>
-    ensures { IfOk result (λ y. IsPrefixed signs.now x y) }
+    ensures { IfOk result (Shows (m.signed signs.now (m.ex_of (ex_of x.says))) x.refused) }
 {
-    match x {
-        Made::Outside(o) => Ok(Made::Outside(o)),
-        Made::Is(e) => {
-            let signs = copied(alloc, signs)?;
-            Ok(Made::Is(Expr::Prefix(signs, Box::new(alloc, e)?)))
-        }
-    }
+    let refused = x.refused;
+    let signs = copied(alloc, signs)?;
+    Ok(Made {
+        says: Expr::Prefix(signs, Box::new(alloc, x.says)?),
+        refused,
+    })
 }

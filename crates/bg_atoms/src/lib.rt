@@ -11,6 +11,7 @@ mod exprs;
 mod heads;
 mod made;
 mod named;
+mod order;
 mod product;
 mod relate;
 mod signs;

@@ -3,16 +3,16 @@
 use bg_ast::resolved::{Expr, Link};
 use bg_base::OutOfRange;
 
-/// An expression over atoms, or the operation of a relation that leaves 128 bits.
+/// An expression over atoms, and the first operation of its relations that leaves 128 bits. What a refused relation says is plain.
 #[derive(Drop)]
-pub enum Made {
-    Is(Expr),
-    Outside(OutOfRange),
+pub struct Made {
+    pub says: Expr,
+    pub refused: Option<OutOfRange>,
 }
 
-/// The same of the operands of a chain.
+/// The links of a chain over atoms, and the chain's first operation that leaves 128 bits.
 #[derive(Drop)]
-pub enum Linked {
-    Are(Vec<Link>),
-    Outside(OutOfRange),
+pub struct Linked {
+    pub links: Vec<Link>,
+    pub refused: Option<OutOfRange>,
 }

@@ -1,5 +1,5 @@
 //! Relations of numbers as expressions over the atoms of their rows.
-ghost use Rattle.std.specs.Prelude.{◌≡◌, true, List, [], ◌∷◌, length, map, Contains, IfOk, OnOk};
+ghost use Rattle.std.specs.Prelude.{◌≡◌, List, [], ◌∷◌, length, map, IfOk, OnOk};
 ghost use Rattle.bg_ast.specs.Syntax.{Binary};
 ghost use Rattle.bg_ast.specs.Meaning as m;
 ghost use Rattle.bg_ast.specs.Views.{ex_of};
@@ -7,10 +7,12 @@ ghost use Rattle.bg_rows.specs.Rows.{row_of};
 ghost use Rattle.bg_formula.specs.Atoms.{AtomOf, view_linear};
 ghost use Rattle.bg_linear.specs.Relations.{op_of};
 ghost use Rattle.bg_atoms.specs.Built.{says_ex};
-ghost use Rattle.bg_atoms.specs.Worlds.{Begins, Grows, AddsInside, SaysRow, SaysAll};
+ghost use Rattle.bg_atoms.specs.Worlds.{Begins, SaysRow, SaysAll};
 ghost use Rattle.bg_atoms.specs.Made.{rows_in, behind, IsRange, IsRelated};
 ghost use Rattle.bg_atoms.specs.Sources.{IsFrom};
+ghost use Rattle.bg_atoms.specs.Tables.{IsTable};
 ghost use Rattle.bg_atoms.specs.Added.{Adds};
+ghost use Rattle.bg_atoms.specs.Growing.{Gains, Grows};
 ghost use Rattle.bg_atoms.specs.Heads.{Relates};
 
 use crate::build::{both, literal, plain};
@@ -27,9 +29,8 @@ use std::alloc::{AllocError, Global};
 
 /// What says that a row holds, where the rows begin at this atom. A row without entries is plain.
 fn row_expr(alloc: Global, table: &mut Table, base: u32, a: Linear) -> Result<Expr, AllocError>
-    ensures begins { OnOk result (Begins (rows_in table.old.rows) (rows_in table.new.rows)) }
-    ensures inside { OnOk result (AddsInside (view_linear a ∷ []) (rows_in table.old.rows) (rows_in table.new.rows)) }
-    ensures adds { OnOk result (Adds (Contains (view_linear a ∷ [])) (rows_in table.old.rows) (rows_in table.new.rows)) }
+    requires table { IsTable base table.old }
+    ensures gains { OnOk result (Gains base (view_linear a ∷ []) table.old table.new) }
     ensures row { IfOk result (λ x. (all : List AtomOf) → Begins (rows_in table.new.rows) all → SaysRow base all (row_of a.row) (m.ex_of (ex_of x))) }
 {
     if a.row.entries.is_empty() {
@@ -43,18 +44,17 @@ fn row_expr(alloc: Global, table: &mut Table, base: u32, a: Linear) -> Result<Ex
 fn all_rows(
     alloc: Global,
     table: &mut Table,
-    names: &Names,
+    base: u32,
     rows: Vec<Linear>,
 ) -> Result<Expr, AllocError>
-    ensures begins { OnOk result (Begins (rows_in table.old.rows) (rows_in table.new.rows)) }
-    ensures inside { OnOk result (AddsInside (map view_linear rows.items) (rows_in table.old.rows) (rows_in table.new.rows)) }
-    ensures adds { OnOk result (Adds (Contains (map view_linear rows.items)) (rows_in table.old.rows) (rows_in table.new.rows)) }
-    ensures rows { IfOk result (λ x. (all : List AtomOf) → Begins (rows_in table.new.rows) all → SaysAll names.now.base all names.now.sorts.items (map view_linear rows.items) (m.ex_of (ex_of x))) }
+    requires table { IsTable base table.old }
+    ensures gains { OnOk result (Gains base (map view_linear rows.items) table.old table.new) }
+    ensures rows { IfOk result (λ x. (all : List AtomOf) → Begins (rows_in table.new.rows) all → SaysAll base all (map view_linear rows.items) (m.ex_of (ex_of x))) }
 {
     let mut rows = rows;
     let mut made = plain(true);
     while let Some(a) = rows.pop() {
-        let x = row_expr(alloc, table, names.base, a)?;
+        let x = row_expr(alloc, table, base, a)?;
         made = both(alloc, x, made)?;
     }
     Ok(made)
@@ -71,12 +71,15 @@ fn said(alloc: Global, sign: InfixSign, all: Expr) -> Result<Expr, AllocError>
     }
 }
 
-/// The operation that leaves the range.
+/// Of a refused relation nothing is said.
 fn refused(r: Refused) -> Result<Made, AllocError>
     ensures { IfOk result (λ x. IsRange r x) }
 {
     match r {
-        Refused::Range(o) => Ok(Made::Outside(o)),
+        Refused::Range(o) => Ok(Made {
+            says: plain(false),
+            refused: Some(o),
+        }),
         Refused::Memory => Err(AllocError),
     }
 }
@@ -90,16 +93,20 @@ pub fn related(
     before: &[Link],
     l: &Link,
 ) -> Result<Made, AllocError>
-    requires { Relates names.now.sorts.items (m.ex_of (ex_of first.now)) before.now l.now }
-    ensures grows { OnOk result (Grows (length names.now.sorts.items) (rows_in table.old.rows) (rows_in table.new.rows)) }
+    requires related { Relates names.now.sorts.items (m.ex_of (ex_of first.now)) before.now l.now }
+    requires table { IsTable names.now.base table.old }
+    ensures grows { OnOk result (Grows names.now.base (length names.now.sorts.items) table.old table.new) }
     ensures adds { OnOk result (Adds (IsFrom names.now.sorts.items (Binary (op_of l.now.sign) (behind (m.ex_of (ex_of first.now)) before.now) (m.ex_of (ex_of l.now.operand)))) (rows_in table.old.rows) (rows_in table.new.rows)) }
     ensures made { IfOk result (λ x. (all : List AtomOf) → Begins (rows_in table.new.rows) all → IsRelated names.now.sorts.items names.now.base all (op_of l.now.sign) (behind (m.ex_of (ex_of first.now)) before.now) (m.ex_of (ex_of l.now.operand)) x) }
 {
     match relation_of_chain(alloc, l.sign, first, before, &l.operand) {
         Err(r) => refused(r),
         Ok(rows) => {
-            let all = all_rows(alloc, table, names, rows)?;
-            Ok(Made::Is(said(alloc, l.sign, all)?))
+            let all = all_rows(alloc, table, names.base, rows)?;
+            Ok(Made {
+                says: said(alloc, l.sign, all)?,
+                refused: None,
+            })
         }
     }
 }

@@ -45,6 +45,10 @@ fn then(alloc: Global, e: Expr, sign: InfixSign, operand: Expr) -> Result<Expr, 
     }
 }
 
+fn parens(alloc: Global, e: Expr) -> Result<Expr, AllocError> {
+    Ok(Expr::Parens(HERE, Box::new(alloc, e)?))
+}
+
 /// A relation of the first two incarnations.
 fn related(alloc: Global, a: u32, sign: InfixSign, b: u32) -> Result<Expr, AllocError> {
     then(alloc, read(a), sign, read(b))
@@ -159,6 +163,38 @@ fn a_relation_that_leaves_the_range_says_so(rt: HostRuntime) -> Result<(), Fail>
         b: least,
     };
     assert!(rt; leaves(&a, 0) == Some(outside));
+    Ok(())
+}
+
+#[test]
+fn of_two_refusals_the_first_that_is_evaluated_is_said(rt: HostRuntime) -> Result<(), Fail> {
+    let alloc = rt.alloc();
+    let least = i128::MIN;
+    let minus = OutOfRange {
+        op: Op::Minus,
+        a: 0,
+        b: least,
+    };
+    let times = OutOfRange {
+        op: Op::Times,
+        a: 2,
+        b: least,
+    };
+    let signs = [
+        (InfixSign::And, minus),
+        (InfixSign::Implies, minus),
+        (InfixSign::Explies, times),
+    ];
+    for (sign, first) in signs {
+        let a = then(alloc, read(0), InfixSign::AtMost, number(least))?;
+        let b = then(alloc, number(2), InfixSign::Times, number(least))?;
+        let b = then(alloc, b, InfixSign::AtMost, read(0))?;
+        let e = then(alloc, parens(alloc, a)?, sign, parens(alloc, b)?)?;
+        let mut said = Vec::new(alloc);
+        said.push(e)?;
+        let made = made(alloc, &NUMBERS, 0, said)?.ok_or("no atoms")?;
+        assert!(rt; leaves(&made, 0) == Some(first));
+    }
     Ok(())
 }
 

@@ -11,10 +11,11 @@ ghost use Rattle.bg_formed.specs.Said.{SaidBlocks};
 ghost use Rattle.bg_formed.specs.Views.{blocks_of};
 ghost use Rattle.bg_linear.specs.Sorts.{HoldScalars};
 ghost use Rattle.bg_atoms.specs.Ranks.{rank, truths};
+ghost use Rattle.bg_atoms.specs.Literals.{are_apart};
+ghost use Rattle.bg_atoms.specs.Encoded.{blocks_over};
 ghost use Rattle.bg_atoms.specs.Made.{rows_in};
 ghost use Rattle.bg_atoms.specs.Sources.{AreFrom};
 ghost use Rattle.bg_atoms.specs.Sorted.{blocks_sorted};
-ghost use Rattle.bg_atoms.specs.Refusals.{BlocksRefusals};
 
 use crate::blocks::blocks_told;
 use crate::named::{Names, sum, truths};
@@ -39,9 +40,11 @@ fn count(sorts: &[Sort]) -> Result<u32, AllocError>
 /// no truth over these incarnations, or names a candidate that isn't below `candidates`.
 ///
 /// A relation of numbers is a literal of its row's atom, or of that of the row which it denies; `==` is the conjunction of its two
-/// rows' literals, and `!=` its denial. Each row is one of such a relation in some command. A command of which a relation leaves 128
-/// bits says `Outside` with the first operation that does so in some such relation; of several relations it is the first one's in the
-/// text, which no clause says. 2^32 atoms or incarnations count as want of memory.
+/// rows' literals, and `!=` its denial. Each row is one of such a relation in some command, no row stands twice, and none is the denial
+/// of another. With the rows the blocks of forms are given (`exact`): a command's form is that of its expression with the literals of
+/// its own relations, so it names no row but theirs. A command of which a relation leaves 128 bits says `Outside` with the first
+/// operation that does so, in the order in which what its expression means is evaluated: `a <== b` means `b ==> a`, so what b has comes
+/// before what a has. 2^32 atoms or incarnations count as want of memory.
 pub fn atoms(
     alloc: Global,
     sorts: &[Sort],
@@ -57,7 +60,8 @@ pub fn atoms(
     ensures denials { IfOk result (λ made. IfSome made (λ a. AtomsAgree (rows_in a.rows))) }
     ensures inside { IfOk result (λ made. IfSome made (λ a. rows_below a.terms (rows_in a.rows) ≡ true)) }
     ensures sources { IfOk result (λ made. IfSome made (λ a. AreFrom sorts.now (map passive_block_of blocks.now) (rows_in a.rows))) }
-    ensures refusals { IfOk result (λ made. IfSome made (λ a. BlocksRefusals sorts.now (map passive_block_of blocks.now) (blocks_of a.blocks))) }
+    ensures exact { IfOk result (λ made. IfSome made (λ a. blocks_of a.blocks ≡ blocks_over sorts.now (a.first + candidates) (rows_in a.rows) (map passive_block_of blocks.now))) }
+    ensures apart { IfOk result (λ made. IfSome made (λ a. are_apart (rows_in a.rows) ≡ true)) }
 {
     if !blocks_sorted(sorts, candidates, blocks) {
         return Ok(None);

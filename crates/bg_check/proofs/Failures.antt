@@ -39,7 +39,7 @@ module _ (functions : FunctionLaw) (bodies : BodyLaw) (runs : PassiveLaw) (fits 
     pub no_failure : (set other : ℕ → Bool) (u : Place) (nodes : List Node) → HasCertificate p set u nodes → ((c : ℕ) → uses (map node_of nodes) c ≡ true → other c ≡ true) → (i : Interp) (s : State) (choices : List Choice) → Fails p other u i s choices → ⊥
     no_failure set other u nodes c us i s choices fails =
         let f = c.formula in
-        let h = c.is in
+        let h = c.is.clauses in
         let a = h.encoding in
         let plain = plain_formula a.first p.candidates a.terms a.rows u.spot a.blocks f h.clauses in
         let v = valued other u f h i s choices fails.meets fails.state fails.fails in

@@ -24,8 +24,9 @@ use Rattle.bg_linear.specs.Sorts.{HoldScalars}
 use Rattle.bg_atoms.specs.Ranks.{rank, truths}
 use Rattle.bg_atoms.specs.Made.{rows_in}
 use Rattle.bg_atoms.specs.declared.product.Atoms.{Atoms}
-use Rattle.bg_atoms.specs.Refusals.{BlocksRefusals}
 use Rattle.bg_atoms.specs.Sources.{AreFrom}
+use Rattle.bg_atoms.specs.Literals.{are_apart}
+use Rattle.bg_atoms.specs.Encoded.{blocks_over}
 use Rattle.bg_sense.specs.Variables.{procedure_of}
 use Rattle.bg_sense.specs.Typed.{IsTypedImpl, IsTyped}
 use Rattle.bg_calls.specs.Core.{frame_decls}
@@ -48,11 +49,11 @@ use Rattle.bg_sorts.specs.Sorts.{sort_of_type, decl_sorts}
 use Rattle.bg_sorts.specs.Passive.{ArrivesAt}
 use Rattle.bg_atoms.specs.Sorted.{blocks_sorted}
 use Rattle.bg_faithful.specs.Sorted.{sorts_in}
-use Rattle.bg_faithful.specs.Encoded.{Encoding, Encodes, IsEncoding, HasClauses}
+use Rattle.bg_faithful.specs.Encoded.{Encoding, Encodes, IsEncoding}
 use Rattle.bg_check.specs.declared.prepared.Prepared.{Prepared}
 use Rattle.bg_check.specs.Prepared.{IsPassive, IsPrepared, encoding_of, frame_declared}
 use Rattle.bg_check.specs.Verdicts.{HasOutside}
-use Rattle.bg_check.specs.Cuts.{HasCutClauses}
+use Rattle.bg_check.specs.Cuts.{IsOwn, HasOwnClauses}
 use Rattle.bg_check.specs.Slices.{IsSliceFor}
 use Rattle.bg_check.specs.Made.{ClausesOf}
 use Rattle.bg_check.proofs.LawTypes.{EvenLaw, SortLaw}
@@ -143,8 +144,7 @@ module _ (p : r.Program) (n : ℕ) (w : Prepared) (h : IsPrepared p n w) where
         is_there = impl_at;
         is_its = proc_at;
         encoding = encoding_of w.atoms;
-        is_encoding = h.encoding;
-        refusals = subst (λ ss. BlocksRefusals ss (passives_in (meaning_of p) n impl proc) (encoding_of w.atoms).blocks) h.sorts h.refusals;
+        is_own = h.own;
         is_refused = sym cut.refusals ∙ (ap (refused spot) (sym b) ∙ by (refused spot forms) refl e);
       }
     where
@@ -153,18 +153,12 @@ module _ (p : r.Program) (n : ℕ) (w : Prepared) (h : IsPrepared p n w) where
       by (Some y) g k = let same : y ≡ o = cc in g ∙ ap Some same
 
   -- the clauses of a place
-  pub clauses_here : (spot : Spot) (candidate : Option ℕ) (x : Atoms) (f : Formula) → IsSliceFor p n w spot x → ClausesOf (meaning_of p) x (record { implementation = n; spot = spot; candidate = candidate }) f → HasClauses (meaning_of p) (record { implementation = n; spot = spot; candidate = candidate }) f
+  pub clauses_here : (spot : Spot) (candidate : Option ℕ) (x : Atoms) (f : Formula) → IsSliceFor p n w spot x → ClausesOf (meaning_of p) x (record { implementation = n; spot = spot; candidate = candidate }) f → HasOwnClauses (meaning_of p) (record { implementation = n; spot = spot; candidate = candidate }) f
   clauses_here spot candidate x f cut e =
-      record { implementation = impl; procedure = proc; is_there = impl_at; is_its = proc_at; encoding = encoding_of x; is_encoding = cut.encoding h; clauses = e }
-
-  -- the same, cut down to what counts for the place
-  pub cut_here : (spot : Spot) (candidate : Option ℕ) (x : Atoms) (f : Formula) → IsSliceFor p n w spot x → ClausesOf (meaning_of p) x (record { implementation = n; spot = spot; candidate = candidate }) f → HasCutClauses (meaning_of p) (record { implementation = n; spot = spot; candidate = candidate }) f
-  cut_here spot candidate x f cut e =
       record {
         clauses = record { implementation = impl; procedure = proc; is_there = impl_at; is_its = proc_at; encoding = encoding_of x; is_encoding = cut.encoding h; clauses = e };
         whole = encoding_of w.atoms;
-        is_whole = h.encoding;
-        sources = subst (λ ss. AreFrom ss (passives_in (meaning_of p) n impl proc) (encoding_of w.atoms).rows) h.sorts h.sources;
+        is_own = h.own;
         is_cut = cut.cut;
       }
 
@@ -177,13 +171,27 @@ encodes_some ss k bs (Some x) a e first terms said below rows denials inside =
     let same : x ≡ a = cc in
     subst (λ y. Encodes ss k bs (encoding_of y)) same (record { first = first; terms = terms; said = said; below = below; rows = rows; denials = denials; inside = inside })
 
-pub refusals_some : (ss : List Sort) (bs : List PassiveBlock) (o : Option Atoms) (a : Atoms) → o ≡ Some a → IfSome o (λ x. BlocksRefusals ss bs (blocks_of x.blocks)) → BlocksRefusals ss bs (blocks_of a.blocks)
-refusals_some ss bs None a e h = absurd (let bad : ⊥ = cc in bad)
-refusals_some ss bs (Some x) a e h = let same : x ≡ a = cc in subst (λ y. BlocksRefusals ss bs (blocks_of y.blocks)) same h
+pub exact_some : (ss : List Sort) (k : ℕ) (bs : List PassiveBlock) (o : Option Atoms) (a : Atoms) → o ≡ Some a → IfSome o (λ x. blocks_of x.blocks ≡ blocks_over ss (x.first + k) (rows_in x.rows) bs) → blocks_of a.blocks ≡ blocks_over ss (a.first + k) (rows_in a.rows) bs
+exact_some ss k bs None a e h = absurd (let bad : ⊥ = cc in bad)
+exact_some ss k bs (Some x) a e h = let same : x ≡ a = cc in subst (λ y. blocks_of y.blocks ≡ blocks_over ss (y.first + k) (rows_in y.rows) bs) same h
 
 pub sources_some : (ss : List Sort) (bs : List PassiveBlock) (o : Option Atoms) (a : Atoms) → o ≡ Some a → IfSome o (λ x. AreFrom ss bs (rows_in x.rows)) → AreFrom ss bs (rows_in a.rows)
 sources_some ss bs None a e h = absurd (let bad : ⊥ = cc in bad)
 sources_some ss bs (Some x) a e h = let same : x ≡ a = cc in subst (λ y. AreFrom ss bs (rows_in y.rows)) same h
+
+pub apart_some : (o : Option Atoms) (a : Atoms) → o ≡ Some a → IfSome o (λ x. are_apart (rows_in x.rows) ≡ true) → are_apart (rows_in a.rows) ≡ true
+apart_some None a e h = absurd (let bad : ⊥ = cc in bad)
+apart_some (Some x) a e h = let same : x ≡ a = cc in subst (λ y. are_apart (rows_in y.rows) ≡ true) same h
+
+-- with the sorts, the number of candidates and the passive blocks of the implementation
+pub own_here : (p : s.Prog) (n : ℕ) (m : s.Impl) (q : s.Proc) (ss : List Sort) (k : ℕ) (bs : List PassiveBlock) (a : Encoding) → ss ≡ sorts_in p n m q → k ≡ p.candidates → bs ≡ passives_in p n m q → IsEncoding p n m q a → a.blocks ≡ blocks_over ss (a.first + k) a.rows bs → AreFrom ss bs a.rows → are_apart a.rows ≡ true → IsOwn p n m q a
+own_here p n m q ss k bs a sorts count passives encodes exact sources apart =
+    record {
+      encodes = encodes;
+      blocks = exact ∙ ap (λ l. blocks_over l (a.first + k) a.rows bs) sorts ∙ ap (λ c. blocks_over (sorts_in p n m q) (a.first + c) a.rows bs) count ∙ ap (blocks_over (sorts_in p n m q) (a.first + p.candidates) a.rows) passives;
+      sources = subst (λ l. AreFrom l (passives_in p n m q) a.rows) sorts (subst (λ l. AreFrom ss l a.rows) passives sources);
+      apart = apart;
+    }
 
 -- ---- how an implementation is prepared
 

@@ -1,13 +1,23 @@
--- Clauses of a place, of which no more is left than counts for the place.
-use Rattle.std.specs.Prelude.{◌≡◌, ℕ, ◌+◌}
-use Rattle.bg_ast.specs.Syntax.{Prog}
+-- The clauses of a place: those of its implementation's own blocks of forms, of which no more is left than counts for it.
+use Rattle.std.specs.Prelude.{◌≡◌, ℕ, ◌+◌, true}
+use Rattle.bg_ast.specs.Syntax.{Proc, Impl, Prog}
 use Rattle.bg_ast.specs.Execution.{Spot, Place}
 use Rattle.bg_formula.specs.Formulas.{Formula}
 use Rattle.bg_slice.specs.Slices.{sliced, sliced_rows}
 use Rattle.bg_block_types.specs.Typed.{passives_in}
 use Rattle.bg_atoms.specs.Sources.{AreFrom}
+use Rattle.bg_atoms.specs.Literals.{are_apart}
+use Rattle.bg_atoms.specs.Encoded.{blocks_over}
 use Rattle.bg_faithful.specs.Sorted.{sorts_in}
 use Rattle.bg_faithful.specs.Encoded.{Encoding, IsEncoding, HasClauses}
+
+-- the blocks of forms of the implementation with this number, which is one of this procedure: exactly those of its passive blocks. Each row
+-- is one of some relation in a command, none stands twice, and none is the denial of another
+pub record IsOwn (p : Prog) (k : ℕ) (m : Impl) (q : Proc) (a : Encoding) : Type 0 where
+  pub encodes : IsEncoding p k m q a
+  pub blocks : a.blocks ≡ blocks_over (sorts_in p k m q) (a.first + p.candidates) a.rows (passives_in p k m q)
+  pub sources : AreFrom (sorts_in p k m q) (passives_in p k m q) a.rows
+  pub apart : are_apart a.rows ≡ true
 
 -- the same blocks of forms, in which only commands that count for the target say something, and the rows that they name
 pub record IsCut (candidates : ℕ) (t : Spot) (whole cut : Encoding) : Type 0 where
@@ -16,11 +26,9 @@ pub record IsCut (candidates : ℕ) (t : Spot) (whole cut : Encoding) : Type 0 w
   pub rows : cut.rows ≡ sliced_rows (whole.first + candidates) (sliced t whole.blocks) whole.rows
   pub blocks : cut.blocks ≡ sliced t whole.blocks
 
--- the clauses of a place: those of an encoding of its implementation, of which each row is one of some relation in a command, that is
--- cut down to what counts for the place
-pub record HasCutClauses (p : Prog) (t : Place) (f : Formula) : Type 0 where
+-- the clauses of a place: those of its implementation's own blocks of forms, cut down to what counts for the place
+pub record HasOwnClauses (p : Prog) (t : Place) (f : Formula) : Type 0 where
   pub clauses : HasClauses p t f
   pub whole : Encoding
-  pub is_whole : IsEncoding p t.implementation clauses.implementation clauses.procedure whole
-  pub sources : AreFrom (sorts_in p t.implementation clauses.implementation clauses.procedure) (passives_in p t.implementation clauses.implementation clauses.procedure) whole.rows
+  pub is_own : IsOwn p t.implementation clauses.implementation clauses.procedure whole
   pub is_cut : IsCut p.candidates t.spot whole clauses.encoding

@@ -13,12 +13,10 @@ use Rattle.bg_passive.specs.Arrivals.{arrived}
 use Rattle.bg_incarnate.specs.Views.{passive_block_of}
 use Rattle.bg_incarnate.specs.Walked.{next_in}
 use Rattle.bg_incarnate.specs.declared.blocks.Passive.{Passive}
-use Rattle.bg_block_types.specs.Typed.{passives_in}
-use Rattle.bg_atoms.specs.Refusals.{BlocksRefusals}
-use Rattle.bg_atoms.specs.Sources.{AreFrom}
 use Rattle.bg_atoms.specs.declared.product.Atoms.{Atoms}
 use Rattle.bg_faithful.specs.Sorted.{sorts_in}
-use Rattle.bg_faithful.specs.Encoded.{Encoding, IsEncoding}
+use Rattle.bg_faithful.specs.Encoded.{Encoding}
+use Rattle.bg_check.specs.Cuts.{IsOwn}
 use Rattle.bg_check.specs.declared.prepared.Prepared.{Prepared}
 
 -- blocks of a program made passive, in this frame
@@ -45,6 +43,4 @@ pub record IsPrepared (p : r.Program) (number : ℕ) (w : Prepared) : Type 0 whe
   pub blocks : AreBlocks p number implementation procedure w.blocks.items
   pub passive : IsPassive p (frame_declared implementation procedure) w.blocks.items w.passive
   pub sorts : w.sorts.items ≡ sorts_in (meaning_of p) number (impl_of (named_of p.types) implementation) (proc_of (named_of p.types) procedure)
-  pub encoding : IsEncoding (meaning_of p) number (impl_of (named_of p.types) implementation) (proc_of (named_of p.types) procedure) (encoding_of w.atoms)
-  pub refusals : BlocksRefusals w.sorts.items (passives_in (meaning_of p) number (impl_of (named_of p.types) implementation) (proc_of (named_of p.types) procedure)) (blocks_of w.atoms.blocks)
-  pub sources : AreFrom w.sorts.items (passives_in (meaning_of p) number (impl_of (named_of p.types) implementation) (proc_of (named_of p.types) procedure)) (encoding_of w.atoms).rows
+  pub own : IsOwn (meaning_of p) number (impl_of (named_of p.types) implementation) (proc_of (named_of p.types) procedure) (encoding_of w.atoms)

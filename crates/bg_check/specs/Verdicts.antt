@@ -20,15 +20,12 @@ use Rattle.bg_tree.specs.Trees.{IsCause}
 use Rattle.bg_places.specs.Placed.{Placed, placed_impl}
 use Rattle.bg_places.specs.Views.{placed_of}
 use Rattle.bg_formed.specs.Used.{refused}
-use Rattle.bg_block_types.specs.Typed.{passives_in}
-use Rattle.bg_atoms.specs.Refusals.{BlocksRefusals}
-use Rattle.bg_faithful.specs.Sorted.{sorts_in}
-use Rattle.bg_faithful.specs.Encoded.{Encoding, IsEncoding, HasClauses}
+use Rattle.bg_faithful.specs.Encoded.{Encoding}
 use Rattle.bg_faithful.specs.Interps.{no_interp}
 use Rattle.bg_scalar.specs.Choices.{choice_of, state_of}
 use Rattle.bg_replay.specs.Said.{Stops, Leaves}
 use Rattle.bg_model.specs.declared.failure.Counterexample.{Counterexample}
-use Rattle.bg_check.specs.Cuts.{HasCutClauses}
+use Rattle.bg_check.specs.Cuts.{IsOwn, HasOwnClauses}
 use Rattle.bg_check.specs.declared.verdict.Cause.{Cause}
 use Rattle.bg_check.specs.declared.verdict.Cause.TheVariants.{Search, Form, Replay}
 use Rattle.bg_check.specs.declared.verdict.Verdict.{Verdict}
@@ -43,24 +40,23 @@ none b = false
 -- the place's clauses have this certificate under a set of candidates
 pub record HasCertificate (p : Prog) (set : ℕ → Bool) (t : Place) (nodes : List Node) : Type 0 where
   pub formula : Formula
-  pub is : HasClauses p t formula
+  pub is : HasOwnClauses p t formula
   pub accepted : Accepts formula set no_instance (map node_of nodes)
 
--- this is why clauses of the place, of which no more is left than counts for it, are left unknown within the budget
+-- this is why the place's clauses are left unknown within the budget
 pub record HasWhy (p : Prog) (set : ℕ → Bool) (t : Place) (budget : Budget) (why : Why) : Type 0 where
   pub formula : Formula
-  pub is : HasCutClauses p t formula
+  pub is : HasOwnClauses p t formula
   pub cause : IsCause formula set budget why
 
--- there are no clauses of the place: an operation of a relation's linear form, which counts for the place, leaves the range
+-- the place has no clauses: an operation of a relation's linear form leaves the range, the first of those that count for the place
 pub record HasOutside (p : Prog) (t : Place) (o : OutOfRange) : Type 0 where
   pub implementation : Impl
   pub procedure : Proc
   pub is_there : slice_get p.implementations t.implementation ≡ Some implementation
   pub is_its : procedure_of p implementation.procedure ≡ Some procedure
   pub encoding : Encoding
-  pub is_encoding : IsEncoding p t.implementation implementation procedure encoding
-  pub refusals : BlocksRefusals (sorts_in p t.implementation implementation procedure) (passives_in p t.implementation implementation procedure) encoding.blocks
+  pub is_own : IsOwn p t.implementation implementation procedure encoding
   pub is_refused : refused t.spot encoding.blocks ≡ Some o
 
 -- the induction run from these values, with these choices, fails at the place

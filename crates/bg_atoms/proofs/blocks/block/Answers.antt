@@ -3,12 +3,13 @@ use Rattle.bg_incarnate.specs.Views.{cmds_of, edge_of, passive_block_of}
 use Rattle.bg_formed.specs.Views.{form_cmds_of, form_edge_of}
 use Rattle.bg_atoms.specs.Added.{IsFromTruth}
 use Rattle.bg_atoms.specs.Told.{CmdsTold, EdgesTold}
-use Rattle.bg_atoms.proofs.Lists.{begins_on, grows_on}
+use Rattle.bg_atoms.proofs.Lists.{begins_on}
+use Rattle.bg_atoms.proofs.Growing.{grows_on}
 use Rattle.bg_atoms.proofs.Sourcing.{adds_block}
 use Rattle.bg_atoms.proofs.blocks.block.Goals as goal
 
 pub returns-clause-grows : goal.returns-clause-grows
-returns-clause-grows c = grows_on _ _ _ _ c.in_ok-made.ensures.grows c.in_ok-next.ensures.grows
+returns-clause-grows c = grows_on _ _ _ _ _ c.in_ok-made.ensures.grows c.in_ok-next.ensures.grows
 
 pub returns-clause-adds : goal.returns-clause-adds
 returns-clause-adds c =

@@ -1,19 +1,21 @@
-use Rattle.std.proofs.Common.{◌+◌, map, sym, ◌∙◌}
+use Rattle.std.proofs.Common.{◌≡◌, ◌+◌, true, map, sym, ◌∙◌, subst}
 use Rattle.bg_incarnate.specs.Views.{passive_block_of}
 use Rattle.bg_formed.specs.Views.{blocks_of}
+use Rattle.bg_formula.specs.Atoms.{view_linear}
+use Rattle.bg_atoms.specs.Literals.{are_apart}
 use Rattle.bg_atoms.specs.Made.{rows_in}
 use Rattle.bg_atoms.proofs.Sourcing.{from_now}
-use Rattle.bg_atoms.proofs.Finally.{are_rows, rows_agree, blocks_said, blocks_under, blocks_refused, moved, inside_now}
+use Rattle.bg_atoms.proofs.Finally.{are_rows, rows_agree, blocks_said, blocks_under, blocks_exact, told_now, inside_now}
 use Rattle.bg_atoms.proofs.whole.atoms.Goals as goal
 
 pub returns-clause-said : goal.returns-clause-said
 returns-clause-said c =
-    let told = moved c.in_ok-names.names.sorts.items c.args.sorts.now c.in_ok-names.names.base (c.in_ok-first.first + c.args.candidates) c.blocks_told.new.table.rows.items c.into_rows-rows.result.items (map passive_block_of c.args.blocks.now) (blocks_of c.in_ok-made.made) c.in_ok-names.ensures.sorts (c.in_ok-names.ensures.base ∙ c.in_ok-base.ensures) c.into_rows-rows.ensures c.in_ok-made.ensures.told in
+    let told = told_now c.in_ok-names.names.sorts.items c.args.sorts.now c.in_ok-names.names.base (c.in_ok-first.first + c.args.candidates) c.blocks_told.new.table.rows.items c.into_rows-rows.result.items (map passive_block_of c.args.blocks.now) (blocks_of c.in_ok-made.made) c.in_ok-names.ensures.sorts (c.in_ok-names.ensures.base ∙ c.in_ok-base.ensures) c.into_rows-rows.ensures c.in_ok-made.ensures.told in
     λ z w s a held. blocks_said c.args.sorts.now c.args.candidates (c.in_ok-first.first + c.args.candidates) (rows_in c.into_rows-rows.result) z w s a (rows_agree c.into_rows-rows.result.items) held _ _ (sym c.blocks_sorted.ensures ∙ c.if-not-blocks_sorted.false) told
 
 pub returns-clause-below : goal.returns-clause-below
 returns-clause-below c =
-    let told = moved c.in_ok-names.names.sorts.items c.args.sorts.now c.in_ok-names.names.base (c.in_ok-first.first + c.args.candidates) c.blocks_told.new.table.rows.items c.into_rows-rows.result.items (map passive_block_of c.args.blocks.now) (blocks_of c.in_ok-made.made) c.in_ok-names.ensures.sorts (c.in_ok-names.ensures.base ∙ c.in_ok-base.ensures) c.into_rows-rows.ensures c.in_ok-made.ensures.told in
+    let told = told_now c.in_ok-names.names.sorts.items c.args.sorts.now c.in_ok-names.names.base (c.in_ok-first.first + c.args.candidates) c.blocks_told.new.table.rows.items c.into_rows-rows.result.items (map passive_block_of c.args.blocks.now) (blocks_of c.in_ok-made.made) c.in_ok-names.ensures.sorts (c.in_ok-names.ensures.base ∙ c.in_ok-base.ensures) c.into_rows-rows.ensures c.in_ok-made.ensures.told in
     blocks_under c.args.sorts.now c.args.candidates (c.in_ok-first.first + c.args.candidates) (rows_in c.into_rows-rows.result) _ _ (sym c.blocks_sorted.ensures ∙ c.if-not-blocks_sorted.false) told
 
 pub returns-clause-rows : goal.returns-clause-rows
@@ -22,17 +24,22 @@ returns-clause-rows c = are_rows c.into_rows-rows.result.items
 pub returns-clause-denials : goal.returns-clause-denials
 returns-clause-denials c = rows_agree c.into_rows-rows.result.items
 
-pub returns-clause-refusals : goal.returns-clause-refusals
-returns-clause-refusals c =
-    let told = moved c.in_ok-names.names.sorts.items c.args.sorts.now c.in_ok-names.names.base (c.in_ok-first.first + c.args.candidates) c.blocks_told.new.table.rows.items c.into_rows-rows.result.items (map passive_block_of c.args.blocks.now) (blocks_of c.in_ok-made.made) c.in_ok-names.ensures.sorts (c.in_ok-names.ensures.base ∙ c.in_ok-base.ensures) c.into_rows-rows.ensures c.in_ok-made.ensures.told in
-    blocks_refused c.args.sorts.now c.args.candidates (c.in_ok-first.first + c.args.candidates) (rows_in c.into_rows-rows.result) _ _ (sym c.blocks_sorted.ensures ∙ c.if-not-blocks_sorted.false) told
+pub returns-clause-exact : goal.returns-clause-exact
+returns-clause-exact c =
+    let told = told_now c.in_ok-names.names.sorts.items c.args.sorts.now c.in_ok-names.names.base (c.in_ok-first.first + c.args.candidates) c.blocks_told.new.table.rows.items c.into_rows-rows.result.items (map passive_block_of c.args.blocks.now) (blocks_of c.in_ok-made.made) c.in_ok-names.ensures.sorts (c.in_ok-names.ensures.base ∙ c.in_ok-base.ensures) c.into_rows-rows.ensures c.in_ok-made.ensures.told in
+    blocks_exact c.args.sorts.now c.args.candidates (c.in_ok-first.first + c.args.candidates) (rows_in c.into_rows-rows.result) _ _ (sym c.blocks_sorted.ensures ∙ c.if-not-blocks_sorted.false) told
+
+pub returns-clause-apart : goal.returns-clause-apart
+returns-clause-apart c =
+    subst (λ l. are_apart (map view_linear l) ≡ true) (sym c.into_rows-rows.ensures) c.in_ok-made.ensures.grows.table.apart
 
 pub returns-clause-inside : goal.returns-clause-inside
 returns-clause-inside c =
-    let terms = c.in_ok-terms.ensures in
-    let sorts = c.in_ok-names.ensures.sorts in
-    inside_now c.in_ok-names.names.sorts.items c.args.sorts.now c.in_ok-terms.terms c.new-table.result.rows.items c.blocks_told.new.table.rows.items c.into_rows-rows.result.items sorts terms c.new-table.ensures c.into_rows-rows.ensures c.in_ok-made.ensures.grows
+    inside_now c.in_ok-names.names.sorts.items c.args.sorts.now c.in_ok-names.names.base c.in_ok-terms.terms c.new-table.result c.blocks_told.new.table c.into_rows-rows.result.items c.in_ok-names.ensures.sorts c.in_ok-terms.ensures c.new-table.ensures.rows c.into_rows-rows.ensures c.in_ok-made.ensures.grows
 
 pub returns-clause-sources : goal.returns-clause-sources
 returns-clause-sources c =
-    from_now c.in_ok-names.names.sorts.items c.args.sorts.now c.args.candidates c.new-table.result.rows.items c.blocks_told.new.table.rows.items c.into_rows-rows.result.items (map passive_block_of c.args.blocks.now) c.in_ok-names.ensures.sorts c.new-table.ensures c.into_rows-rows.ensures (sym c.blocks_sorted.ensures ∙ c.if-not-blocks_sorted.false) c.in_ok-made.ensures.adds
+    from_now c.in_ok-names.names.sorts.items c.args.sorts.now c.args.candidates c.new-table.result.rows.items c.blocks_told.new.table.rows.items c.into_rows-rows.result.items (map passive_block_of c.args.blocks.now) c.in_ok-names.ensures.sorts c.new-table.ensures.rows c.into_rows-rows.ensures (sym c.blocks_sorted.ensures ∙ c.if-not-blocks_sorted.false) c.in_ok-made.ensures.adds
+
+pub blocks_told-requires : goal.blocks_told-requires
+blocks_told-requires c = record { table = c.new-table.ensures.table c.in_ok-names.names.base }

@@ -14,7 +14,7 @@ use Rattle.bg_tree.specs.Trees.{IsOutcome}
 use Rattle.bg_check.specs.declared.verdict.Verdict.{Verdict}
 use Rattle.bg_check.specs.Prepared.{encoding_of}
 use Rattle.bg_check.specs.Verdicts.{IsRight}
-use Rattle.bg_check.proofs.Prepares.{impl, proc, impl_at, proc_at, clauses_here, cut_here}
+use Rattle.bg_check.proofs.Prepares.{impl, proc, impl_at, proc_at, clauses_here}
 use Rattle.bg_check.proofs.place.search_place.Goals as goal
 
 -- what holds for each budget holds for this one
@@ -42,7 +42,7 @@ pub returns-in-Unknown : goal.returns-in-Unknown
 returns-in-Unknown c =
     record {
       formula = formula_of c.args.f.now;
-      is = cut_here (program_of c.args.program.now) c.args.place.now.implementation c.args.prepared.now c.requires.prepared (spot_of c.args.place.now.spot) (option_of candidate_of c.args.place.now.candidate) c.args.atoms.now (formula_of c.args.f.now) c.requires.slice c.requires.clauses;
+      is = clauses_here (program_of c.args.program.now) c.args.place.now.implementation c.args.prepared.now c.requires.prepared (spot_of c.args.place.now.spot) (option_of candidate_of c.args.place.now.candidate) c.args.atoms.now (formula_of c.args.f.now) c.requires.slice c.requires.clauses;
       cause = subst (IsOutcome (formula_of c.args.f.now) (has c.args.set.now) c.args.budget) c.in-Unknown.is c.in_ok-nodes.ensures;
     }
 

@@ -1,19 +1,12 @@
-use Rattle.std.proofs.Common.{◌≡◌, ◌<◌, true, false, List, length, map, sym, ap, ◌∙◌, subst, arith}
+use Rattle.std.proofs.Common.{◌≡◌, ◌<◌, true, false, length, map, sym, ap, ◌∙◌, arith}
 use Rattle.std.specs.Prelude.{is_some}
 use Rattle.std.proofs.lemmas.List.{length-map}
 use Rattle.bg_ast.specs.Meaning.{meaning_of, named_of}
 use Rattle.bg_ast.specs.Meaning as mean
 use Rattle.bg_ast.specs.Views.{program_of, impl_of}
-use Rattle.bg_passive.specs.Passive.{PassiveBlock}
-use Rattle.bg_block_types.specs.Typed.{passives_in}
-use Rattle.bg_linear.specs.declared.scalar.Sort.{Sort}
-use Rattle.bg_formed.specs.Views.{blocks_of}
-use Rattle.bg_atoms.specs.Refusals.{BlocksRefusals}
-use Rattle.bg_atoms.specs.Sources.{AreFrom}
-use Rattle.bg_atoms.specs.Made.{rows_in}
 use Rattle.bg_incarnate.specs.Views.{passive_block_of}
 use Rattle.bg_check.specs.Prepared.{encoding_of}
-use Rattle.bg_check.proofs.Prepares.{there, many, passives_made, sorted_here, encodes, made_here, encodes_some, refusals_some, sources_some}
+use Rattle.bg_check.proofs.Prepares.{there, many, passives_made, sorted_here, encodes, made_here, encodes_some, exact_some, sources_some, apart_some, own_here}
 use Rattle.bg_check.proofs.prepared.prepare.Goals as goal
 
 pub unreachable-requires : goal.unreachable-requires
@@ -50,12 +43,10 @@ returns c =
     let passives = ap (map passive_block_of) c.deref-5.ensures.value ∙ passives_made p c.args.number t.implementation t.procedure t.impl_there t.proc_there evens c.requires.typed c.requires.scalars c.in_ok-blocks.blocks.items made c.in_ok-passive.passive x.0 in
     let sorts = c.deref-4.ensures.value ∙ x.1 in
     let whole = encodes_some c.deref-4.result.now c.in_ok-candidates.candidates (map passive_block_of c.deref-5.result.now) c.in_ok-atoms.field-0 c.in-Some.atoms c.in-Some.is c.in_ok-atoms.ensures.first c.in_ok-atoms.ensures.terms c.in_ok-atoms.ensures.said c.in_ok-atoms.ensures.below c.in_ok-atoms.ensures.rows c.in_ok-atoms.ensures.denials c.in_ok-atoms.ensures.inside in
-    let refusals = refusals_some c.deref-4.result.now (map passive_block_of c.deref-5.result.now) c.in_ok-atoms.field-0 c.in-Some.atoms c.in-Some.is c.in_ok-atoms.ensures.refusals in
-    let R : List Sort → Type 0 = λ ss. BlocksRefusals ss (passives_in (meaning_of p) c.args.number (mean.impl_of (named_of p.types) t.implementation) (mean.proc_of (named_of p.types) t.procedure)) (blocks_of c.in-Some.atoms.blocks) in
-    let B : List PassiveBlock → Type 0 = λ bs. BlocksRefusals c.deref-4.result.now bs (blocks_of c.in-Some.atoms.blocks) in
+    let exact = exact_some c.deref-4.result.now c.in_ok-candidates.candidates (map passive_block_of c.deref-5.result.now) c.in_ok-atoms.field-0 c.in-Some.atoms c.in-Some.is c.in_ok-atoms.ensures.exact in
     let sources = sources_some c.deref-4.result.now (map passive_block_of c.deref-5.result.now) c.in_ok-atoms.field-0 c.in-Some.atoms c.in-Some.is c.in_ok-atoms.ensures.sources in
-    let S : List Sort → Type 0 = λ ss. AreFrom ss (passives_in (meaning_of p) c.args.number (mean.impl_of (named_of p.types) t.implementation) (mean.proc_of (named_of p.types) t.procedure)) (rows_in c.in-Some.atoms.rows) in
-    let F : List PassiveBlock → Type 0 = λ bs. AreFrom c.deref-4.result.now bs (rows_in c.in-Some.atoms.rows) in
+    let apart = apart_some c.in_ok-atoms.field-0 c.in-Some.atoms c.in-Some.is c.in_ok-atoms.ensures.apart in
+    let encoding = encodes p c.args.number t.implementation t.procedure t.impl_there t.proc_there evens c.requires.typed c.requires.scalars c.in_ok-blocks.blocks.items made c.deref-4.result.now c.in_ok-candidates.candidates (map passive_block_of c.deref-5.result.now) (encoding_of c.in-Some.atoms) sorts c.in_ok-candidates.ensures passives whole in
     let declared = many p c.args.number t.implementation t.procedure t.impl_there t.proc_there c.in_ok-frame.frame.items frame in
     record {
       implementation = t.implementation;
@@ -66,7 +57,5 @@ returns c =
       blocks = made;
       passive = x.0;
       sorts = x.1;
-      encoding = encodes p c.args.number t.implementation t.procedure t.impl_there t.proc_there evens c.requires.typed c.requires.scalars c.in_ok-blocks.blocks.items made c.deref-4.result.now c.in_ok-candidates.candidates (map passive_block_of c.deref-5.result.now) (encoding_of c.in-Some.atoms) sorts c.in_ok-candidates.ensures passives whole;
-      refusals = subst R c.deref-4.ensures.value (subst B passives refusals);
-      sources = subst S c.deref-4.ensures.value (subst F passives sources);
+      own = own_here (meaning_of p) c.args.number (mean.impl_of (named_of p.types) t.implementation) (mean.proc_of (named_of p.types) t.procedure) c.deref-4.result.now c.in_ok-candidates.candidates (map passive_block_of c.deref-5.result.now) (encoding_of c.in-Some.atoms) sorts c.in_ok-candidates.ensures passives encoding exact sources apart;
     }

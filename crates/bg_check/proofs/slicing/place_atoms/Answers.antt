@@ -29,7 +29,7 @@ returns c =
     ∙ (ap (λ bs. sliced_rows c.in-Some.base bs (map view_linear c.deref.result.now)) forms
     ∙ ap (λ l. sliced_rows c.in-Some.base (sliced t a.blocks) (map view_linear l)) c.deref.ensures.value) in
     record {
-      encoding = λ h. slice_encodes c.slices_are_below.ensures c.slices_have_rows.ensures.are_rows c.slices_have_rows.ensures.agree c.slices_have_rows.ensures.below c.slices_have_rows.ensures.count c.slices_say_the_same.ensures (sorts_in (meaning_of p) k (impl p k w h) (proc p k w h)) (meaning_of p).candidates (passives_in (meaning_of p) k (impl p k w h) (proc p k w h)) a h.encoding t (map view_linear made.rows.items) (blocks_of made.blocks) c.in-Some.base blocks base rows;
+      encoding = λ h. slice_encodes c.slices_are_below.ensures c.slices_have_rows.ensures.are_rows c.slices_have_rows.ensures.agree c.slices_have_rows.ensures.below c.slices_have_rows.ensures.count c.slices_say_the_same.ensures (sorts_in (meaning_of p) k (impl p k w h) (proc p k w h)) (meaning_of p).candidates (passives_in (meaning_of p) k (impl p k w h) (proc p k w h)) a h.own.encodes t (map view_linear made.rows.items) (blocks_of made.blocks) c.in-Some.base blocks base rows;
       cut = record { first = refl; terms = refl; rows = rows ∙ ap (λ n. sliced_rows n (sliced t a.blocks) a.rows) base; blocks = blocks };
       refusals = ap (refused t) blocks ∙ c.slices_use_alike.ensures t a.blocks;
     }

@@ -1,9 +1,22 @@
-use Rattle.std.proofs.Common.{rules, ◌≡◌, ◌+◌, length, refl}
+use Rattle.std.proofs.Common.{rules, ◌≡◌, ◌+◌, length}
 use Rattle.bg_rows.specs.Rows.{row_of}
-use Rattle.bg_atoms.proofs.Lists.{begins_push, inside_push, at_push, begins_at}
+use Rattle.bg_atoms.proofs.Lists.{begins_push, inside_push}
 use Rattle.bg_atoms.proofs.Adding.{adds_push}
-use Rattle.bg_atoms.proofs.Reading.{positive}
+use Rattle.bg_atoms.proofs.Tabled.{put_both, apart_push, literal_push, stays}
+use Rattle.bg_atoms.proofs.Reading.{is_literal}
 use Rattle.bg_atoms.proofs.table.Table.add.Goals as goal
+
+pub returns-clause-table : goal.returns-clause-table
+returns-clause-table c =
+    let r = c.requires in
+    let xs = c.args.self.now.rows.items in
+    let ys = c.push.new.self.items in
+    let pushed = c.in_ok-push.ensures.items in
+    let place : c.in_ok-atom.atom ≡ c.args.base + length xs = search rules in
+    record {
+      indexed = λ k. put_both (k.0.items, k.1) c.args.base c.in_ok-atom.atom xs ys c.args.a _ _ _ _ _ pushed place r.key c.in_ok-denial.ensures (r.table.indexed k) (c.in_ok-put.ensures k) (c.in_ok-put-2.ensures k);
+      apart = apart_push c.args.base xs ys c.args.a pushed r.table.apart r.new;
+    }
 
 pub returns-clause-begins : goal.returns-clause-begins
 returns-clause-begins c = begins_push c.args.self.now.rows.items c.push.new.self.items c.args.a c.in_ok-push.ensures.items
@@ -11,10 +24,12 @@ returns-clause-begins c = begins_push c.args.self.now.rows.items c.push.new.self
 pub returns-clause-inside : goal.returns-clause-inside
 returns-clause-inside c = inside_push c.args.self.now.rows.items c.push.new.self.items c.args.a c.in_ok-push.ensures.items
 
-pub returns-clause-literal : goal.returns-clause-literal
-returns-clause-literal c =
-    let atom : c.in_ok-atom.atom ≡ c.args.base + length c.args.self.now.rows.items = search rules in
-    λ all b. positive c.args.base all (length c.args.self.now.rows.items) (row_of c.args.a.row) (row_of c.args.a.denial) _ (begins_at _ all _ _ b (at_push c.args.self.now.rows.items c.push.new.self.items c.args.a c.in_ok-push.ensures.items)) atom refl
-
 pub returns-clause-adds : goal.returns-clause-adds
 returns-clause-adds c = adds_push c.args.self.now.rows.items c.push.new.self.items c.args.a c.in_ok-push.ensures.items
+
+pub returns-clause-literal : goal.returns-clause-literal
+returns-clause-literal c =
+    let xs = c.args.self.now.rows.items in
+    let ys = c.push.new.self.items in
+    let place : c.in_ok-atom.atom ≡ c.args.base + length xs = search rules in
+    λ all b. is_literal c.args.base all (row_of c.args.a.row) _ (stays (row_of c.args.a.row) c.args.base _ all _ b (literal_push c.args.base c.in_ok-atom.atom xs ys c.args.a c.in_ok-push.ensures.items place c.requires.new))

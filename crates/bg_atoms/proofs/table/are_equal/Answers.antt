@@ -1,5 +1,0 @@
-use Rattle.bg_atoms.proofs.Equal.{unequal}
-use Rattle.bg_atoms.proofs.table.are_equal.Goals as goal
-
-pub returns-then-a-b : goal.returns-then-a-b
-returns-then-a-b c = unequal c.args.a.now c.args.b.now c.if-a-b.true
