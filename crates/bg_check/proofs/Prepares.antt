@@ -153,7 +153,7 @@ module _ (p : r.Program) (n : ℕ) (w : Prepared) (h : IsPrepared p n w) where
       by (Some y) g k = let same : y ≡ o = cc in g ∙ ap Some same
 
   -- the clauses of a place
-  pub clauses_here : (spot : Spot) (candidate : Option ℕ) (x : Atoms) (f : Formula) → IsSliceFor p n w spot x → ClausesOf (meaning_of p) x (record { implementation = n; spot = spot; candidate = candidate }) f → HasOwnClauses (meaning_of p) (record { implementation = n; spot = spot; candidate = candidate }) f
+  abbrev pub clauses_here : (spot : Spot) (candidate : Option ℕ) (x : Atoms) (f : Formula) → IsSliceFor p n w spot x → ClausesOf (meaning_of p) x (record { implementation = n; spot = spot; candidate = candidate }) f → HasOwnClauses (meaning_of p) (record { implementation = n; spot = spot; candidate = candidate }) f
   clauses_here spot candidate x f cut e =
       record {
         clauses = record { implementation = impl; procedure = proc; is_there = impl_at; is_its = proc_at; encoding = encoding_of x; is_encoding = cut.encoding h; clauses = e };

@@ -16,9 +16,10 @@ use Rattle.bg_sense.specs.Claims.{IsState}
 use Rattle.bg_sense.specs.Typed.{IsTyped}
 use Rattle.bg_sense.proofs.Bools.{and_left, and_right}
 use Rattle.bg_calls.specs.Core.{frame_decls}
+use Rattle.bg_passive.specs.Passive.{Walked}
 use Rattle.bg_passive.specs.Incarnations.{passives, MakesPassive, first_state, passive_scope}
 use Rattle.bg_wp.specs.Equations.{is_well}
-use Rattle.bg_block_types.specs.Typed.{arrivals_in, incarnations_in}
+use Rattle.bg_block_types.specs.Typed.{blocks_in, arrivals_in, incarnations_in}
 use Rattle.bg_formula.specs.Atoms.{IsTruth, at}
 use Rattle.bg_formula.specs.Formulas.{Formula}
 use Rattle.bg_formula.specs.Meaning.{Valuation, AtomsAgree, clauses_true}
@@ -32,7 +33,7 @@ use Rattle.bg_blocks.specs.declared.block.Block.{Block}
 use Rattle.bg_blocks.specs.Views.{block_of}
 use Rattle.bg_forms.specs.Worth.{bools_at}
 use Rattle.bg_formed.specs.Agree.{RowsAgree}
-use Rattle.bg_formed.specs.Formed.{FormBlock, blocks_below}
+use Rattle.bg_formed.specs.Formed.{FormCmd, FormBlock, blocks_below}
 use Rattle.bg_formed.specs.Said.{SaidBlocks}
 use Rattle.bg_formed.specs.Wells.{form_equations}
 use Rattle.bg_clause.specs.Valued.{worth_in}
@@ -47,6 +48,8 @@ use Rattle.bg_faithful.specs.Interps.{no_interp}
 use Rattle.bg_faithful.specs.Sorted.{sorts_in}
 use Rattle.bg_scalar.specs.Values.{val_of}
 use Rattle.bg_scalar.specs.Choices.{choice_of, state_of}
+use Rattle.bg_model.specs.Over.{walk_over}
+use Rattle.bg_model.specs.Turns.{turns, taken}
 use Rattle.bg_model.specs.Views.{set_of}
 use Rattle.bg_model.specs.declared.failure.Counterexample.{Counterexample}
 use Rattle.bg_model.specs.Counterexamples.{is_denied, SetUp, IsCounterexample, IsTold}
@@ -60,8 +63,9 @@ use Rattle.bg_check.proofs.LawTypes.{BodyLaw, FitLaw, WholeLaw, ValueLaw, StartL
 use Rattle.bg_check.proofs.Formulas.{IsPlainFormula, plain_formula, plain_agree, own_number}
 use Rattle.bg_check.proofs.Leaves.{leaf_number, scalars_are}
 use Rattle.bg_check.proofs.Alike.{blocks_alike}
-use Rattle.bg_check.proofs.Worths.{leaf_bools, leaf_valuation, truths_agree, worths_are}
-use Rattle.bg_check.proofs.Prepares.{impl, proc, impl_at, proc_at, frame_long, blocks_are, firsts_are}
+use Rattle.bg_check.specs.LeafRuns.{leaf_bools, HasLeaf}
+use Rattle.bg_check.proofs.Worths.{leaf_valuation, truths_agree, worths_are}
+use Rattle.bg_check.proofs.Prepares.{impl, proc, impl_at, proc_at, frame_long, blocks_are, firsts_are, clauses_here}
 
 pub no_candidates : (p : s.Prog) → is_over_scalars true p ≡ true → p.candidates ≡ 0
 no_candidates p o =
@@ -180,10 +184,34 @@ module _ (bodies : BodyLaw) (fits : FitLaw) (whole : WholeLaw) (values : ValueLa
               (subst (λ x. induction_run P (set_of set) no_interp n x (map choice_of cex.choices.items) ≡ Failed spot) same run);
         }
 
-    -- a counterexample that is found is one, and one is found
+    abbrev W : (ℕ → Bool) → List FormCmd → Walked
+    W x = walk_over x spot T
+
+    -- it is the run of the leaf
+    run_of_leaf : (cex : Counterexample) → IsCounterexample P (map (block_of p) w.blocks.items) w.frame w.passive.firsts.items A.blocks (set_of set) spot T X cex → HasLeaf P (has set) (record { implementation = n; spot = spot; candidate = candidate }) cex
+    run_of_leaf cex c =
+        let a = arrivals_in P n M Q in
+        record {
+          formula = f;
+          is = clauses_here p n w h spot candidate cuts f cut made;
+          leaf = leaf;
+          is_leaf = is_leaf;
+          run =
+              record {
+                state = sym (c.starts n M Q (first_state P (frame_decls M Q) X) a.made a.arrivals set_up);
+                choices =
+                    c.choices
+                    ∙ ap (λ x. taken (W x) X (map (block_of p) w.blocks.items) A.blocks w.passive.firsts.items (turns (W x) A.blocks) 0) (set_same set)
+                    ∙ ap (λ bs. taken (W (has set)) X bs A.blocks w.passive.firsts.items (turns (W (has set)) A.blocks) 0) (blocks_are p n w h)
+                    ∙ ap (λ ns. taken (W (has set)) X (blocks_in P n M Q) A.blocks ns (turns (W (has set)) A.blocks) 0) (firsts_are p n w h);
+              };
+        }
+
+    -- a counterexample that is found is one, and the run of the leaf; and one is found
     abbrev pub IsRefuted : Option Counterexample → Type 0
     IsRefuted None = ⊥
-    IsRefuted (Some cex) = IsFailure P (has set) (record { implementation = n; spot = spot; candidate = candidate }) cex
+    IsRefuted (Some cex) =
+        HasLeaf P (has set) (record { implementation = n; spot = spot; candidate = candidate }) cex × IsFailure P (has set) (record { implementation = n; spot = spot; candidate = candidate }) cex
 
     abbrev Told : List Block → List ℕ → List FormBlock → List Bool → List Val → Option Counterexample → Type 0
     Told bs ns forms ts vs got =
@@ -195,7 +223,7 @@ module _ (bodies : BodyLaw) (fits : FitLaw) (whole : WholeLaw) (values : ValueLa
       where
         on : (x : Option Counterexample) → Told w.blocks.items w.passive.firsts.items A.blocks (leaf_bools f leaf) X x → IsRefuted x
         on None d = absurd (let bad : true ≡ false = sym denied ∙ d in let worse : ⊥ = cc in worse)
-        on (Some cex) d = failure cex d.1
+        on (Some cex) d = (run_of_leaf cex d.1, failure cex d.1)
 
     -- the values that are made
     pub values_from : (ss : List Sort) (ts : List Bool) (sp : List spots.Spot) → ss ≡ w.sorts.items → ts ≡ leaf_bools f leaf → sp ≡ leaf.spots.items → map val_of (scalars_from ts (numbered sp (replicate (length ss) (pos 0))) 0 0 ss) ≡ X

@@ -1,5 +1,5 @@
 -- The valuation of a complete leaf, and what it makes of the atoms.
-use Rattle.std.proofs.Common.{◌≡◌, ℕ, zero, suc, ◌<◌, ◌≤◌, Bool, true, false, List, [], ◌∷◌, length, Option, Some, None, refl, sym, ap, ◌∙◌, inl, inr, ⊎_elim, replicate, arith}
+use Rattle.std.proofs.Common.{◌≡◌, ℕ, zero, suc, ◌<◌, ◌≤◌, Bool, true, false, List, [], ◌∷◌, length, Option, Some, None, refl, sym, ap, ◌∙◌, inl, inr, ⊎_elim, arith}
 use Rattle.std.specs.Prelude.{◌⊎◌, ◌&&◌, ◌||◌}
 use Rattle.bg_formula.specs.Atoms.{AtomOf, IsTruth, at}
 use Rattle.bg_formula.specs.Formulas.{Formula}
@@ -15,13 +15,9 @@ use Rattle.bg_tree.specs.Ends.{IsLeaf, TruthsAgree}
 use Rattle.bg_tree.specs.Once.{IsOnce}
 use Rattle.bg_forms.specs.Worth.{bools_at}
 use Rattle.bg_clause.specs.Valued.{worth_in}
-use Rattle.bg_check.specs.Leaves.{marked}
+use Rattle.bg_check.specs.LeafRuns.{leaf_bools}
 use Rattle.bg_check.proofs.LawTypes.{SignLaw}
 use Rattle.bg_check.proofs.Leaves.{leaf_truth, no_truth}
-
--- the truth values of a leaf's atoms
-abbrev pub leaf_bools : Formula → Leaf → List Bool
-leaf_bools f leaf = marked leaf.path.items (replicate (length f.atoms) false)
 
 -- the numbers of its point, and the truth values of its path
 abbrev pub leaf_valuation : Formula → Leaf → Valuation

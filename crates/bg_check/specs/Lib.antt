@@ -1,6 +1,7 @@
 pub mod Numbered
 pub mod Leaves
 pub mod Cuts
+pub mod LeafRuns
 pub mod Prepared
 pub mod Slices
 pub mod Replays

@@ -26,6 +26,7 @@ use Rattle.bg_scalar.specs.Choices.{choice_of, state_of}
 use Rattle.bg_replay.specs.Said.{Stops, Leaves}
 use Rattle.bg_model.specs.declared.failure.Counterexample.{Counterexample}
 use Rattle.bg_check.specs.Cuts.{IsOwn, HasOwnClauses}
+use Rattle.bg_check.specs.LeafRuns.{HasLeaf}
 use Rattle.bg_check.specs.declared.verdict.Cause.{Cause}
 use Rattle.bg_check.specs.declared.verdict.Cause.TheVariants.{Search, Form, Replay}
 use Rattle.bg_check.specs.declared.verdict.Verdict.{Verdict}
@@ -68,7 +69,7 @@ IsFailure p set t cex =
 abbrev pub IsUnknown : Budget → Prog → (ℕ → Bool) → Place → Cause → Type 0
 IsUnknown budget p set t (Search why) = HasWhy p set t budget why
 IsUnknown budget p set t (Form o) = HasOutside p t o
-IsUnknown budget p set t (Replay cex o) = IsFailure p set t cex × RunsTo p set t cex (Leaves o)
+IsUnknown budget p set t (Replay cex o) = HasLeaf p set t cex × (IsFailure p set t cex × RunsTo p set t cex (Leaves o))
 
 -- a verdict on a place, under a set of candidates
 abbrev pub IsRight : Budget → Prog → (ℕ → Bool) → Place → Verdict → Type 0

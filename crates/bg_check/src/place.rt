@@ -11,6 +11,7 @@ ghost use Rattle.bg_tree.specs.Ends.{IsLeaf};
 ghost use Rattle.bg_fits.specs.Scalars.{is_over_scalars};
 ghost use Rattle.bg_check.specs.Prepared.{IsPrepared};
 ghost use Rattle.bg_check.specs.Slices.{IsSliceFor};
+ghost use Rattle.bg_check.specs.LeafRuns.{HasLeaf};
 ghost use Rattle.bg_check.specs.Made.{ClausesOf, IsMade};
 ghost use Rattle.bg_check.specs.Verdicts.{IsFailure, IsRight};
 
@@ -92,7 +93,7 @@ fn failing(
     requires slice { IsSliceFor (program_of program.now) place.now.implementation prepared.now (spot_of place.now.spot) atoms.now }
     requires clauses { ClausesOf (meaning_of (program_of program.now)) atoms.now (placed_of place.now).place (formula_of f.now) }
     requires leaf { IsLeaf (formula_of f.now) (has set.now) leaf.now }
-    ensures { IfOk result (λ cex. IsFailure (meaning_of (program_of program.now)) (has set.now) (placed_of place.now).place cex) }
+    ensures { IfOk result (λ cex. HasLeaf (meaning_of (program_of program.now)) (has set.now) (placed_of place.now).place cex × IsFailure (meaning_of (program_of program.now)) (has set.now) (placed_of place.now).place cex) }
 {
     typed_programs_have_typed_bodies();
     arrivals_fit();

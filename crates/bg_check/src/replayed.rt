@@ -7,6 +7,7 @@ ghost use Rattle.bg_places.specs.Views.{placed_of};
 ghost use Rattle.bg_cert.specs.Walks.{has};
 ghost use Rattle.bg_tree.specs.declared.outcome.Budget.{Budget};
 ghost use Rattle.bg_fits.specs.Scalars.{is_over_scalars};
+ghost use Rattle.bg_check.specs.LeafRuns.{HasLeaf};
 ghost use Rattle.bg_check.specs.Prepared.{IsPrepared};
 ghost use Rattle.bg_check.specs.Verdicts.{IsFailure, IsRight};
 
@@ -20,7 +21,7 @@ use bg_replay::laws::replays_are_induction_runs;
 use bg_replay::{Ending, replay};
 use std::alloc::{AllocError, Global};
 
-/// A place is refuted by a run that fails there, unless an operation on its way leaves 128 bits.
+/// A place is refuted by a run that fails there, that of a complete leaf of its clauses, unless an operation on its way leaves 128 bits.
 pub fn replayed(
     alloc: Global,
     program: &Resolved,
@@ -32,6 +33,7 @@ pub fn replayed(
     requires typed { IsTyped (meaning_of (program_of program.now)) }
     requires scalars { is_over_scalars true (meaning_of (program_of program.now)) ≡ true }
     requires prepared { IsPrepared (program_of program.now) place.now.implementation prepared.now }
+    requires leaf { HasLeaf (meaning_of (program_of program.now)) (has set.now) (placed_of place.now).place cex }
     requires fails { IsFailure (meaning_of (program_of program.now)) (has set.now) (placed_of place.now).place cex }
     ensures { IfOk result (λ verdict. (budget : Budget) → IsRight budget (meaning_of (program_of program.now)) (has set.now) (placed_of place.now).place verdict) }
 {

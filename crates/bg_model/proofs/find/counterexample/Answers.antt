@@ -42,6 +42,7 @@ returns c =
       denied_is set t truth forms ∙ fails_here,
       record {
         starts = λ k im pr s others later u. starts_at prog (frame_decls im pr) others s vs c.in_ok-globals.globals.items c.in_ok-frame.frame.items c.count_globals-many.result c.args.frame u.values c.in_ok-globals.ensures c.in_ok-frame.ensures many u.frame_size;
+        choices = choices;
         fails = λ i k im pr s others later u said none. fails_at set truth t vs prog i k im pr s others later bs c.args.frame firsts forms (map choice_of c.in_ok-choices.choices.items) u said none choices fails_here;
       },
     )

@@ -1,0 +1,47 @@
+-- The run that a complete leaf gives.
+use Rattle.std.specs.Prelude.{◌≡◌, ℕ, Bool, false, List, length, map, replicate}
+use Rattle.bg_ast.specs.Values.{Val}
+use Rattle.bg_ast.specs.Syntax.{Proc, Impl, Prog}
+use Rattle.bg_ast.specs.Execution.{Place}
+use Rattle.bg_calls.specs.Core.{frame_decls}
+use Rattle.bg_passive.specs.Incarnations.{first_state}
+use Rattle.bg_block_types.specs.Typed.{blocks_in, arrivals_in}
+use Rattle.bg_incarnate.specs.Walked.{next_in}
+use Rattle.bg_formula.specs.Formulas.{Formula}
+use Rattle.bg_point.specs.Points.{value_of}
+use Rattle.bg_tree.specs.declared.outcome.Leaf.{Leaf}
+use Rattle.bg_tree.specs.Ends.{IsLeaf}
+use Rattle.bg_forms.specs.Worth.{bools_at}
+use Rattle.bg_formed.specs.Formed.{FormBlock}
+use Rattle.bg_linear.specs.declared.scalar.Sort.{Sort}
+use Rattle.bg_linear.specs.Sorts.{scalar_values}
+use Rattle.bg_atoms.specs.Ranks.{rank}
+use Rattle.bg_faithful.specs.Sorted.{sorts_in}
+use Rattle.bg_scalar.specs.Choices.{choice_of, state_of}
+use Rattle.bg_model.specs.Over.{walk_over}
+use Rattle.bg_model.specs.Turns.{turns, taken}
+use Rattle.bg_model.specs.declared.failure.Counterexample.{Counterexample}
+use Rattle.bg_check.specs.Leaves.{marked}
+use Rattle.bg_check.specs.Cuts.{HasOwnClauses}
+
+-- the truth values that a leaf's path gives the atoms
+abbrev pub leaf_bools : Formula → Leaf → List Bool
+leaf_bools f leaf = marked leaf.path.items (replicate (length f.atoms) false)
+
+-- the values of incarnations of these sorts: a truth incarnation is worth what its atom is, a number what the near point says
+abbrev pub leaf_vals : Formula → Leaf → List Sort → List Val
+leaf_vals f leaf sorts = scalar_values (value_of leaf.spots.items) (λ j. bools_at (leaf_bools f leaf) (rank sorts j)) sorts
+
+-- the run begins with the leaf's values, goes along the lowest edges from which some walk fails under the leaf's truth values, and chooses
+-- the leaf's values there
+pub record IsRunOf (p : Prog) (set : ℕ → Bool) (t : Place) (m : Impl) (q : Proc) (f : Formula) (forms : List FormBlock) (leaf : Leaf) (cex : Counterexample) : Type 0 where
+  pub state : state_of cex.globals.items cex.frame.items ≡ first_state p (frame_decls m q) (leaf_vals f leaf (sorts_in p t.implementation m q))
+  pub choices : map choice_of cex.choices.items ≡ taken (walk_over set t.spot (bools_at (leaf_bools f leaf))) (leaf_vals f leaf (sorts_in p t.implementation m q)) (blocks_in p t.implementation m q) forms (map next_in (arrivals_in p t.implementation m q).arrivals) (turns (walk_over set t.spot (bools_at (leaf_bools f leaf))) forms) 0
+
+-- the counterexample is the run of a complete leaf of the place's clauses
+pub record HasLeaf (p : Prog) (set : ℕ → Bool) (t : Place) (cex : Counterexample) : Type 0 where
+  pub formula : Formula
+  pub is : HasOwnClauses p t formula
+  pub leaf : Leaf
+  pub is_leaf : IsLeaf formula set leaf
+  pub run : IsRunOf p set t is.clauses.implementation is.clauses.procedure formula is.clauses.encoding.blocks leaf cex
