@@ -236,6 +236,34 @@ fn candidate(f: &Clauses, i: &Index, trail: &Trail, p: &mut Probe, mark: &mut Ma
     found
 }
 
+/// An undecided atom of the first of these clauses that has no true literal.
+fn first_left(f: &Clauses, trail: &Trail, hints: &[Hint]) -> Option<u32> {
+    for hint in hints {
+        if let Hint::Nth(k) = hint {
+            if let Some(clause) = f.clauses.get(*k) {
+                if let Some(a) = some_left(trail, clause) {
+                    return Some(a);
+                }
+            }
+        }
+    }
+    None
+}
+
+/// An undecided atom of an open clause that a decision touched, of the first such decision. A clause of which no literal is decided
+/// asks for nothing yet: a split of its atoms would double what is left to do.
+fn touched(f: &Clauses, i: &Index, trail: &Trail, mark: &mut Mark) -> Option<u32> {
+    let from = mark.done;
+    for row in from..trail.decisions.len() {
+        if let Some(a) = first_left(f, trail, row_at(i, trail, row.saturating_add(1))) {
+            mark.done = row;
+            return Some(a);
+        }
+    }
+    mark.done = trail.decisions.len();
+    None
+}
+
 /// The atom, where it is undecided and stands in a clause without a true literal.
 fn if_open(f: &Clauses, i: &Index, trail: &Trail, a: u32) -> Option<u32>
     ensures { IfSome result (λ a. IsOpenAt trail.now.decisions.items (map (λ c. c.items) f.now.clauses.items) a) }
@@ -252,8 +280,8 @@ fn if_open(f: &Clauses, i: &Index, trail: &Trail, a: u32) -> Option<u32>
     }
 }
 
-/// An undecided atom of an open clause, chosen by a look ahead; none where the look tells nothing. Of the mark it changes what is
-/// kept for the next look alone.
+/// An undecided atom of an open clause, chosen by a look ahead, or else of one that a decision touched; none where there is no such
+/// clause. Of the mark it changes what is kept for the next look alone.
 pub fn suggest(f: &Clauses, i: &Index, trail: &Trail, p: &mut Probe, mark: &mut Mark) -> Option<u32>
     ensures stands { IfSome result (λ a. IsOpenAt trail.now.decisions.items (map (λ c. c.items) f.now.clauses.items) a) }
     ensures row { mark.new.row ≡ mark.old.row }
@@ -262,10 +290,14 @@ pub fn suggest(f: &Clauses, i: &Index, trail: &Trail, p: &mut Probe, mark: &mut 
     ensures atom { mark.new.atom ≡ mark.old.atom }
 {
     let mut look = *mark;
-    let found = candidate(f, i, trail, p, &mut look);
+    let found = match candidate(f, i, trail, p, &mut look) {
+        Some(a) => Some(a),
+        None => touched(f, i, trail, &mut look),
+    };
     mark.look = look.look;
     mark.top = look.top;
     mark.from = look.from;
+    mark.done = look.done;
     match found {
         Some(a) => if_open(f, i, trail, a),
         None => None,
