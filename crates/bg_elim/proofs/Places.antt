@@ -1,14 +1,9 @@
 -- Rows found by their keys.
 use Rattle.std.proofs.Common.{◌≡◌, ℕ, zero, suc, ◌+◌, ◌<◌, Bool, true, false, not, ◌&&◌, List, [], ◌∷◌, ◌++◌, length, map, ℤ, refl, sym, ap, ◌∙◌, arith, cond, subst, get_or, ◌≤◌}
 use Rattle.std.specs.Prelude.{Option, Some, None, ◌==◌}
-use Rattle.std.specs.declared.cmp.Ordering.{Ordering}
-use Rattle.std.specs.declared.cmp.Ordering.TheVariants.{Less, Equal, Greater}
-use Rattle.std.specs.Ordering.{ordering_reverse, nat_cmp, int_cmp, int_eq, ordering_then, is_eq}
-use Rattle.std.specs.Cmp.Lexicographic.{slice_cmp}
-use Rattle.std.proofs.lemmas.Cmp.{nat_cmp_total, int_cmp_total}
+use Rattle.std.specs.Ordering.{int_eq, is_eq}
 use Rattle.std.proofs.lemmas.Bool.{and_parts, and_from, eqb-true}
 use Rattle.std.proofs.lemmas.Int.{ints}
-use Rattle.std.proofs.lemmas.Map.Lookups.{exact_unsigned, exact_signed, exact_pairs}
 use Rattle.bg_rows.specs.declared.entry.Entry.{Entry}
 use Rattle.bg_rows.specs.Rows.{RowOf}
 use Rattle.bg_rows.specs.Steps.{row_at}

@@ -10,7 +10,9 @@ use Rattle.bg_base.specs.Exact.{floor_quotient}
 use Rattle.bg_rows.specs.Rows.{RowOf, Meets, IsNormal, is_empty, is_false, gcd_from, divided, tightened, eliminated}
 use Rattle.bg_rows.proofs.Divisors.{not_zero}
 use Rattle.bg_elim.specs.declared.order.Reason.TheVariants.{Tightened}
-use Rattle.bg_elim.specs.Work.{StaysSound, StaysPlaced, IsImplied}
+use Rattle.bg_elim.specs.declared.work.Stand.{Stand}
+use Rattle.bg_elim.specs.declared.work.Stand.TheVariants.{Alone, Implied, Nearer}
+use Rattle.bg_elim.specs.Work.{StaysSound, StaysPlaced, IsStand}
 use Rattle.bg_elim.proofs.Places.{entries_eq_is}
 use Rattle.bg_rows.specs.Steps.{row_at}
 use Rattle.bg_rows.proofs.Normal.{no_coefficient}
@@ -62,17 +64,17 @@ pub record Fits (all order : List ℕ) (t r : RowOf) : Type 0 where
 pub record Added (all : List ℕ) (t : RowOf) (w made : WorkOf) : Type 0 where
   pub grows : Grows w made
   pub back : (n : ℕ) (r : RowOf) → row_at made.rows n ≡ Some r → (row_at w.rows n ≡ Some r) ⊎ Fits all w.order t r
-  pub live : (n : ℕ) → is_in n w.live ≡ true → is_in n made.live ≡ true
+  pub live : (n : ℕ) → is_in n w.live ≡ true → (is_in n made.live ≡ true) ⊎ ((r : RowOf) → row_at w.rows n ≡ Some r → Covers t r)
   pub lives : (n : ℕ) → is_in n made.live ≡ true → (is_in n w.live ≡ true) ⊎ (row_at made.rows n ≡ Some t)
 
 pub added_itself : (all : List ℕ) (t : RowOf) (w : WorkOf) → Added all t w w
-added_itself all t w = record { grows = grows_itself w; back = λ n r h. inl h; live = λ n h. h; lives = λ n h. inl h }
+added_itself all t w = record { grows = grows_itself w; back = λ n r h. inl h; live = λ n h. inl h; lives = λ n h. inl h }
 
 pub added_row : (all : List ℕ) (t : RowOf) (w : WorkOf) (r : RowOf) (reason : Reason) → Fits all w.order t r → Added all t w (with_row w r reason)
 added_row all t w r reason f = record {
   grows = grows_row w r reason f.free;
   back = λ n s h. at_back w.rows r n s h (λ g. inl g) (λ e. inr (subst (Fits all w.order t) (sym e) f));
-  live = λ n h. h;
+  live = λ n h. inl h;
   lives = λ n h. inl h;
 }
 
@@ -84,7 +86,13 @@ pub added_on : (all : List ℕ) (t : RowOf) (a b c : WorkOf) → Added all t a b
 added_on all t a b c x y = record {
   grows = grows_on a b c x.grows y.grows;
   back = λ n r h. elim (y.back n r h) [ inl g ↦ x.back n r g | inr f ↦ inr (subst (λ (o : List ℕ). Fits all o t r) x.grows.order f) ];
-  live = λ n h. y.live n (x.live n h);
+  live = λ n h. elim (x.live n h) [
+    | inl g ↦ elim (y.live n g) [
+      | inl i ↦ inl i
+      | inr f ↦ inr (λ r e. f r (x.grows.stays n r e))
+    ]
+    | inr f ↦ inr f
+  ];
   lives = λ n h. elim (y.lives n h) [
     | inl g ↦ elim (x.lives n g) [ inl i ↦ inl i | inr i ↦ inr (y.grows.stays n t i) ]
     | inr g ↦ inr g
@@ -93,11 +101,15 @@ added_on all t a b c x y = record {
 
 -- ---- what is placed stays placed
 
-covered_more : (w made : WorkOf) (r : RowOf) → Grows w made → ((n : ℕ) → is_in n w.live ≡ true → is_in n made.live ≡ true) → Covered w r → Covered made r
-covered_more w made r g l c = record { number = c.number; row = c.row; there = g.stays c.number c.row c.there; lives = l c.number c.lives; covers = c.covers }
-
 pub covered_on : (w : WorkOf) (t r : RowOf) → Covers t r → Covered w t → Covered w r
 covered_on w t r h c = record { number = c.number; row = c.row; there = c.there; lives = c.lives; covers = covers_on c.row t r c.covers h }
+
+covered_more : (all : List ℕ) (t : RowOf) (w made : WorkOf) (r : RowOf) → Added all t w made → Covered made t → Covered w r → Covered made r
+covered_more all t w made r a k c =
+    elim (a.live c.number c.lives) [
+      | inl l ↦ record { number = c.number; row = c.row; there = a.grows.stays c.number c.row c.there; lives = l; covers = c.covers }
+      | inr f ↦ covered_on made c.row r c.covers (covered_on made t c.row (f c.row c.there) k)
+    ]
 
 meet_less : (v : ℕ → ℤ) (x : ℕ) (w made : WorkOf) → Grows w made → MeetBehind v made.order x made.rows → MeetBehind v w.order x w.rows
 meet_less v x w made g m r a o = m r (a.0, g.stays a.0 r a.1) (subst (λ (z : List ℕ). only_behind z x r ≡ true) (sym g.order) o)
@@ -115,7 +127,7 @@ placed_added all ready t w made p a ft c = record {
     | inr g ↦ (t, g, rw a.grows.order ft)
   ];
   cover = λ n r h f. elim (a.back n r h) [
-    | inl g ↦ covered_more w made r a.grows a.live (p.cover n r g (rw a.grows.order at f))
+    | inl g ↦ covered_more all t w made r a c (p.cover n r g (rw a.grows.order at f))
     | inr g ↦ covered_on made t r g.covers c
   ];
   agree = λ v x h m up low au al nu nl pu pl.
@@ -263,27 +275,79 @@ pub in_last_cases : (n m : ℕ) (ys : List ℕ) → is_in n (ys ++ (m ∷ [])) �
 in_last_cases n m ys h =
     elim (or_cases (is_in n ys) (nat_eq n m) (rw is_in_last at h)) [ inl g ↦ inl g | inr g ↦ inr (eqb-true n m g) ]
 
-pub added_live : (all : List ℕ) (t : RowOf) (w : WorkOf) (m : ℕ) (live : List ℕ) → row_at w.rows m ≡ Some t → live ≡ w.live ++ (m ∷ []) → Added all t w (record w { live = live })
-added_live all t w m live h e = record {
+stand_grows : (w made : WorkOf) (t : RowOf) (stand : Stand) → Grows w made → IsStand w t stand → IsStand made t stand
+stand_grows w made t Alone g h = tt
+stand_grows w made t (Implied n) g h = (h.0, g.stays n h.0 h.1, h.2, h.3)
+stand_grows w made t (Nearer n) g h = (h.0, g.stays n h.0 h.1, h.2, h.3)
+
+-- the row that goes is implied by the one that comes
+stand_covers : (w : WorkOf) (t : RowOf) (stand : Stand) (n : ℕ) → IsStand w t stand → stand ≡ Nearer n → (r : RowOf) → row_at w.rows n ≡ Some r → Covers t r
+stand_covers w t stand n h e r at =
+    let p = subst (IsStand w t) e h in
+    let same : p.0 ≡ r = cc (p.1, at) in
+    subst (Covers t) same (covers_same t p.0 (sym p.2) p.3)
+
+-- what stays of the live numbers, and one more
+pub record Retired (w : WorkOf) (stand : Stand) (left : List ℕ) : Type 0 where
+  pub back : (q : ℕ) → is_in q left ≡ true → is_in q w.live ≡ true
+  pub rest : (q : ℕ) → is_in q w.live ≡ true → (is_in q left ≡ true) ⊎ (stand ≡ Nearer q)
+
+pub added_live : (all : List ℕ) (t : RowOf) (w : WorkOf) (stand : Stand) (m : ℕ) (left live : List ℕ) → row_at w.rows m ≡ Some t → IsStand w t stand → Retired w stand left → live ≡ left ++ (m ∷ []) → Added all t w (record w { live = live })
+added_live all t w stand m left live h is d e = record {
   grows = record { order = refl; stays = λ n r g. g; back = λ n r g. inl g };
   back = λ n r g. inl g;
-  live = λ n g. rw e (in_more n w.live m g);
-  lives = λ n g. elim (in_last_cases n m w.live (rw e at g)) [ inl i ↦ inl i | inr i ↦ inr (rw i h) ];
+  live = λ n g. elim (d.rest n g) [
+    | inl i ↦ inl (rw e (in_more n left m i))
+    | inr s ↦ inr (stand_covers w t stand n is s)
+  ];
+  lives = λ n g. elim (in_last_cases n m left (rw e at g)) [ inl i ↦ inl (d.back n i) | inr i ↦ inr (rw i h) ];
 }
 
-pub settled_placed : (w a b : WorkOf) (r t : RowOf) (reason : Reason) (n m : ℕ) (live : List ℕ) → t ≡ tightened r → IsNormal r → IsNormal t → KeptAs w r reason a → KeptAs a t (Tightened n) b → row_at b.rows m ≡ Some t → live ≡ b.live ++ (m ∷ []) → StaysPlaced w r (record b { live = live })
-settled_placed w a b r t reason n m live e nr nt k l at le all ready p inside fr =
-    let made = record b { live = live } in
+live_stays : (w a : WorkOf) (r : RowOf) (reason : Reason) → KeptAs w r reason a → (t : RowOf) → Covered w t → Covered a t
+live_stays w a r reason (inl k) t c = subst (λ (z : WorkOf). Covered z t) (sym k) c
+live_stays w a r reason (inr k) t c =
+    subst (λ (z : WorkOf). Covered z t) (sym k.0)
+    (record { number = c.number; row = c.row; there = at_more w.rows r c.number c.row c.there; lives = c.lives; covers = c.covers })
+
+-- a row and its tightening come in, with what holds of both
+record Comes (all : List ℕ) (w a b : WorkOf) (r t : RowOf) : Type 0 where
+  pub covers : Covers t r
+  pub free : free w.order t ≡ true
+  pub first : Added all t w a
+  pub second : Added all t a b
+
+comes : (all : List ℕ) (w a b : WorkOf) (r t : RowOf) (reason : Reason) (n : ℕ) → t ≡ tightened r → IsNormal r → IsNormal t → KeptAs w r reason a → KeptAs a t (Tightened n) b → entries_in all r.entries ≡ true → free w.order r ≡ true → Comes all w a b r t
+comes all w a b r t reason n e nr nt k l inside fr =
     let cov : Covers t r = rw e (covers_tightened r) in
     let ft = covers_free w.order t r nt cov fr in
     let fits : Fits all w.order t r = record { free = fr; normal = nr; inside = inside; covers = cov } in
     let tight : Fits all w.order t t = record { free = ft; normal = nt; inside = covers_inside all t r nt cov inside; covers = covers_itself t } in
     let x = added_kept all t w a r reason k fits in
     let y = added_kept all t a b t (Tightened n) l (subst (λ (o : List ℕ). Fits all o t t) (sym x.grows.order) tight) in
-    let z = added_live all t b m live at le in
-    let ad = added_on all t w a made x (added_on all t a b made y z) in
-    let c : Covered made t = record { number = m; row = t; there = at; lives = rw le (in_last b.live m); covers = covers_itself t } in
-    (placed_added all ready t w made p ad ft c, inr (covered_on made t r cov c), ad.grows)
+    record { covers = cov; free = ft; first = x; second = y }
+
+pub settled_placed : (w a b : WorkOf) (r t : RowOf) (reason : Reason) (n m : ℕ) (stand : Stand) (left live : List ℕ) → t ≡ tightened r → IsNormal r → IsNormal t → KeptAs w r reason a → KeptAs a t (Tightened n) b → row_at b.rows m ≡ Some t → IsStand w t stand → Retired b stand left → live ≡ left ++ (m ∷ []) → StaysPlaced w r (record b { live = live })
+settled_placed w a b r t reason n m stand left live e nr nt k l at is d le all ready p inside fr =
+    let made = record b { live = live } in
+    let i = comes all w a b r t reason n e nr nt k l inside fr in
+    let g = grows_on w a b i.first.grows i.second.grows in
+    let z = added_live all t b stand m left live at (stand_grows w b t stand g is) d le in
+    let ad = added_on all t w a made i.first (added_on all t a b made i.second z) in
+    let c : Covered made t = record { number = m; row = t; there = at; lives = rw le (in_last left m); covers = covers_itself t } in
+    (placed_added all ready t w made p ad i.free c, inr (covered_on made t r i.covers c), ad.grows)
+
+-- a row that a kept one implies, kept and not paired
+pub aside_placed : (w a : WorkOf) (r t : RowOf) (reason : Reason) (n : ℕ) (stand : Stand) → t ≡ tightened r → IsNormal r → IsNormal t → KeptAs w r reason a → IsStand w t stand → stand ≡ Implied n → StaysPlaced w r a
+aside_placed w a r t reason n stand e nr nt k is same all ready p inside fr =
+    let h = subst (IsStand w t) same is in
+    let cov : Covers t r = rw e (covers_tightened r) in
+    let ft = covers_free w.order t r nt cov fr in
+    let fits : Fits all w.order t r = record { free = fr; normal = nr; inside = inside; covers = cov } in
+    let x = added_kept all t w a r reason k fits in
+    let by : Covers h.0 t = covers_same h.0 t h.2 h.3 in
+    let c : Covered w t = covered_on w h.0 t by (p.cover n h.0 h.1 (covers_free w.order h.0 t (p.normal n h.0 h.1) by ft)) in
+    let ca = live_stays w a r reason k t c in
+    (placed_added all ready t w a p x ft ca, inr (covered_on a t r cov ca), x.grows)
 
 pub place_some : (budget : ℕ) (r : RowOf) (w : WorkOf) (o : Option ℕ) (n : ℕ) → IsPlace budget r w o → o ≡ Some n → row_at w.rows n ≡ Some r
 place_some budget r w o n h e = subst (IsPlace budget r w) e h
@@ -309,13 +373,11 @@ implied_placed w r t s n e nt at es bs all ready p inside fr =
     let c = p.cover n s at (covers_free w.order s r ns by fr) in
     (p, inr (covered_on w s r by c), grows_itself w)
 
-pub implies_from : (a b : RowOf) → (entries_eq a.entries b.entries && int_le a.bound b.bound) ≡ true → (a.entries ≡ b.entries) × (a.bound ≤ℤ b.bound)
-implies_from a b h =
-    let p = and_parts (entries_eq a.entries b.entries) _ h in
-    (entries_eq_is a.entries b.entries p.0, grind (arith, ints, p.1))
+pub implied_from : (w : WorkOf) (r s : RowOf) (n : ℕ) → row_at w.rows n ≡ Some s → entries_eq s.entries r.entries ≡ true → s.bound ≤ℤ r.bound → IsStand w r (Implied n)
+implied_from w r s n at h b = (s, at, entries_eq_is s.entries r.entries h, b)
 
-pub implied_from : (w : WorkOf) (r s : RowOf) (n : ℕ) → row_at w.rows n ≡ Some s → (entries_eq s.entries r.entries && int_le s.bound r.bound) ≡ true → IsImplied w r (Some n)
-implied_from w r s n at h = let p = implies_from s r h in (s, at, p.0, p.1)
+pub nearer_from : (w : WorkOf) (r s : RowOf) (n : ℕ) → row_at w.rows n ≡ Some s → entries_eq s.entries r.entries ≡ true → r.bound ≤ℤ s.bound → IsStand w r (Nearer n)
+nearer_from w r s n at h b = (s, at, entries_eq_is s.entries r.entries h, b)
 
 -- ---- always true
 
@@ -332,8 +394,8 @@ pub stays_kept : (w made : WorkOf) (r : RowOf) (reason : Reason) (n : ℕ) (s : 
 stays_kept w made r reason n s (inl k) h = rw k h
 stays_kept w made r reason n s (inr k) h = rw k.0 (at_more w.rows r n s h)
 
-pub implied_taken : (w : WorkOf) (r t : RowOf) (o : Option ℕ) (n : ℕ) → t ≡ tightened r → IsNormal t → IsImplied w t o → o ≡ Some n → StaysPlaced w r w
-implied_taken w r t o n e nt h is = let p = subst (IsImplied w t) is h in implied_placed w r t p.0 n e nt p.1 p.2 p.3
+pub implied_taken : (w : WorkOf) (r t : RowOf) (stand : Stand) (n : ℕ) → t ≡ tightened r → IsNormal t → IsStand w t stand → stand ≡ Implied n → StaysPlaced w r w
+implied_taken w r t stand n e nt h is = let p = subst (IsStand w t) is h in implied_placed w r t p.0 n e nt p.1 p.2 p.3
 
 pub extends_itself : (w : WorkOf) → Extends w w
 extends_itself w = record { order = refl; stays = λ n r h. h }

@@ -15,6 +15,8 @@ use Rattle.bg_elim.specs.declared.work.Round.{Round}
 use Rattle.bg_elim.specs.declared.work.Round.TheVariants.{Whole, RefutedBy, Filled, Left}
 use Rattle.bg_elim.specs.declared.work.Paired.{Paired}
 use Rattle.bg_elim.specs.declared.work.Paired.TheVariants.{Ready, Refutes, NoRoom, Leaves}
+use Rattle.bg_elim.specs.declared.work.Stand.{Stand}
+use Rattle.bg_elim.specs.declared.work.Stand.TheVariants.{Alone, Implied, Nearer}
 use Rattle.bg_elim.specs.declared.work.Taken.{Taken}
 use Rattle.bg_elim.specs.declared.work.Taken.TheVariants.{Done, False, Full}
 use Rattle.bg_keys.specs.Keys.{key_cmp}
@@ -133,10 +135,11 @@ IsTaken budget w r made Done = StaysPlaced w r made
 IsTaken budget w r made False = (made ≡ w) × (is_false r ≡ true)
 IsTaken budget w r made Full = length made.rows ≡ budget
 
--- a kept row of the same entries, and a bound that is at least as near
-abbrev pub IsImplied : WorkOf → RowOf → Option ℕ → Type 0
-IsImplied w r None = Unit {0}
-IsImplied w r (Some n) = (s : RowOf) × (row_at w.rows n ≡ Some s) × (s.entries ≡ r.entries) × (s.bound ≤ℤ r.bound)
+-- a kept row of the same entries has a bound that is at least as near, or no nearer one
+abbrev pub IsStand : WorkOf → RowOf → Stand → Type 0
+IsStand w r Alone = Unit {0}
+IsStand w r (Implied n) = (s : RowOf) × (row_at w.rows n ≡ Some s) × (s.entries ≡ r.entries) × (s.bound ≤ℤ r.bound)
+IsStand w r (Nearer n) = (s : RowOf) × (row_at w.rows n ≡ Some s) × (s.entries ≡ r.entries) × (r.bound ≤ℤ s.bound)
 
 -- the row is kept, or always true
 abbrev pub IsThere : RowOf → WorkOf → Type 0

@@ -9,7 +9,7 @@ use crate::variables::choose;
 use crate::work::{Round, Work};
 use std::alloc::{AllocError, Global};
 
-/// Eliminates every variable, each time one of which the fewest rows are paired.
+/// Eliminates every variable, each time one that costs least.
 pub fn eliminate_all(
     alloc: Global,
     work: &mut Work,

@@ -55,8 +55,9 @@ fn found(
 /// A derivation of a false row, or an order of the variables that solves the rows; or why neither
 /// was found: `budget` pairwise different rows were kept, or an operation of an elimination leaves
 /// 128 bits. Variables are eliminated in the manner of Fourier and Motzkin, each time one of which
-/// the fewest pairs of rows arise; rows are divided by what their coefficients share, and a row
-/// that another one of the same coefficients implies isn't kept unless it was given.
+/// few pairs of rows arise, and first one of which no whole numbers are lost (Pugh, The Omega test,
+/// 1991); rows are divided by what their coefficients share, and a row that another one of the same
+/// coefficients implies isn't kept unless it was given, and isn't paired.
 pub fn refute_or_order(alloc: Global, rows: &[Row], budget: u32) -> Result<Found, AllocError>
     ensures { IfOk result (λ f. IsFound (map row_of rows.now) budget f) }
 {

@@ -1,6 +1,7 @@
 //! Rows are refuted, or an order of their variables solves them.
 #![tactic(auto)]
 
+mod cost;
 mod every;
 mod find;
 mod keep;
@@ -8,7 +9,9 @@ pub mod laws;
 mod order;
 mod pair;
 mod refute;
+mod retire;
 mod round;
+mod stand;
 mod start;
 mod take;
 #[cfg(test)]

@@ -86,3 +86,25 @@ fn the_ends_of_the_range(rt: HostRuntime) -> Result<(), Fail> {
     assert_eq!(rt; told(alloc, &steep, 100)?.0, 'n');
     Ok(())
 }
+
+/// Of many bounds of the same sum the nearest alone is paired, whether it comes first or last.
+#[test]
+fn the_nearest_of_many_bounds_is_paired(rt: HostRuntime) -> Result<(), Fail> {
+    let alloc = rt.alloc();
+    let mut nearer = Vec::new(alloc);
+    let mut further = Vec::new(alloc);
+    nearer.push(row(alloc, &[(1, -1)], 0)?)?;
+    further.push(row(alloc, &[(1, -1)], 0)?)?;
+    for n in 0..20_u32 {
+        let i = n as i128;
+        // x + y and y - x are at most some number
+        nearer.push(row(alloc, &[(0, 1), (1, 1)], 100 - i)?)?;
+        nearer.push(row(alloc, &[(0, -1), (1, 1)], 100 - i)?)?;
+        further.push(row(alloc, &[(0, 1), (1, 1)], 81 + i)?)?;
+        further.push(row(alloc, &[(0, -1), (1, 1)], 81 + i)?)?;
+    }
+    // beside those given there are 2y <= 162 and y <= 81
+    assert_eq!(rt; told(alloc, &nearer, 1_000)?, ('s', 43));
+    assert_eq!(rt; told(alloc, &further, 1_000)?, ('s', 43));
+    Ok(())
+}

@@ -6,10 +6,11 @@ ghost use Rattle.bg_rows.specs.Rows.{row_of};
 ghost use Rattle.bg_elim.specs.Kept.{is_in, no_twice, entries_in};
 ghost use Rattle.bg_elim.specs.Work.{AllInside};
 
+use crate::cost::{cost_of, sides_of};
 use crate::work::Work;
 use bg_rows::{Entry, Row};
 use std::alloc::{AllocError, Global};
-use std::collections::{BTreeMap, BTreeSet};
+use std::collections::BTreeSet;
 
 /// Adds a variable, unless it is there.
 fn add_one(set: &mut BTreeSet<u32>, all: &mut Vec<u32>, x: u32) -> Result<(), AllocError>
@@ -55,44 +56,21 @@ pub fn variables(alloc: Global, rows: &[Row]) -> Result<Vec<u32>, AllocError>
     Ok(all)
 }
 
-/// Counts, for each variable, the live rows that bound it from above and from below.
-fn bounds(alloc: Global, work: &Work) -> Result<BTreeMap<u32, (u64, u64)>, AllocError> {
-    let mut counts = BTreeMap::new(alloc);
-    for n in &work.live {
-        if let Some(row) = work.rows.get(*n) {
-            for t in &row.entries {
-                count(&mut counts, t)?;
-            }
-        }
-    }
-    Ok(counts)
-}
-
-/// Counts one entry.
-fn count(counts: &mut BTreeMap<u32, (u64, u64)>, t: &Entry) -> Result<(), AllocError> {
-    let (mut ups, mut lows) = counts.get(&t.variable).copied().unwrap_or((0, 0));
-    if t.by > 0 {
-        ups = ups.saturating_add(1);
-    } else {
-        lows = lows.saturating_add(1);
-    }
-    counts.insert(t.variable, (ups, lows))?;
-    Ok(())
-}
-
-/// The place of a variable whose elimination pairs the fewest rows.
+/// The place of a variable whose elimination costs least: see `cost_of`.
 pub fn choose(alloc: Global, work: &Work, rest: &[u32]) -> Result<usize, AllocError>
     requires { 0 < length rest.now }
     ensures { IfOk result (λ i. i < length rest.now) }
 {
-    let counts = bounds(alloc, work)?;
+    let sides = sides_of(alloc, work)?;
     let mut best = 0;
-    let mut fewest = u64::MAX;
+    let mut least = u64::MAX;
     for (i, x) in rest.iter().enumerate() {
-        let (ups, lows) = counts.get(x).copied().unwrap_or((0, 0));
-        let pairs = ups.saturating_mul(lows);
-        if pairs < fewest {
-            fewest = pairs;
+        let cost = match sides.get(x) {
+            Some(both) => cost_of(both),
+            None => 0,
+        };
+        if cost < least {
+            least = cost;
             best = i;
         }
     }

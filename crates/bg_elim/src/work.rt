@@ -7,7 +7,7 @@ use bg_rows::Row;
 use std::collections::BTreeMap;
 
 /// The variables done, the kept rows with their reasons, where each row is found by its key, and
-/// the numbers of the rows that are still to be paired.
+/// the numbers of the rows that are still to be paired, of the same entries only the nearest.
 #[derive(Drop)]
 pub struct Work {
     pub order: Vec<u32>,
@@ -26,6 +26,17 @@ pub enum Taken {
     False,
     /// As many rows are kept as the budget says.
     Full,
+}
+
+/// How a row stands to the nearest kept row of the same entries.
+#[derive(Clone, Copy, PartialEq, Eq, Debug)]
+pub enum Stand {
+    /// None is found.
+    Alone,
+    /// The kept row of this number implies it.
+    Implied(usize),
+    /// It implies the kept row of this number.
+    Nearer(usize),
 }
 
 /// What pairing two kept rows did.

@@ -1,7 +1,7 @@
 use Rattle.std.proofs.Common.{inr}
 use Rattle.bg_rows.specs.Rows.{row_of}
 use Rattle.bg_elim.specs.Work.{work_of}
-use Rattle.bg_elim.proofs.Rounds.{holds_kept, holds_live, settled_sound, settled_placed, place_some, stays_kept, extends_kept, extends_on, extends_live}
+use Rattle.bg_elim.proofs.Rounds.{holds_kept, holds_live, settled_sound, settled_placed, aside_placed, place_some, stays_kept, extends_kept, extends_on, extends_live}
 use Rattle.bg_elim.specs.declared.order.Reason.TheVariants.{Tightened}
 use Rattle.bg_elim.proofs.take.settle.Goals as goal
 
@@ -26,10 +26,28 @@ returns-clause-sound c = λ given h made.
 
 pub returns-clause-taken : goal.returns-clause-taken
 returns-clause-taken c =
-    settled_placed (work_of c.args.work.now) (work_of c.keep.new.work) (work_of c.keep-2.new.work) (row_of c.args.row) (row_of c.args.tight) c.args.reason c.in-Some.n c.in-Some-2.m c.push.new.self.items
+    settled_placed (work_of c.args.work.now) (work_of c.keep.new.work) (work_of c.keep-2.new.work) (row_of c.args.row) (row_of c.args.tight) c.args.reason c.in-Some.n c.in-Some-2.m c.args.stand c.retire.new.live.items c.push.new.self.items
     c.requires.tight c.args.row.normal c.args.tight.normal c.in_ok-n.ensures.kept c.in_ok-m.ensures.kept
     (place_some c.args.budget (row_of c.args.tight) (work_of c.keep-2.new.work) _ c.in-Some-2.m c.in_ok-m.ensures.place c.in-Some-2.is)
+    c.requires.stand
+    (record { back = c.retire.ensures.back; rest = c.retire.ensures.rest })
     c.in_ok-push.ensures.items
+
+pub returns-in-Implied-clause-taken : goal.returns-in-Implied-clause-taken
+returns-in-Implied-clause-taken c =
+    aside_placed (work_of c.args.work.now) (work_of c.keep.new.work) (row_of c.args.row) (row_of c.args.tight) c.args.reason _ c.args.stand
+    c.requires.tight c.args.row.normal c.args.tight.normal c.in_ok-n.ensures.kept c.requires.stand c.in-Implied.is
+
+pub returns-in-Implied-clause-sound : goal.returns-in-Implied-clause-sound
+returns-in-Implied-clause-sound c = λ given h made.
+    holds_kept given (work_of c.args.work.now) (work_of c.keep.new.work) (row_of c.args.row) c.args.reason c.in_ok-n.ensures.kept h made c.requires.fine
+
+pub returns-in-Implied-clause-extends : goal.returns-in-Implied-clause-extends
+returns-in-Implied-clause-extends c = extends_kept (work_of c.args.work.now) (work_of c.keep.new.work) (row_of c.args.row) c.args.reason c.in_ok-n.ensures.kept
+
+pub returns-in-Implied-clause-there : goal.returns-in-Implied-clause-there
+returns-in-Implied-clause-there c = λ e.
+    inr (c.in-Some.n, place_some c.args.budget (row_of c.args.row) (work_of c.keep.new.work) _ c.in-Some.n c.in_ok-n.ensures.place c.in-Some.is)
 
 pub returns-clause-there : goal.returns-clause-there
 returns-clause-there c = λ e.

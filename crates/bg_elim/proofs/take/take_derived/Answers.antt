@@ -3,6 +3,6 @@ use Rattle.bg_elim.specs.Work.{work_of}
 use Rattle.bg_elim.proofs.Rounds.{implied_taken}
 use Rattle.bg_elim.proofs.take.take_derived.Goals as goal
 
-pub returns-in-Some-clause-taken : goal.returns-in-Some-clause-taken
-returns-in-Some-clause-taken c =
-    implied_taken (work_of c.args.work.now) (row_of c.args.row) (row_of c.in_ok-tight.tight) _ _ c.in_ok-tight.ensures c.in_ok-tight.tight.normal c.in_ok-implied.ensures c.in-Some.is
+pub returns-in-Implied-clause-taken : goal.returns-in-Implied-clause-taken
+returns-in-Implied-clause-taken c =
+    implied_taken (work_of c.args.work.now) (row_of c.args.row) (row_of c.in_ok-tight.tight) _ _ c.in_ok-tight.ensures c.in_ok-tight.tight.normal c.in_ok-stand.ensures c.in-Implied.is
