@@ -14,7 +14,7 @@ mod walk;
 pub use cert::{Decision, Node};
 pub use check::accepts;
 pub use leaf::{clause_false, names_false, unit_false};
-pub use rows::rows_on;
+pub use rows::{row_of_decision, rows_on};
 pub use tally::Tally;
 pub use trail::{Trail, decide, decides, first_trail, undo_to};
 pub use units::used;

@@ -21,9 +21,13 @@ fn one_entry(alloc: Global, variable: u32, by: i128, bound: i128) -> Result<Row,
     Ok(Row { entries, bound })
 }
 
-/// The row of a decision, if it has one.
+/// The row of a decision, if it has one. Only want of memory is an error.
 #[tactic(auto, using(crate::proofs::Places::at_map_there, crate::proofs::Places::at_map_missing))]
-fn row_of_decision(alloc: Global, atoms: &[Atom], d: &Decision) -> Result<Option<Row>, AllocError>
+pub fn row_of_decision(
+    alloc: Global,
+    atoms: &[Atom],
+    d: &Decision,
+) -> Result<Option<Row>, AllocError>
     ensures { IfOk result (λ r. view_row r ≡ row_of_decision (map atom_of atoms.now) d.now) }
 {
     match *d {
