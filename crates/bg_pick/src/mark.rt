@@ -17,9 +17,9 @@ use bg_formula::{Clauses, Literal};
 
 /// A place of a path's rows, before which no clause is a unit; the clause before which each has a
 /// true literal; and the atom before which each is decided. Of the look ahead that chose the last
-/// split the clause, the number of rows then, and the clause's row. The number of decisions at
-/// which the path's rows were last eliminated. And the number of decisions before which each clause
-/// that one touched has a true literal.
+/// split the clause, the number of rows then, and the clause's row. The number of decisions whose
+/// rows were looked at. And the number of decisions before which each clause that one touched has a
+/// true literal.
 #[derive(Clone, Copy, PartialEq, Eq, Debug)]
 pub struct Mark {
     pub row: usize,

@@ -1,5 +1,5 @@
 -- What is made of the rows of a path that decides every atom.
-use Rattle.std.proofs.Common.{◌≡◌, ℕ, ◌<◌, Bool, true, false, not, ◌&&◌, List, map, length, refl, sym, subst}
+use Rattle.std.proofs.Common.{◌≡◌, ℕ, ◌<◌, Bool, true, false, not, List, map, length, refl, sym, subst}
 use Rattle.std.specs.Prelude.{Some}
 use Rattle.bg_rows.specs.declared.row.Row.{Row}
 use Rattle.bg_rows.specs.Rows.{RowOf, row_of}
@@ -8,7 +8,7 @@ use Rattle.bg_formula.specs.Formulas.{Formula, formula_of, is_whole}
 use Rattle.bg_formula.proofs.Agree.{atoms_agree}
 use Rattle.bg_cert.specs.declared.cert.Decision.{Decision}
 use Rattle.bg_cert.specs.Paths.{rows_on}
-use Rattle.bg_cert.specs.Causes.{all_decided, has_bound, may_bound}
+use Rattle.bg_cert.specs.Causes.{all_decided, has_bound}
 use Rattle.bg_cert.specs.Walks.{path_of, stack_of, decided_on}
 use Rattle.bg_cert.proofs.Follow.{and_of}
 use Rattle.bg_pick.specs.Picks.{IsComplete}

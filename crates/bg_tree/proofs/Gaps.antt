@@ -1,22 +1,20 @@
 -- A bound that the path has already is no gap: its row is kept, and agrees with the others.
-use Rattle.std.proofs.Common.{◌≡◌, ℕ, zero, suc, ◌<◌, ◌/◌, Bool, true, false, not, ◌&&◌, ◌||◌, ◌==◌, cond, List, [], ◌∷◌, ℤ, pos, negsuc, ◌+ℤ◌, ◌-ℤ◌, ◌*ℤ◌, neg_ℤ, ◌≤ℤ◌, ◌<ℤ◌, map, refl, sym, ap, ◌∙◌, arith, subst, nat_eq, ◌⊎◌, inl, inr}
-use Rattle.std.specs.Prelude.{Option, Some, None, int_lt, int_le, unsigned_abs}
+use Rattle.std.proofs.Common.{◌≡◌, ℕ, zero, suc, ◌<◌, ◌/◌, Bool, true, false, not, ◌&&◌, ◌||◌, ◌==◌, cond, List, [], ◌∷◌, ℤ, pos, negsuc, ◌+ℤ◌, ◌-ℤ◌, ◌*ℤ◌, neg_ℤ, ◌≤ℤ◌, ◌<ℤ◌, map, refl, ap, ◌∙◌, arith, subst, nat_eq, ◌⊎◌, inl, inr}
+use Rattle.std.specs.Prelude.{Option, Some, None}
 use Rattle.std.specs.Ordering.{int_eq}
 use Rattle.std.proofs.lemmas.Int.{ints}
-use Rattle.std.proofs.lemmas.Bool.{and_parts, and_from, not-true, eqb-true, eq-eqb}
+use Rattle.std.proofs.lemmas.Bool.{not-true, eqb-true, eq-eqb}
 use Rattle.std.proofs.lemmas.Bool.Decides.{nat_tests}
 use Rattle.std.proofs.Math.IntN.{zero-*ℤ, suc_ℤ-*ℤ, pred_ℤ-*ℤ}
 use Rattle.bg_base.specs.Exact.{floor_quotient, gcd_of}
 use Rattle.bg_base.proofs.Ring.{product_of_negation, negation_of_product}
 use Rattle.bg_rows.specs.declared.entry.Entry.{Entry}
-use Rattle.bg_rows.specs.declared.row.Row.{Row}
-use Rattle.bg_rows.specs.Entries.{mentions, coefficient, total}
+use Rattle.bg_rows.specs.Entries.{coefficient, total}
 use Rattle.bg_rows.specs.Rows.{RowOf, row_of, IsNormal, holds, left_for, gcd_from, divided, tightened, entry}
 use Rattle.bg_rows.specs.Steps.{row_at}
 use Rattle.bg_rows.proofs.Normal.{Normal, from_rising}
 use Rattle.bg_elim.specs.Kept.{is_in, none_before, entries_in, rows_in, is_true_row, Among, AllKept}
-use Rattle.bg_point.specs.declared.spot.Spot.{Spot}
-use Rattle.bg_point.specs.Points.{value_of, with_value, bounds_above, bounds_below, keeps_above, keeps_below, pair_agrees, agrees_below, bounds_agree, IsGap}
+use Rattle.bg_point.specs.Points.{value_of, with_value, bounds_above, bounds_below, keeps_above, keeps_below, pair_agrees, agrees_below, bounds_agree}
 use Rattle.bg_point.proofs.Limits.{without_x}
 use Rattle.bg_point.proofs.Upto.{rows_normal}
 use Rattle.bg_formula.specs.Atoms.{AtomOf}

@@ -1,7 +1,6 @@
 -- Where a valuation agrees with a complete leaf, it meets the clauses and the units.
-use Rattle.std.proofs.Common.{◌≡◌, ℕ, zero, suc, ◌<◌, Bool, true, false, not, ◌&&◌, ◌||◌, ◌==◌, cond, List, [], ◌∷◌, ℤ, ◌≤ℤ◌, ◌<ℤ◌, length, map, refl, sym, ◌∙◌, arith, inl, inr, subst}
-use Rattle.std.specs.Prelude.{Option, Some, None, Ok, nat_lt, int_le}
-use Rattle.std.proofs.lemmas.Int.{ints}
+use Rattle.std.proofs.Common.{◌≡◌, ℕ, zero, suc, ◌<◌, Bool, true, false, not, ◌&&◌, ◌||◌, ◌==◌, cond, List, [], ◌∷◌, ℤ, length, map, refl, sym, ◌∙◌, arith, inl, inr, subst}
+use Rattle.std.specs.Prelude.{Option, Some, None, Ok, nat_lt}
 use Rattle.std.proofs.lemmas.Bool.Decides.{nat_tests}
 use Rattle.bg_rows.specs.Rows.{RowOf, row_of, holds, Meets, AllMeet, denied}
 use Rattle.bg_rows.proofs.Meaning.{denied_denies}

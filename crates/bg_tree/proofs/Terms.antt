@@ -1,7 +1,6 @@
 -- A gap of a path's rows is at a term that is there: rows that are made mention what the given ones mention alone.
-use Rattle.std.proofs.Common.{◌≡◌, ℕ, zero, suc, ◌<◌, ◌/◌, Bool, true, false, ◌&&◌, ◌||◌, ◌==◌, List, [], ◌∷◌, ◌++◌, ℤ, pos, negsuc, map, refl, arith, subst, nat_lt}
+use Rattle.std.proofs.Common.{◌≡◌, ℕ, zero, suc, ◌<◌, ◌/◌, Bool, true, false, ◌||◌, ◌==◌, List, [], ◌∷◌, ◌++◌, ℤ, pos, negsuc, map, refl, arith, subst, nat_lt}
 use Rattle.std.specs.Prelude.{Option, Some, None, Ok, unsigned_abs, int_lt}
-use Rattle.std.proofs.lemmas.Int.{ints}
 use Rattle.std.proofs.lemmas.Bool.{and_parts, and_from}
 use Rattle.std.proofs.lemmas.Bool.Decides.{nat_tests}
 use Rattle.bg_base.specs.Exact.{negation_of, difference_of, gcd_of}
@@ -19,9 +18,8 @@ use Rattle.bg_elim.proofs.Covers.{covers_tightened, covers_mentions}
 use Rattle.bg_elim.proofs.Derive.{gone_parts}
 use Rattle.bg_point.specs.declared.spot.Spot.{Spot}
 use Rattle.bg_point.specs.Points.{value_of, bounds_below, keeps_above, IsGap}
-use Rattle.bg_point.proofs.Upto.{rows_normal}
 use Rattle.bg_formula.specs.Atoms.{AtomOf, IsTruth, IsRow, at}
-use Rattle.bg_formula.specs.Formulas.{entries_below, atom_below, rows_below}
+use Rattle.bg_formula.specs.Formulas.{entries_below, rows_below}
 use Rattle.bg_formula.specs.Meaning.{AtomsAgree}
 use Rattle.bg_cert.specs.declared.cert.Decision.{Decision}
 use Rattle.bg_cert.specs.declared.cert.Decision.TheVariants.{Atom, AtMost}

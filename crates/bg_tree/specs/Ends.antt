@@ -3,10 +3,8 @@ use Rattle.std.specs.Prelude.{◌≡◌, ℕ, ◌<◌, Bool, true, false, List, 
 use Rattle.std.specs.declared.alloc.Global.{Global}
 use Rattle.bg_rows.specs.Rows.{RowOf, row_of}
 use Rattle.bg_rows.specs.Steps.{derives}
-use Rattle.bg_elim.specs.declared.order.Order.{Order}
 use Rattle.bg_elim.specs.Kept.{FillBudget, LeavesRange}
 use Rattle.bg_elim.specs.Answers.{SolvedBy}
-use Rattle.bg_point.specs.declared.spot.Spot.{Spot}
 use Rattle.bg_point.specs.Points.{IsPoint, IsGap, IsFar}
 use Rattle.bg_formula.specs.Atoms.{AtomOf, IsTruth, at}
 use Rattle.bg_formula.specs.Formulas.{Formula}

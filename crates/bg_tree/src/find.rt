@@ -6,11 +6,12 @@ ghost use Rattle.bg_pick.specs.Index.{IsIndex};
 ghost use Rattle.bg_tree.specs.Trees.{IsOutcome};
 
 use crate::outcome::{Budget, Outcome, Why, outcome_of};
-use crate::step::{Search, step};
+use crate::step::{Aids, Search, step};
 use crate::whole::whole;
 use bg_cert::first_walk;
+use bg_conflict::new_ledger;
 use bg_formula::Clauses;
-use bg_pick::{Index, Probe, first_guide, index_of, new_probe};
+use bg_pick::{Index, first_guide, index_of, new_probe};
 use std::alloc::{AllocError, Global};
 
 /// The search, where the index of the formula is made.
@@ -20,7 +21,7 @@ fn searched(
     set: &[bool],
     budget: Budget,
     i: &Index,
-    probe: &mut Probe,
+    aids: &mut Aids,
 ) -> Result<Outcome, AllocError>
     requires whole { is_whole (formula_of f.now) ≡ true }
     requires named { IsIndex (formula_of f.now) (has set.now) i.now }
@@ -34,7 +35,7 @@ fn searched(
     };
     let mut guide = first_guide(alloc);
     while s.walk.is_open {
-        if let Some(halt) = step(alloc, f, set, i, &mut s, &mut guide, probe, budget.rows)? {
+        if let Some(halt) = step(alloc, f, set, i, &mut s, &mut guide, aids, budget.rows)? {
             return Ok(outcome_of(s.walk.trail.decisions, halt));
         }
     }
@@ -48,8 +49,8 @@ fn searched(
 /// Searches the clauses with the units of the set: for a certificate, for a point at which they
 /// hold, or until a budget is used up or an operation leaves 128 bits. A node takes time for the
 /// clauses of its last decision's atom, for what the path's mark passes, and where no clause is a
-/// unit for a look ahead and an elimination of few rows. The budget of rows counts where a path
-/// decides every atom.
+/// unit for a look ahead and an elimination of the nearest rows beside a row that is new. The budget
+/// of rows counts where a path decides every atom.
 pub fn search(
     alloc: Global,
     f: &Clauses,
@@ -60,6 +61,9 @@ pub fn search(
     ensures { IfOk result (λ outcome. IsOutcome (formula_of f.now) (has set.now) budget outcome) }
 {
     let i = index_of(alloc, f, set)?;
-    let mut probe = new_probe(alloc, f.atoms.len())?;
-    searched(alloc, f, set, budget, &i, &mut probe)
+    let mut aids = Aids {
+        probe: new_probe(alloc, f.atoms.len())?,
+        ledger: new_ledger(alloc, f)?,
+    };
+    searched(alloc, f, set, budget, &i, &mut aids)
 }

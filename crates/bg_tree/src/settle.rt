@@ -10,16 +10,14 @@ ghost use Rattle.bg_tree.specs.Ends.{IsPlacedEnd, IsEnd};
 
 use crate::outcome::{Beyond, End, Halt};
 use crate::part::Kept;
-use bg_cert::{Decision, Trail, rows_on};
+use bg_cert::{Trail, rows_on};
+use bg_conflict::{Ledger, conflict};
 use bg_elim::{Found, Order, Stop, refute_or_order};
-use bg_formula::{Atom, Clauses};
+use bg_formula::Clauses;
 use bg_pick::Mark;
 use bg_point::{Placed, point};
 use bg_rows::{Row, Step};
 use std::alloc::{AllocError, Global};
-
-/// How many rows an elimination may make beside those of a path that doesn't decide every atom.
-const MORE_ROWS: u32 = 200;
 
 /// A point of an order that solves the rows, or why there is none.
 fn placed(alloc: Global, given: &[Row], order: Order) -> Result<End, AllocError>
@@ -56,38 +54,16 @@ pub fn settle(alloc: Global, f: &Clauses, trail: &Trail, budget: u32) -> Result<
     }
 }
 
-/// Whether a row isn't always true by itself.
-fn tells(row: &Row) -> bool {
-    !row.entries.is_empty() || row.bound < 0
-}
-
-/// Whether an atom with this sign is a row that isn't always true by itself.
-fn is_telling(f: &Clauses, a: usize, sign: bool) -> bool {
-    match f.atoms.get(a) {
-        Some(Atom::Holds(both)) => tells(if sign { &both.row } else { &both.denial }),
-        _ => false,
-    }
-}
-
-/// Whether one of the decisions from a place on is a row that isn't always true by itself.
-fn any_row_from(f: &Clauses, trail: &Trail, from: usize) -> bool {
-    for n in from..trail.decisions.len() {
-        if let Decision::Atom(a, sign) = trail.decisions[n] {
-            if is_telling(f, a, sign) {
-                return true;
-            }
-        }
-    }
-    false
-}
-
-/// A derivation of a false row of the path's rows, where one was decided since they were last
-/// eliminated and few rows suffice. Of the mark it changes what says when that was alone.
+/// A derivation of a false row of the path's rows, where one is found from few of them: by two rows
+/// that clash, and where the `whole` is asked for by an elimination. Of the mark it changes what
+/// says how many decisions were looked at.
 pub fn refuted(
     alloc: Global,
     f: &Clauses,
     trail: &Trail,
+    ledger: &mut Ledger,
     mark: &mut Mark,
+    whole: bool,
 ) -> Result<Option<Vec<Step>>, AllocError>
     ensures derives { IfOk result (λ found. IfSome found (λ steps. derives (rows_on (formula_of f.now).atoms trail.now.decisions.items) [] false steps.items ≡ true)) }
     ensures row { mark.new.row ≡ mark.old.row }
@@ -97,13 +73,5 @@ pub fn refuted(
 {
     let from = mark.asked;
     mark.asked = trail.decisions.len();
-    if !any_row_from(f, trail, from) {
-        return Ok(None);
-    }
-    let path = rows_on(alloc, &f.atoms, &trail.decisions)?;
-    let rows = path.len().min(1_000_000) as u32;
-    match refute_or_order(alloc, &path, rows + MORE_ROWS)? {
-        Found::Refuted(steps) => Ok(Some(steps)),
-        _ => Ok(None),
-    }
+    conflict(alloc, f, trail, ledger, from, whole)
 }

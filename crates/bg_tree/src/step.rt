@@ -15,6 +15,7 @@ use crate::outcome::{End, Halt};
 use crate::part::{Kept, Part};
 use crate::settle::{refuted, settle};
 use bg_cert::{Decision, Node, Walk, close, open_both};
+use bg_conflict::Ledger;
 use bg_formula::Clauses;
 use bg_pick::{Guide, Index, Pick, Probe, go_on, next_at, split};
 use bg_point::Gap;
@@ -28,6 +29,13 @@ pub struct Search {
     pub parts: Vec<Part>,
     pub left: u32,
     pub seen: bool,
+}
+
+/// What helps to choose and to close: a probe for looks ahead, and the nearest rows of the path.
+#[derive(Debug, Drop)]
+pub struct Aids {
+    pub probe: Probe,
+    pub ledger: Ledger,
 }
 
 /// Closes the open path by a leaf whose claim holds.
@@ -215,7 +223,8 @@ fn finish(
     }
 }
 
-/// A step at a path where an atom may be split: what few rows tell, else the split.
+/// A step at a path where an atom may be split: what few rows tell, else the split. Of an atom that
+/// isn't `free`, a unit's, only one value stays open.
 fn advance(
     alloc: Global,
     f: &Clauses,
@@ -223,7 +232,9 @@ fn advance(
     i: &Index,
     s: &mut Search,
     guide: &mut Guide,
+    ledger: &mut Ledger,
     a: usize,
+    free: bool,
 ) -> Result<(), AllocError>
     requires is_walk { IsWalk s.old.walk }
     requires is_open { IsTrue s.old.walk.is_open }
@@ -235,7 +246,7 @@ fn advance(
     ensures moves { OnOk result (Moves (formula_of f.now) (has set.now) s.old s.new) }
     ensures ready { OnOk result (AllReady (formula_of f.now) (has set.now) i.now (stack_of (formula_of f.now) s.new.walk) (marks_of guide.new)) }
 {
-    match refuted(alloc, f, &s.walk.trail, &mut guide.mark)? {
+    match refuted(alloc, f, &s.walk.trail, ledger, &mut guide.mark, free)? {
         Some(steps) => close_by(f, set, i, s, guide, Node::Rows(steps)),
         None => divide(f, set, i, s, guide, a),
     }
@@ -250,7 +261,7 @@ pub fn step(
     i: &Index,
     s: &mut Search,
     guide: &mut Guide,
-    probe: &mut Probe,
+    aids: &mut Aids,
     rows: u32,
 ) -> Result<Option<Halt>, AllocError>
     requires is_walk { IsWalk s.old.walk }
@@ -263,17 +274,17 @@ pub fn step(
     ensures steps { IfOk result (λ halt. Steps (formula_of f.now) (has set.now) rows s.old s.new halt) }
     ensures ready { IfOk result (λ halt. halt ≡ None → AllReady (formula_of f.now) (has set.now) i.now (stack_of (formula_of f.now) s.new.walk) (marks_of guide.new)) }
 {
-    match next_at(f, set, i, &s.walk.trail, &mut guide.mark, probe) {
+    match next_at(f, set, i, &s.walk.trail, &mut guide.mark, &mut aids.probe) {
         Pick::Close(node) => {
             close_by(f, set, i, s, guide, node)?;
             Ok(None)
         }
         Pick::Force(a) => {
-            divide(f, set, i, s, guide, a)?;
+            advance(alloc, f, set, i, s, guide, &mut aids.ledger, a, false)?;
             Ok(None)
         }
         Pick::Split(a) => {
-            advance(alloc, f, set, i, s, guide, a)?;
+            advance(alloc, f, set, i, s, guide, &mut aids.ledger, a, true)?;
             Ok(None)
         }
         Pick::Leaf => finish(alloc, f, set, i, s, guide, rows),

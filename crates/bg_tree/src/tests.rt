@@ -220,8 +220,8 @@ fn ask(entries: &'static [(u32, i128)], bound: i128, sign: bool) -> Asked {
     }
 }
 
-/// Bounds that clash, with and without a truth variable beside them; 2x = 2y + 1; and 3y = x + 1
-/// where x is 3 or 4, which no bound but one of y closes.
+/// Bounds that clash, with and without truth variables beside them, and in front of units that aren't
+/// decided then; and 2x = 2y + 1.
 #[test]
 fn rows_close_paths(rt: HostRuntime) -> Result<(), Fail> {
     let alloc = rt.alloc();
@@ -229,6 +229,14 @@ fn rows_close_paths(rt: HostRuntime) -> Result<(), Fail> {
     let f = rows_formula(alloc, 1, &clash, 0)?;
     assert_eq!(rt; told(alloc, &f, 9, 1000)?, ('c', 5));
     let f = rows_formula(alloc, 1, &clash, 9)?;
+    assert_eq!(rt; told(alloc, &f, 2, 1000)?, ('c', 5));
+    let early = [
+        ask(&[(0, 1)], 1, true),
+        ask(&[(0, -1)], -2, true),
+        ask(&[(1, 1)], 0, true),
+        ask(&[(2, 1)], 0, true),
+    ];
+    let f = rows_formula(alloc, 3, &early, 0)?;
     assert_eq!(rt; told(alloc, &f, 2, 1000)?, ('c', 5));
     let parity = [
         ask(&[(0, 2), (1, -2)], 1, true),
@@ -238,13 +246,29 @@ fn rows_close_paths(rt: HostRuntime) -> Result<(), Fail> {
     assert_eq!(rt; told(alloc, &f, 9, 1000)?, ('c', 5));
     assert_eq!(rt; told(alloc, &f, 9, 1)?, ('r', 1));
     assert_eq!(rt; told(alloc, &f, 9, 2)?, ('r', 2));
-    let gap = [
+    Ok(())
+}
+
+/// 3y = x + 1 where x is 3 or 4 takes no bound, since x goes first and nothing whole is lost by it;
+/// 3x = 5y + 1 where y is 0 is closed by no bound but one of x.
+#[test]
+fn gaps_take_a_bound_where_whole_numbers_are_lost(rt: HostRuntime) -> Result<(), Fail> {
+    let alloc = rt.alloc();
+    let exact = [
         ask(&[(0, -1), (1, 3)], 1, true),
         ask(&[(0, 1), (1, -3)], -1, true),
         ask(&[(0, -1)], -3, true),
         ask(&[(0, 1)], 4, true),
     ];
-    let f = rows_formula(alloc, 2, &gap, 0)?;
+    let f = rows_formula(alloc, 2, &exact, 0)?;
+    assert_eq!(rt; told(alloc, &f, 4, 1000)?, ('c', 9));
+    let lost = [
+        ask(&[(0, 3), (1, -5)], 1, true),
+        ask(&[(0, -3), (1, 5)], -1, true),
+        ask(&[(1, 1)], 0, true),
+        ask(&[(1, -1)], 0, true),
+    ];
+    let f = rows_formula(alloc, 2, &lost, 0)?;
     assert_eq!(rt; told(alloc, &f, 5, 1000)?, ('c', 11));
     assert_eq!(rt; told(alloc, &f, 4, 1000)?, ('n', 9));
     Ok(())

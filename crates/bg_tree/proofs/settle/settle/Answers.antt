@@ -1,4 +1,3 @@
-use Rattle.bg_formula.specs.Formulas.{formula_of}
 use Rattle.bg_tree.proofs.Ends.{placed_ends}
 use Rattle.bg_tree.proofs.settle.settle.Goals as goal
 

@@ -1,4 +1,4 @@
-use Rattle.std.proofs.Common.{refl, ◌-◌, ◌∙◌}
+use Rattle.std.proofs.Common.{refl, ◌-◌}
 use Rattle.bg_formula.specs.Formulas.{formula_of}
 use Rattle.bg_cert.specs.Walks.{has}
 use Rattle.bg_tree.proofs.Steps.{bound_moves}
