@@ -60,6 +60,28 @@ def unordered(n):
     return "\n".join([*relations(n), f"assert x{n} <= x0;", "}", ""])
 
 
+def crowd(n):
+    """Assumptions and checks that keep one number out of ranges, which stand in no order."""
+    lines = ["procedure P(x: int) {"]
+    for k in range(2 * n):
+        low = 37 * k % 1009
+        lines.append(f"{'assume' if k < n else 'assert'} x <= {low} || x >= {low + 2 + k % 50};")
+    return "\n".join([*lines, "}", ""])
+
+
+def nearer(n):
+    """Each check keeps a number out of more than the one before it."""
+    lines = ["procedure P(x: int) {"]
+    return "\n".join([*lines, *(f"assert x <= {n - k} || x >= {n + k};" for k in range(n)), "}", ""])
+
+
+def apart(n):
+    """Assumptions and checks, each of a number of its own."""
+    lines = ["procedure P(" + ", ".join(f"x{k}: int" for k in range(n)) + ") {"]
+    lines += [f"assume x{k} <= 10 || x{k} >= 20;" for k in range(n)]
+    return "\n".join([*lines, *(f"assert x{k} <= 5 || x{k} >= 30;" for k in range(n)), "}", ""])
+
+
 def nest(n):
     """Loops within loops, each of which counts to the same limit and keeps what the outer ones count."""
     lines = ["procedure P(limit: int) requires 0 <= limit; {", "var " + ", ".join(f"i{k}" for k in range(n)) + ": int;"]
@@ -158,6 +180,9 @@ def main():
         ("calls in a chain", chain, [1_000, 2_000, 4_000]),
         ("relations in order", ordered, [20, 40, 80]),
         ("relations against their order", unordered, [20, 40, 80]),
+        ("relations of one number", crowd, [50, 100, 200]),
+        ("relations ever nearer", nearer, [50, 100, 200]),
+        ("relations of numbers apart", apart, [50, 100, 200]),
         ("loops in a nest", nest, [2, 4, 8]),
         ("procedures over numbers", larger, [200, 400, 800]),
         ("bytes into tokens", tokens, [1_000_000, 2_000_000, 4_000_000]),
