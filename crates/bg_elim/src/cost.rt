@@ -1,53 +1,80 @@
-//! What the elimination of a variable costs.
-use crate::work::Work;
-use bg_rows::Entry;
-use std::alloc::{AllocError, Global};
+//! What the elimination of a variable costs: a guide alone, of which no answer depends.
+use crate::work::Stand;
+use bg_rows::{Entry, Row};
+use std::alloc::AllocError;
 use std::collections::BTreeMap;
 
 /// How many times a pair counts of which whole numbers may be lost.
 const INEXACT: u64 = 16;
 
-/// Live rows that bound a variable from above and from below: how many, and whether on each side one
-/// has a coefficient other than 1 or -1.
+/// How many live rows bound a variable from above and from below, and how many of them have a
+/// coefficient other than 1 or -1.
 #[derive(Clone, Copy, PartialEq, Eq, Debug)]
 pub struct Sides {
     pub ups: u64,
     pub lows: u64,
-    pub steep_ups: bool,
-    pub steep_lows: bool,
+    pub steep_ups: u64,
+    pub steep_lows: u64,
 }
 
-/// Counts one entry.
-fn count(counts: &mut BTreeMap<u32, Sides>, t: &Entry) -> Result<(), AllocError> {
+/// For each variable the live rows that bound it.
+pub type Counts = BTreeMap<u32, Sides>;
+
+/// One entry more.
+fn count(counts: &mut Counts, t: &Entry) -> Result<(), AllocError> {
     let nothing = Sides {
         ups: 0,
         lows: 0,
-        steep_ups: false,
-        steep_lows: false,
+        steep_ups: 0,
+        steep_lows: 0,
     };
     let mut both = counts.get(&t.variable).copied().unwrap_or(nothing);
+    let steep = u64::from(t.by != 1 && t.by != -1);
     if t.by > 0 {
         both.ups = both.ups.saturating_add(1);
-        both.steep_ups = both.steep_ups || t.by != 1;
+        both.steep_ups = both.steep_ups.saturating_add(steep);
     } else {
         both.lows = both.lows.saturating_add(1);
-        both.steep_lows = both.steep_lows || t.by != -1;
+        both.steep_lows = both.steep_lows.saturating_add(steep);
     }
     counts.insert(t.variable, both)?;
     Ok(())
 }
 
-/// For each variable the live rows that bound it.
-pub fn sides_of(alloc: Global, work: &Work) -> Result<BTreeMap<u32, Sides>, AllocError> {
-    let mut counts = BTreeMap::new(alloc);
-    for n in &work.live {
-        if let Some(row) = work.rows.get(*n) {
+/// One entry less.
+fn discount(counts: &mut Counts, t: &Entry) {
+    if let Some(both) = counts.get_mut(&t.variable) {
+        let steep = u64::from(t.by != 1 && t.by != -1);
+        if t.by > 0 {
+            both.ups = both.ups.saturating_sub(1);
+            both.steep_ups = both.steep_ups.saturating_sub(steep);
+        } else {
+            both.lows = both.lows.saturating_sub(1);
+            both.steep_lows = both.steep_lows.saturating_sub(steep);
+        }
+    }
+}
+
+/// Counts a row that is to be paired, unless it takes the place of one of the same entries.
+pub fn count_row(counts: &mut Counts, row: &Row, stand: Stand) -> Result<(), AllocError> {
+    if let Stand::Nearer(_) = stand {
+        return Ok(());
+    }
+    for t in &row.entries {
+        count(counts, t)?;
+    }
+    Ok(())
+}
+
+/// Counts kept rows no more.
+pub fn discount_rows(counts: &mut Counts, rows: &[Row], numbers: &[usize]) {
+    for n in numbers {
+        if let Some(row) = rows.get(*n) {
             for t in &row.entries {
-                count(&mut counts, t)?;
+                discount(counts, t);
             }
         }
     }
-    Ok(counts)
 }
 
 /// The number of pairs that the elimination of a variable makes. Where on one side each coefficient
@@ -55,7 +82,7 @@ pub fn sides_of(alloc: Global, work: &Work) -> Result<BTreeMap<u32, Sides>, Allo
 /// them (Pugh, The Omega test, 1991). Elsewhere each pair counts as many.
 pub fn cost_of(both: &Sides) -> u64 {
     let pairs = both.ups.saturating_mul(both.lows);
-    if pairs > 0 && both.steep_ups && both.steep_lows {
+    if pairs > 0 && both.steep_ups > 0 && both.steep_lows > 0 {
         pairs.saturating_add(1).saturating_mul(INEXACT)
     } else {
         pairs

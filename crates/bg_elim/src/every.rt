@@ -28,7 +28,7 @@ pub fn eliminate_all(
 {
     let mut rest = variables.to_vec(alloc)?;
     'every: while !rest.is_empty() {
-        let i = choose(alloc, work, &rest)?;
+        let i = choose(work, &rest);
         let x = rest.remove(i);
         match eliminate_one(alloc, work, x, budget)? {
             Round::Whole => {}

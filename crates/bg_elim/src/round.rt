@@ -6,6 +6,7 @@ ghost use Rattle.bg_rows.specs.Rows.{row_of};
 ghost use Rattle.bg_rows.specs.Steps.{row_at};
 ghost use Rattle.bg_elim.specs.Work.{work_of, IsIndexed, KeepsRows, KeepsSound, Placed, has_side, on_side, IsSide, IsGone};
 
+use crate::cost::discount_rows;
 use crate::pair::pair_all;
 use crate::work::{Round, Side, Work};
 use bg_rows::{Row, coefficient};
@@ -72,6 +73,8 @@ pub fn eliminate_one(
     let ups = side(alloc, work, Side::Above, x)?;
     let lows = side(alloc, work, Side::Below, x)?;
     let rest = side(alloc, work, Side::Neither, x)?;
+    discount_rows(&mut work.counts, &work.rows, &ups);
+    discount_rows(&mut work.counts, &work.rows, &lows);
     work.order.push(x)?;
     work.live = rest;
     let round = pair_all(alloc, work, &ups, &lows, x, budget)?;

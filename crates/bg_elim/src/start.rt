@@ -21,6 +21,7 @@ pub fn empty(alloc: Global) -> Work
         rows: Vec::new(alloc),
         at: BTreeMap::new(alloc),
         live: Vec::new(alloc),
+        counts: BTreeMap::new(alloc),
     }
 }
 

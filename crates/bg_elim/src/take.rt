@@ -5,6 +5,7 @@ ghost use Rattle.bg_elim.specs.declared.order.Reason.TheVariants.{Given};
 ghost use Rattle.bg_elim.specs.declared.work.Taken.TheVariants.{Done};
 ghost use Rattle.bg_elim.specs.Work.{work_of, Extends, IsIndexed, StaysSound, IsTaken, IsThere, IsStand};
 
+use crate::cost::count_row;
 use crate::keep::keep;
 use crate::order::Reason;
 use crate::retire::retire;
@@ -42,6 +43,7 @@ fn settle(
     if let Stand::Implied(_) = stand {
         return Ok(Taken::Done);
     }
+    count_row(&mut work.counts, &tight, stand)?;
     let Some(m) = keep(alloc, work, tight, Reason::Tightened(n), budget)? else {
         return Ok(Taken::Full);
     };

@@ -1,8 +1,11 @@
 //! Rows by hand, with ample memory: answers, causes, and numbers at the ends of the range.
+use crate::cost::{Counts, cost_of, count_row, discount_rows};
+use crate::work::Stand;
 use crate::{Found, Stop, refute_or_order};
 use bg_base::Op;
 use bg_rows::{Entry, Row, derives, make};
 use std::alloc::Global;
+use std::collections::BTreeMap;
 use std::test::Fail;
 
 fn row(alloc: Global, entries: &[(u32, i128)], bound: i128) -> Result<Row, Fail> {
@@ -106,5 +109,40 @@ fn the_nearest_of_many_bounds_is_paired(rt: HostRuntime) -> Result<(), Fail> {
     // beside those given there are 2y <= 162 and y <= 81
     assert_eq!(rt; told(alloc, &nearer, 1_000)?, ('s', 43));
     assert_eq!(rt; told(alloc, &further, 1_000)?, ('s', 43));
+    Ok(())
+}
+
+fn cost(counts: &Counts, x: u32) -> u64 {
+    match counts.get(&x) {
+        Some(both) => cost_of(both),
+        None => 0,
+    }
+}
+
+/// Pairs of a variable count sixteen times, and one more, where steep rows bound it from both sides;
+/// a row that takes the place of another one changes nothing, and what goes is counted no more.
+#[test]
+fn what_a_variable_costs(rt: HostRuntime) -> Result<(), Fail> {
+    let alloc = rt.alloc();
+    let mut rows = Vec::new(alloc);
+    // 2x <= y, x <= 5, -3x <= 1, 0 <= x
+    rows.push(row(alloc, &[(0, 2), (1, -1)], 0)?)?;
+    rows.push(row(alloc, &[(0, 1)], 5)?)?;
+    rows.push(row(alloc, &[(0, -3)], 1)?)?;
+    rows.push(row(alloc, &[(0, -1)], 0)?)?;
+    let mut counts = BTreeMap::new(alloc);
+    for r in &rows {
+        count_row(&mut counts, r, Stand::Alone)?;
+    }
+    assert_eq!(rt; cost(&counts, 0), 80);
+    assert_eq!(rt; cost(&counts, 1), 0);
+    count_row(&mut counts, &row(alloc, &[(0, 1)], 4)?, Stand::Nearer(1))?;
+    assert_eq!(rt; cost(&counts, 0), 80);
+    discount_rows(&mut counts, &rows, &[0]);
+    assert_eq!(rt; cost(&counts, 0), 2);
+    discount_rows(&mut counts, &rows, &[1, 2]);
+    assert_eq!(rt; cost(&counts, 0), 0);
+    count_row(&mut counts, &row(alloc, &[(0, 2)], 9)?, Stand::Alone)?;
+    assert_eq!(rt; cost(&counts, 0), 1);
     Ok(())
 }

@@ -6,7 +6,7 @@ ghost use Rattle.bg_rows.specs.Rows.{row_of};
 ghost use Rattle.bg_elim.specs.Kept.{is_in, no_twice, entries_in};
 ghost use Rattle.bg_elim.specs.Work.{AllInside};
 
-use crate::cost::{cost_of, sides_of};
+use crate::cost::cost_of;
 use crate::work::Work;
 use bg_rows::{Entry, Row};
 use std::alloc::{AllocError, Global};
@@ -57,15 +57,14 @@ pub fn variables(alloc: Global, rows: &[Row]) -> Result<Vec<u32>, AllocError>
 }
 
 /// The place of a variable whose elimination costs least: see `cost_of`.
-pub fn choose(alloc: Global, work: &Work, rest: &[u32]) -> Result<usize, AllocError>
+pub fn choose(work: &Work, rest: &[u32]) -> usize
     requires { 0 < length rest.now }
-    ensures { IfOk result (λ i. i < length rest.now) }
+    ensures { result < length rest.now }
 {
-    let sides = sides_of(alloc, work)?;
     let mut best = 0;
     let mut least = u64::MAX;
     for (i, x) in rest.iter().enumerate() {
-        let cost = match sides.get(x) {
+        let cost = match work.counts.get(x) {
             Some(both) => cost_of(both),
             None => 0,
         };
@@ -74,5 +73,5 @@ pub fn choose(alloc: Global, work: &Work, rest: &[u32]) -> Result<usize, AllocEr
             best = i;
         }
     }
-    Ok(best)
+    best
 }

@@ -1,13 +1,15 @@
 //! The state of an elimination.
 
+use crate::cost::Counts;
 use crate::order::{Further, Reason};
 use bg_base::OutOfRange;
 use bg_keys::Key;
 use bg_rows::Row;
 use std::collections::BTreeMap;
 
-/// The variables done, the kept rows with their reasons, where each row is found by its key, and
-/// the numbers of the rows that are still to be paired, of the same entries only the nearest.
+/// The variables done, the kept rows with their reasons, where each row is found by its key, the
+/// numbers of the rows that are still to be paired, of the same entries only the nearest, and how
+/// many of these bound each variable.
 #[derive(Drop)]
 pub struct Work {
     pub order: Vec<u32>,
@@ -15,6 +17,7 @@ pub struct Work {
     pub rows: Vec<Row>,
     pub at: BTreeMap<Key, usize>,
     pub live: Vec<usize>,
+    pub counts: Counts,
 }
 
 /// What taking a row in did.

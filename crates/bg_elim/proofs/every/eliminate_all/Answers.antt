@@ -12,9 +12,9 @@ every-preserved c =
     let rest = c.every.rest.items in
     let all = c.args.variables.now in
     let x = c.remove-x.result in
-    let lt : c.in_ok-i.i < length rest = search rules in
+    let lt : c.choose-i.result < length rest = search rules in
     let p : Parted all w.order rest = record { once = i.once; done = i.done; apart = i.apart; whole = i.all } in
-    let q = parted_step all w.order rest made.order c.remove-x.new.self.items c.in_ok-i.i x p lt c.remove-x.ensures.value e.order c.remove-x.ensures.items in
+    let q = parted_step all w.order rest made.order c.remove-x.new.self.items c.choose-i.result x p lt c.remove-x.ensures.value e.order c.remove-x.ensures.items in
     let gone = subst (IsGone c.args.budget w x made) c.in-Whole.is e.gone in
     record {
       indexed = e.indexed;

@@ -10,7 +10,7 @@ pair_all-requires-clause-pairs c = λ i j hi hj.
     let same = next_is w c.args.x rest c.push.new.self.items c.in_ok-push.ensures.items in
     subst (λ z. IsPair z c.args.x i j) (sym same)
     (pairs_of_sides c.requires.placed.0 w c.args.x c.in_ok-ups.ups.items c.in_ok-lows.lows.items rest c.requires.placed.1 c.requires.new c.in_ok-ups.ensures c.in_ok-lows.ensures i j
-    (rw (← c.deref.ensures.value) hi) (rw (← c.deref-2.ensures.value) hj))
+    (rw (← c.deref-5.ensures.value) hi) (rw (← c.deref-6.ensures.value) hj))
 
 pub returns-clause-order : goal.returns-clause-order
 returns-clause-order c = c.in_ok-round.ensures.extends.order ∙ c.in_ok-push.ensures.items
@@ -34,8 +34,8 @@ returns-clause-gone c =
     let start = record w { order = c.push.new.self.items; live = rest } in
     let ups = c.in_ok-ups.ups.items in
     let lows = c.in_ok-lows.lows.items in
-    let h1 = subst (λ us. IsRound b start x made (AllReady made x us c.deref-2.result.now) r) c.deref.ensures.value c.in_ok-round.ensures.round in
-    let h2 = subst (λ ls. IsRound b start x made (AllReady made x ups ls) r) c.deref-2.ensures.value h1 in
+    let h1 = subst (λ us. IsRound b start x made (AllReady made x us c.deref-6.result.now) r) c.deref-5.ensures.value c.in_ok-round.ensures.round in
+    let h2 = subst (λ ls. IsRound b start x made (AllReady made x ups ls) r) c.deref-6.ensures.value h1 in
     let h3 = subst (λ z. IsRound b z x made (AllReady made x ups lows) r) same h2 in
     round_gone b w made x ups lows rest r c.requires.new c.in_ok-ups.ensures c.in_ok-lows.ensures c.in_ok-rest.ensures h3
 
