@@ -13,3 +13,5 @@ pub mod Refutes
 pub mod Over
 pub mod Replaying
 pub mod Judging
+pub mod Trimming
+pub mod Sounds

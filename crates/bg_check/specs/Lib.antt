@@ -7,3 +7,4 @@ pub mod Slices
 pub mod Replays
 pub mod Verdicts
 pub mod Made
+pub mod Outcomes

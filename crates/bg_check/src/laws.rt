@@ -1,5 +1,5 @@
 //! Laws of verdicts, which are proved of the definitions alone.
-ghost use Rattle.std.specs.Prelude.{◌≡◌, ◌⊎◌, ℕ, Bool, true, List, Some, map, slice_get};
+ghost use Rattle.std.specs.Prelude.{◌≡◌, ◌⊎◌, ℕ, Bool, true, List, [], ◌∷◌, ◌++◌, Some, map, slice_get};
 ghost use Rattle.bg_base.specs.declared.exact.OutOfRange.{OutOfRange};
 ghost use Rattle.bg_ast.specs.Syntax.{Prog};
 ghost use Rattle.bg_ast.specs.Resolved.{Program, Impl, Proc};
@@ -7,7 +7,7 @@ ghost use Rattle.bg_ast.specs.Meaning.{meaning_of};
 ghost use Rattle.bg_ast.specs.Execution.{Interp, State, Choice, Place};
 ghost use Rattle.bg_sense.specs.Typed.{IsTyped};
 ghost use Rattle.bg_sense.specs.Claims.{Fails, IsState};
-ghost use Rattle.bg_sense.specs.Flow.{Failed};
+ghost use Rattle.bg_sense.specs.Flow.{BadChoice, Failed};
 ghost use Rattle.bg_cert.specs.declared.cert.Node.{Node};
 ghost use Rattle.bg_cert.specs.Certs.{node_of, uses};
 ghost use Rattle.bg_cert.specs.Walks.{has};
@@ -25,6 +25,11 @@ ghost use Rattle.bg_model.specs.declared.failure.Counterexample.{Counterexample}
 ghost use Rattle.bg_tree.specs.declared.outcome.Budget.{Budget};
 ghost use Rattle.bg_check.specs.declared.verdict.Judged.{Judged};
 ghost use Rattle.bg_check.specs.declared.verdict.Verdict.TheVariants.{Refuted};
+ghost use Rattle.bg_sound.specs.Told.{Why};
+ghost use Rattle.bg_sound.specs.Sound.{IsSound};
+ghost use Rattle.bg_check.specs.declared.verdict.Cause.{Cause};
+ghost use Rattle.bg_check.specs.Outcomes.{outcome_of, AllUsed};
+ghost use Rattle.bg_check.specs.Replays.{RunsTo};
 ghost use Rattle.bg_check.specs.Verdicts.{none, HasCertificate, IsFailure, IsRight, AreRightUnder, AreRight, ProvedAreSafe};
 
 use bg_block_types::laws::blocks_are_typed;
@@ -106,3 +111,23 @@ pub fn refuted_places_replay()
         IsRight budget (meaning_of p) (has set) t (Refuted cex) →
         IsReplay p bs set t.implementation m q cex.globals.items cex.frame.items cex.choices.items ending → said_by ending ≡ Stops (Failed t.spot) }
 {}
+
+/// The replay of a counterexample without its last choice lacks a choice, or fails at the place.
+pub fn shorter_replays_lack_a_choice_or_fail()
+    ensures { (p : Program) (set : List Bool) (t : Place) (cex : Counterexample) (m : Impl) (q : Proc) (bs : List Block) (front : List replayed.Choice) (last : replayed.Choice) (ending : Ending) →
+        slice_get p.implementations t.implementation ≡ Some m → slice_get p.procedures m.procedure ≡ Some q → AreBlocks p t.implementation m q bs →
+        cex.choices.items ≡ front ++ (last ∷ []) → RunsTo (meaning_of p) (has set) t cex (Stops (Failed t.spot)) →
+        IsReplay p bs set t.implementation m q cex.globals.items cex.frame.items front ending →
+        (said_by ending ≡ Stops BadChoice) ⊎ (said_by ending ≡ Stops (Failed t.spot)) }
+{}
+
+/// Right verdicts on a typed program over truth values and whole numbers are sound, where no counterexample has a choice left over: what a
+/// report tells of them is true, whatever words it has for causes.
+pub fn right_verdicts_are_sound()
+    ensures { (p : Program) (budget : Budget) (outcome : List (List Judged)) (words : Cause → Why) → IsTyped (meaning_of p) → is_over_scalars true (meaning_of p) ≡ true →
+        AreRight budget p outcome → AllUsed (meaning_of p) outcome → IsSound p (outcome_of words outcome) }
+{
+    proved_places_do_not_fail();
+    proved_is_safe();
+    accepted_where_used()
+}

@@ -11,3 +11,4 @@ pub mod Known
 pub mod Typed
 pub mod Tracks
 pub mod Replays
+pub mod More

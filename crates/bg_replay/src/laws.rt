@@ -1,10 +1,12 @@
 //! Laws of runs over scalars, which are proved of the definitions alone.
-ghost use Rattle.std.specs.Prelude.{◌≡◌, ℕ, Bool, true, List, Some, map, slice_get};
+ghost use Rattle.std.specs.Prelude.{◌≡◌, ◌⊎◌, ◌++◌, ℕ, Bool, true, List, Some, map, slice_get};
 ghost use Rattle.bg_ast.specs.Syntax.{Decl, Prog};
 ghost use Rattle.bg_ast.specs.Resolved as r;
 ghost use Rattle.bg_ast.specs.Meaning as mean;
 ghost use Rattle.bg_ast.specs.Execution.{Interp};
+ghost use Rattle.bg_sense.specs.Flow.{BadChoice};
 ghost use Rattle.bg_sense.specs.Run.{induction_run};
+ghost use Rattle.bg_replay.specs.Said.{Stops};
 ghost use Rattle.bg_flow.specs.Blocks as flow;
 ghost use Rattle.bg_block_types.specs.TypedFlow.{CodeIsTyped};
 ghost use Rattle.bg_blocks.specs.Whole.{AreBlocks};
@@ -30,4 +32,9 @@ pub fn replays_are_induction_runs()
 /// operation that leaves 128 bits.
 pub fn runs_over_scalars_tell()
     ensures { (p : Prog) (ds : List Decl) (a : Around) → TypedAround p ds a → (k : ℕ) (bs : List flow.Block) (m : Moment) → CodeIsTyped p ds bs → over_blocks bs ≡ true → TypedMoment p ds m → Tells (runs a k bs m) }
+{}
+
+/// A run over scalars that doesn't lack a choice is the same with more choices behind.
+pub fn runs_with_more_choices_are_the_same()
+    ensures { (extra : List Choice) (a : Around) (k : ℕ) (bs : List flow.Block) (m : Moment) → (runs a k bs m ≡ Stops BadChoice) ⊎ (runs a k bs (record m { choices = m.choices ++ extra }) ≡ runs a k bs m) }
 {}

@@ -8,6 +8,7 @@ use Rattle.bg_formula.specs.Formulas.{Formula, formula_of, is_whole}
 use Rattle.bg_formula.proofs.Agree.{atoms_agree}
 use Rattle.bg_cert.specs.declared.cert.Decision.{Decision}
 use Rattle.bg_cert.specs.Paths.{rows_on}
+use Rattle.bg_cert.specs.Certs.{root}
 use Rattle.bg_cert.specs.Causes.{all_decided, has_bound}
 use Rattle.bg_cert.specs.Walks.{path_of, stack_of, decided_on}
 use Rattle.bg_cert.proofs.Follow.{and_of}
@@ -21,10 +22,11 @@ use Rattle.bg_tree.specs.declared.outcome.Halt.TheVariants.{Point, Rows, Range}
 use Rattle.bg_tree.specs.declared.outcome.End.{End}
 use Rattle.bg_tree.specs.declared.outcome.End.TheVariants.{Refuted, Split, Halted}
 use Rattle.bg_tree.specs.declared.step.Search.{Search}
-use Rattle.bg_tree.specs.Once.{bounds_in, ArePaths}
+use Rattle.bg_tree.specs.Once.{bounds_in}
+use Rattle.bg_tree.specs.Ways.{IsWay, ArePaths}
 use Rattle.bg_tree.specs.Ends.{outcome_of, KeepsGap, IsHalt, IsBeyond, IsEnd, IsPlacedEnd}
 use Rattle.bg_tree.specs.Trees.{IsBound, IsOutcome, Steps}
-use Rattle.bg_tree.proofs.Paths.{paths_open}
+use Rattle.bg_tree.proofs.Paths.{paths_open, way_once}
 use Rattle.bg_tree.proofs.Terms.{AllBelow, path_below, gap_is_there}
 use Rattle.bg_tree.proofs.Gaps.{gap_is_new}
 
@@ -57,16 +59,20 @@ gap_may f set ds k c g =
     }
 
 -- what the search answers where it ends
-pub halted : (f : Formula) (set : ℕ → Bool) (budget : Budget) (old new : Search) (halt : Halt) → Steps f set budget.rows old new (Some halt) → ArePaths f.terms (stack_of f old.walk) → old.walk.is_open ≡ true → IsOutcome f set budget (outcome_of new.walk.trail.decisions halt)
+pub halted : (f : Formula) (set : ℕ → Bool) (budget : Budget) (old new : Search) (halt : Halt) → Steps f set budget.rows old new (Some halt) → ArePaths f set (stack_of f old.walk) → old.walk.is_open ≡ true → IsOutcome f set budget (outcome_of new.walk.trail.decisions halt)
 halted f set budget old new halt s p o =
     subst (λ (z : Search). IsOutcome f set budget (outcome_of z.walk.trail.decisions halt)) (sym s.2) (by_halt halt s.1)
   where
+    way : IsWay f set (root f) (decided_on old.walk)
+    way = (paths_open f set old.walk o p).0
+
     by_halt : (h : Halt) → IsHalt (rows_on f.atoms (decided_on old.walk)) budget.rows h → IsOutcome f set budget (outcome_of old.walk.trail.decisions h)
     by_halt (Point order spots) h = record {
+      way = way;
       complete = s.0;
-      once = (paths_open f.terms f old.walk o p).0.once;
+      once = way_once f set (decided_on old.walk) way;
       solved = h.0;
       point = h.1;
     }
-    by_halt (Rows order) h = (s.0, h)
-    by_halt (Range beyond) h = (s.0, h)
+    by_halt (Rows order) h = (record { way = way; complete = s.0 }, h)
+    by_halt (Range beyond) h = (record { way = way; complete = s.0 }, h)

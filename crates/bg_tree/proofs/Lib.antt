@@ -5,3 +5,6 @@ pub mod Terms
 pub mod Gaps
 pub mod Ends
 pub mod Leaves
+pub mod Idle
+pub mod Sided
+pub mod Distant

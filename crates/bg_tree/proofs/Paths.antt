@@ -1,5 +1,5 @@
--- What holds of each path of the search: no atom both ways, each bound of a term that is there.
-use Rattle.std.proofs.Common.{◌≡◌, ℕ, ◌<◌, Bool, true, false, not, ◌&&◌, ◌||◌, ◌==◌, List, [], ◌∷◌, ◌++◌, ℤ, refl, arith}
+-- What holds of each path of the search: each decision may be made, no atom has both signs, each bound is of a term that is there.
+use Rattle.std.proofs.Common.{◌≡◌, ℕ, ◌<◌, Bool, true, false, not, ◌&&◌, ◌||◌, ◌==◌, List, [], ◌∷◌, ◌++◌, ℤ, length, refl, sym, subst, append-nil, append_assoc, arith}
 use Rattle.std.specs.Prelude.{nat_lt}
 use Rattle.std.proofs.lemmas.Bool.Decides.{nat_tests}
 use Rattle.bg_formula.specs.Formulas.{Formula}
@@ -8,15 +8,18 @@ use Rattle.bg_formula.specs.declared.atom.Literal.{Literal}
 use Rattle.bg_cert.specs.declared.cert.Decision.{Decision}
 use Rattle.bg_cert.specs.declared.cert.Decision.TheVariants.{Atom, AtMost}
 use Rattle.bg_cert.specs.declared.walk.Walk.{Walk}
-use Rattle.bg_cert.specs.Paths.{is_decision, decides}
-use Rattle.bg_cert.specs.Causes.{is_decided, may_split}
+use Rattle.bg_cert.specs.Paths.{PathOf, is_decision, decides, with_decision}
+use Rattle.bg_cert.specs.Certs.{root}
+use Rattle.bg_cert.specs.Causes.{is_decided, may_split, units_of}
 use Rattle.bg_cert.specs.Walks.{stack_of, path_of, others_of, decided_on}
 use Rattle.bg_cert.proofs.Follow.{and_of}
 use Rattle.bg_cert.proofs.Untouched.{decides_snoc}
 use Rattle.bg_pick.proofs.Opens.{split_or}
 use Rattle.bg_pick.proofs.Below.{split_and}
 use Rattle.bg_pick.proofs.Bounded.{decides_bound}
-use Rattle.bg_tree.specs.Once.{IsOnce, bound_in, bounds_in, IsPath, ArePaths}
+use Rattle.bg_tree.specs.declared.part.Kept.{Kept}
+use Rattle.bg_tree.specs.Once.{IsOnce, bounds_in}
+use Rattle.bg_tree.specs.Ways.{IsSplit, IsBound, HasGap, MayDecide, IsWay, ArePaths}
 
 plain : (x y p q : Bool) → (x && y) ≡ false → ((x || (false && p)) && (y || (false && q))) ≡ false
 plain true true p q h = absurd (cc)
@@ -45,30 +48,6 @@ once_more ds a s f o b =
 once_bound : (ds : List Decision) (x : ℕ) (k : ℤ) (s : Bool) → IsOnce ds → IsOnce (ds ++ (AtMost x k s ∷ []))
 once_bound ds x k s o b = rw (decides_bound b true ds x k s, decides_bound b false ds x k s) (o b)
 
-bounds_more : (n : ℕ) (ds : List Decision) (d : Decision) → bounds_in n ds ≡ true → bound_in n d ≡ true → bounds_in n (ds ++ (d ∷ [])) ≡ true
-bounds_more n [] d h k = and_of (bound_in n d) true k refl
-bounds_more n (e ∷ ds) d h k =
-    let s = split_and (bound_in n e) (bounds_in n ds) h in
-    and_of (bound_in n e) (bounds_in n (ds ++ (d ∷ []))) s.0 (bounds_more n ds d s.1 k)
-
-path_split : (n : ℕ) (ds : List Decision) (a : ℕ) (s : Bool) → is_decided a ds ≡ false → IsPath n ds → IsPath n (ds ++ (Atom a s ∷ []))
-path_split n ds a s u p = record { once = once_more ds a s u p.once; bounds = bounds_more n ds (Atom a s) p.bounds refl }
-
-path_bound : (n : ℕ) (ds : List Decision) (x : ℕ) (k : ℤ) (s : Bool) → nat_lt x n ≡ true → IsPath n ds → IsPath n (ds ++ (AtMost x k s ∷ []))
-path_bound n ds x k s l p =
-    record { once = once_bound ds x k s p.once; bounds = bounds_more n ds (AtMost x k s) p.bounds l }
-
--- ---- all open paths
-
-pub paths_first : (n : ℕ) (f : Formula) (w : Walk) → stack_of f w ≡ path_of f [] ∷ [] → ArePaths n (stack_of f w)
-paths_first n f w e = rw e (record { once = λ a. refl; bounds = refl }, tt)
-
-pub paths_open : (n : ℕ) (f : Formula) (w : Walk) → w.is_open ≡ true → ArePaths n (stack_of f w) → IsPath n (decided_on w) × ArePaths n (others_of f w)
-paths_open n f w o h = rw o at h
-
-pub paths_closed : (n : ℕ) (f : Formula) (old new : Walk) → old.is_open ≡ true → stack_of f new ≡ others_of f old → ArePaths n (stack_of f old) → ArePaths n (stack_of f new)
-paths_closed n f old new o s h = rw s ((paths_open n f old o h).1)
-
 pub below_by : (n a : ℕ) (ds : List Decision) (cs : List (List Literal)) → may_split n a ds cs ≡ true → a < n
 below_by n a ds cs m = let s = (split_and (nat_lt a n) _ m).0 in grind (arith, nat_tests)
 
@@ -81,13 +60,63 @@ undecided_by n a ds cs m =
     is_not true h = absurd (cc)
     is_not false h = refl
 
-pub paths_split : (n : ℕ) (f : Formula) (old new : Walk) (m a : ℕ) (cs : List (List Literal)) → old.is_open ≡ true → may_split m a (decided_on old) cs ≡ true → stack_of f new ≡ path_of f (decided_on old ++ (Atom a true ∷ [])) ∷ path_of f (decided_on old ++ (Atom a false ∷ [])) ∷ others_of f old → ArePaths n (stack_of f old) → ArePaths n (stack_of f new)
-paths_split n f old new m a cs o r s h =
-    let g = paths_open n f old o h in
-    let u = undecided_by m a (decided_on old) cs r in
-    rw s (path_split n (decided_on old) a true u g.0, (path_split n (decided_on old) a false u g.0, g.1))
+-- ---- a way
 
-pub paths_bound : (n : ℕ) (f : Formula) (old new : Walk) (x : ℕ) (k : ℤ) → old.is_open ≡ true → nat_lt x n ≡ true → stack_of f new ≡ path_of f (decided_on old ++ (AtMost x k true ∷ [])) ∷ path_of f (decided_on old ++ (AtMost x k false ∷ [])) ∷ others_of f old → ArePaths n (stack_of f old) → ArePaths n (stack_of f new)
-paths_bound n f old new x k o l s h =
-    let g = paths_open n f old o h in
-    rw s (path_bound n (decided_on old) x k true l g.0, (path_bound n (decided_on old) x k false l g.0, g.1))
+-- a way goes on by a decision that may be made at its end
+way_on : (f : Formula) (set : ℕ → Bool) (bs ds : List Decision) (d : Decision) → IsWay f set (path_of f bs) ds → MayDecide f set (path_of f (bs ++ ds)) d → IsWay f set (path_of f bs) (ds ++ (d ∷ []))
+way_on f set bs [] d w m = (subst (λ (es : List Decision). MayDecide f set (path_of f es) d) (append-nil bs) m, tt)
+way_on f set bs (e ∷ ds) d w m =
+    (w.0, way_on f set (bs ++ (e ∷ [])) ds d w.1 (subst (λ (es : List Decision). MayDecide f set (path_of f es) d) (sym (append_assoc bs (e ∷ []) ds)) m))
+
+way_more : (f : Formula) (set : ℕ → Bool) (ds : List Decision) (d : Decision) → IsWay f set (root f) ds → MayDecide f set (path_of f ds) d → IsWay f set (root f) (ds ++ (d ∷ []))
+way_more f set ds d w m = way_on f set [] ds d w m
+
+once_by : (f : Formula) (set : ℕ → Bool) (bs : List Decision) (d : Decision) → MayDecide f set (path_of f bs) d → IsOnce bs → IsOnce (bs ++ (d ∷ []))
+once_by f set bs (Atom a s) m o = once_more bs a s (undecided_by (length f.atoms) a bs (f.clauses ++ units_of f set) m.rule) o
+once_by f set bs (AtMost x k s) m o = once_bound bs x k s o
+
+once_on : (f : Formula) (set : ℕ → Bool) (bs ds : List Decision) → IsWay f set (path_of f bs) ds → IsOnce bs → IsOnce (bs ++ ds)
+once_on f set bs [] w o = subst IsOnce (sym (append-nil bs)) o
+once_on f set bs (d ∷ ds) w o =
+    subst IsOnce (append_assoc bs (d ∷ []) ds) (once_on f set (bs ++ (d ∷ [])) ds w.1 (once_by f set bs d w.0 o))
+
+-- no atom has both signs on a way
+pub way_once : (f : Formula) (set : ℕ → Bool) (ds : List Decision) → IsWay f set (root f) ds → IsOnce ds
+way_once f set ds w = once_on f set [] ds w (λ a. refl)
+
+low_test : (x n : ℕ) → x < n → nat_lt x n ≡ true
+low_test x n l = grind (arith, nat_tests)
+
+-- each bound on a way is of a term that is there
+pub way_bounds : (f : Formula) (set : ℕ → Bool) (p : PathOf) (ds : List Decision) → IsWay f set p ds → bounds_in f.terms ds ≡ true
+way_bounds f set p [] w = refl
+way_bounds f set p (Atom a s ∷ ds) w = way_bounds f set (with_decision p (Atom a s)) ds w.1
+way_bounds f set p (AtMost x k s ∷ ds) w =
+    and_of (nat_lt x f.terms) (bounds_in f.terms ds) (low_test x f.terms (subst (λ (y : ℕ). y < f.terms) w.0.variable w.0.bound.there)) (way_bounds f set (with_decision p (AtMost x k s)) ds w.1)
+
+-- ---- all open paths
+
+pub paths_first : (f : Formula) (set : ℕ → Bool) (w : Walk) → stack_of f w ≡ path_of f [] ∷ [] → ArePaths f set (stack_of f w)
+paths_first f set w e = rw e (tt, tt)
+
+pub paths_open : (f : Formula) (set : ℕ → Bool) (w : Walk) → w.is_open ≡ true → ArePaths f set (stack_of f w) → IsWay f set (root f) (decided_on w) × ArePaths f set (others_of f w)
+paths_open f set w o h = rw o at h
+
+pub open_bounds : (f : Formula) (set : ℕ → Bool) (w : Walk) → w.is_open ≡ true → ArePaths f set (stack_of f w) → bounds_in f.terms (decided_on w) ≡ true
+open_bounds f set w o h = way_bounds f set (root f) (decided_on w) (paths_open f set w o h).0
+
+pub paths_closed : (f : Formula) (set : ℕ → Bool) (old new : Walk) → old.is_open ≡ true → stack_of f new ≡ others_of f old → ArePaths f set (stack_of f old) → ArePaths f set (stack_of f new)
+paths_closed f set old new o s h = rw s ((paths_open f set old o h).1)
+
+pub paths_split : (f : Formula) (set : ℕ → Bool) (old new : Walk) (a : ℕ) → old.is_open ≡ true → IsSplit f set (path_of f (decided_on old)) a → stack_of f new ≡ path_of f (decided_on old ++ (Atom a true ∷ [])) ∷ path_of f (decided_on old ++ (Atom a false ∷ [])) ∷ others_of f old → ArePaths f set (stack_of f old) → ArePaths f set (stack_of f new)
+paths_split f set old new a o m s h =
+    let g = paths_open f set old o h in
+    rw s (way_more f set (decided_on old) (Atom a true) g.0 m, (way_more f set (decided_on old) (Atom a false) g.0 m, g.1))
+
+pub paths_bound : (f : Formula) (set : ℕ → Bool) (old new : Walk) (k : Kept) → old.is_open ≡ true → IsBound f set (path_of f (decided_on old)) k → stack_of f new ≡ path_of f (decided_on old ++ (AtMost k.gap.variable k.gap.below true ∷ [])) ∷ path_of f (decided_on old ++ (AtMost k.gap.variable k.gap.below false ∷ [])) ∷ others_of f old → ArePaths f set (stack_of f old) → ArePaths f set (stack_of f new)
+paths_bound f set old new k o m s h =
+    let g = paths_open f set old o h in
+    rw s (way_more f set (decided_on old) (AtMost k.gap.variable k.gap.below true) g.0 gap, (way_more f set (decided_on old) (AtMost k.gap.variable k.gap.below false) g.0 gap, g.1))
+  where
+    gap : HasGap f set (path_of f (decided_on old)) k.gap.variable k.gap.below
+    gap = record { kept = k; bound = m; variable = refl; below = refl }

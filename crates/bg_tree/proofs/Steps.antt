@@ -45,7 +45,7 @@ leaf_moves f set old new node w z o h p s l e r =
       made = p;
       tells = λ rest. rw (o, l, e, s) (leaf_tree f set old.left old.seen (decided_on old.walk) (others_of f old.walk) node rest h);
       whole = λ g. (sym e ∙ g, λ rest. rw (o, s) (leaf_accepts f set (decided_on old.walk) (others_of f old.walk) node rest h));
-      paths = paths_closed f.terms f old.walk new.walk o s;
+      paths = paths_closed f set old.walk new.walk o s;
       smaller = omega (arith, l, r);
       spent = λ g k. l ∙ g (sym e ∙ k);
     }
@@ -64,7 +64,7 @@ open_moves f set old new w q o h p s l e z r =
       made = p;
       tells = λ rest. rw (o, l, e, s) (open_tree f set old.left old.seen (decided_on old.walk) (others_of f old.walk) rest h);
       whole = λ g. absurd (let y = sym e ∙ g in cc);
-      paths = paths_closed f.terms f old.walk new.walk o s;
+      paths = paths_closed f set old.walk new.walk o s;
       smaller = omega (arith, l, r);
       spent = λ g k. l ∙ z;
     }
@@ -94,7 +94,7 @@ split_moves f set old new a w z o m p s l b e r =
       made = p;
       tells = λ rest. rw (o, l, e, s) (split_tree f set old.left old.seen (decided_on old.walk) (others_of f old.walk) a rest m b);
       whole = λ g. (sym e ∙ g, λ rest. rw (o, s) (split_accepts f set (decided_on old.walk) (others_of f old.walk) a rest (below_by (length f.atoms) a (decided_on old.walk) (f.clauses ++ units_of f set) m.rule)));
-      paths = paths_split f.terms f old.walk new.walk (length f.atoms) a (f.clauses ++ units_of f set) o m.rule s;
+      paths = paths_split f set old.walk new.walk a o (record { fine = m.fine; rule = m.rule }) s;
       smaller = omega (arith, l, b, r);
       spent = λ g k. one_less_left old.left new.left l (g (sym e ∙ k));
     }
@@ -119,7 +119,7 @@ bound_moves f set old new k w z o m p s l b e r =
       made = p;
       tells = λ rest. rw (o, l, e, s) (bound_tree f set old.left old.seen (decided_on old.walk) (others_of f old.walk) k rest m b);
       whole = λ g. (sym e ∙ g, λ rest. rw (o, s) (bound_accepts f set (decided_on old.walk) (others_of f old.walk) k.gap.variable k.gap.below rest m.there));
-      paths = paths_bound f.terms f old.walk new.walk k.gap.variable k.gap.below o (low_test k.gap.variable f.terms m.there) s;
+      paths = paths_bound f set old.walk new.walk k o m s;
       smaller = omega (arith, l, b, r);
       spent = λ g h. one_less_left old.left new.left l (g (sym e ∙ h));
     }

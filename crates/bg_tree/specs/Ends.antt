@@ -5,14 +5,14 @@ use Rattle.bg_rows.specs.Rows.{RowOf, row_of}
 use Rattle.bg_rows.specs.Steps.{derives}
 use Rattle.bg_elim.specs.Kept.{FillBudget, LeavesRange}
 use Rattle.bg_elim.specs.Answers.{SolvedBy}
-use Rattle.bg_point.specs.Points.{IsPoint, IsGap, IsFar}
+use Rattle.bg_point.specs.Points.{IsPoint, IsFar}
 use Rattle.bg_formula.specs.Atoms.{AtomOf, IsTruth, at}
 use Rattle.bg_formula.specs.Formulas.{Formula}
 use Rattle.bg_formula.specs.Meaning.{Valuation}
 use Rattle.bg_cert.specs.declared.cert.Decision.{Decision}
 use Rattle.bg_cert.specs.Paths.{decides, rows_on}
+use Rattle.bg_cert.specs.Certs.{root}
 use Rattle.bg_pick.specs.Picks.{IsComplete}
-use Rattle.bg_tree.specs.declared.part.Kept.{Kept}
 use Rattle.bg_tree.specs.declared.outcome.Leaf.{Leaf}
 use Rattle.bg_tree.specs.declared.outcome.Beyond.{Beyond}
 use Rattle.bg_tree.specs.declared.outcome.Beyond.TheVariants.{Elimination, Value}
@@ -24,11 +24,8 @@ use Rattle.bg_tree.specs.declared.outcome.Outcome.{Outcome}
 use Rattle.bg_tree.specs.declared.outcome.Why.TheVariants.{Rows as ByRows, Range as ByRange}
 use Rattle.bg_tree.specs.declared.outcome.Outcome.TheVariants.{Leaf as Found, Unknown}
 use Rattle.bg_tree.specs.Once.{IsOnce}
-
--- an order solves the rows, and under near values of its later variables no whole number fits at the gap's variable
-pub record KeepsGap (given : List RowOf) (k : Kept) : Type 0 where
-  pub solved : SolvedBy given k.order
-  pub gap : IsGap k.order.variables.items (map row_of k.order.rows.items) k.spots.items k.gap.variable k.gap.below k.gap.low k.gap.up
+pub use Rattle.bg_tree.specs.Gaps.{KeepsGap}
+use Rattle.bg_tree.specs.Ways.{IsWay}
 
 -- an operation of a further elimination, or of the next near value, leaves the range
 abbrev pub IsBeyond : List RowOf → Beyond → Type 0
@@ -64,8 +61,9 @@ outcome_of path (Point order spots) = Found (record { path = path; order = order
 outcome_of path (Rows order) = Unknown (ByRows path order)
 outcome_of path (Range beyond) = Unknown (ByRange path beyond)
 
--- a complete leaf: every atom is decided, none both ways, nothing is false, and a near point meets the path's rows
+-- a complete leaf: a path that a search may go decides every atom, none both ways, nothing is false, and a near point meets the path's rows
 pub record IsLeaf (f : Formula) (set : ℕ → Bool) (l : Leaf) : Type 0 where
+  pub way : IsWay f set (root f) l.path.items
   pub complete : IsComplete f set l.path.items
   pub once : IsOnce l.path.items
   pub solved : SolvedBy (rows_on f.atoms l.path.items) l.order

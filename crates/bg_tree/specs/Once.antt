@@ -1,8 +1,8 @@
--- What holds of each path of the search.
+-- Atoms of one sign, and bounds of terms that are there.
 use Rattle.std.specs.Prelude.{◌≡◌, ℕ, Bool, true, false, nat_lt, ◌&&◌, List, [], ◌∷◌}
 use Rattle.bg_cert.specs.declared.cert.Decision.{Decision}
 use Rattle.bg_cert.specs.declared.cert.Decision.TheVariants.{Atom, AtMost}
-use Rattle.bg_cert.specs.Paths.{PathOf, decides}
+use Rattle.bg_cert.specs.Paths.{decides}
 
 -- no atom has both signs
 abbrev pub IsOnce : List Decision → Type 0
@@ -16,11 +16,3 @@ bound_in n (AtMost x k s) = nat_lt x n
 abbrev pub bounds_in : ℕ → List Decision → Bool
 bounds_in n [] = true
 bounds_in n (d ∷ ds) = bound_in n d && bounds_in n ds
-
-pub record IsPath (n : ℕ) (ds : List Decision) : Type 0 where
-  pub once : IsOnce ds
-  pub bounds : bounds_in n ds ≡ true
-
-abbrev pub ArePaths : ℕ → List PathOf → Type 0
-ArePaths n [] = Unit {0}
-ArePaths n (p ∷ ps) = IsPath n p.decided × ArePaths n ps

@@ -1,11 +1,10 @@
 -- The trees that the search makes.
-use Rattle.std.specs.Prelude.{◌≡◌, ℕ, ◌+◌, ◌-◌, ◌*◌, ◌<◌, Bool, true, false, List, [], ◌∷◌, ◌++◌, map, reverse, Option, Some, None, length}
+use Rattle.std.specs.Prelude.{◌≡◌, ℕ, ◌+◌, ◌-◌, ◌*◌, ◌<◌, Bool, true, false, List, [], ◌∷◌, ◌++◌, map, reverse, Option, Some, None}
 use Rattle.bg_formula.specs.Formulas.{Formula}
 use Rattle.bg_cert.specs.declared.cert.Node.TheVariants.{Split}
 use Rattle.bg_cert.specs.declared.cert.Decision.TheVariants.{Atom, AtMost}
 use Rattle.bg_cert.specs.Paths.{PathOf, rows_on, with_decision}
 use Rattle.bg_cert.specs.Certs.{NodeOf, Bounds, node_of, root, closes, accepts, Accepts}
-use Rattle.bg_cert.specs.Causes.{any_false, may_split, may_bound, units_of}
 use Rattle.bg_cert.specs.declared.walk.Walk.{Walk}
 use Rattle.bg_cert.specs.Walks.{no_instance, stack_of, others_of, IsWalk, paths_open, decided_on, atoms_on}
 use Rattle.bg_elim.specs.Kept.{FillBudget}
@@ -13,7 +12,6 @@ use Rattle.bg_pick.specs.declared.index.Index.{Index}
 use Rattle.bg_pick.specs.declared.guide.Guide.{Guide}
 use Rattle.bg_pick.specs.Marks.{AllReady}
 use Rattle.bg_pick.specs.Picks.{IsComplete}
-use Rattle.bg_tree.specs.declared.part.Kept.{Kept}
 use Rattle.bg_tree.specs.declared.part.Part.{Part}
 use Rattle.bg_tree.specs.declared.part.Part.TheVariants.{Open, Plain, Bound}
 use Rattle.bg_tree.specs.declared.step.Search.{Search}
@@ -23,24 +21,9 @@ use Rattle.bg_tree.specs.declared.outcome.Outcome.{Outcome}
 use Rattle.bg_tree.specs.declared.outcome.Why.{Why}
 use Rattle.bg_tree.specs.declared.outcome.Why.TheVariants.{Nodes, Rows, Range}
 use Rattle.bg_tree.specs.declared.outcome.Outcome.TheVariants.{Closed, Leaf, Unknown}
-use Rattle.bg_tree.specs.Once.{ArePaths}
-use Rattle.bg_tree.specs.Ends.{KeepsGap, IsBeyond, IsHalt, IsLeaf}
-
--- no clause and no unit of the set is false on the path
-abbrev pub IsFine : Formula → (ℕ → Bool) → PathOf → Type 0
-IsFine f set p = any_false p.decided (p.clauses ++ units_of f set) ≡ false
-
--- an atom is split by the rule
-pub record IsSplit (f : Formula) (set : ℕ → Bool) (p : PathOf) (a : ℕ) : Type 0 where
-  pub fine : IsFine f set p
-  pub rule : may_split (length p.atoms) a p.decided (p.clauses ++ units_of f set) ≡ true
-
--- a new bound of a term that is there is split where all is decided, at a gap of the path's rows
-pub record IsBound (f : Formula) (set : ℕ → Bool) (p : PathOf) (k : Kept) : Type 0 where
-  pub fine : IsFine f set p
-  pub there : k.gap.variable < f.terms
-  pub rule : may_bound (length p.atoms) k.gap.variable k.gap.below p.decided ≡ true
-  pub gap : KeepsGap (rows_on p.atoms p.decided) k
+pub use Rattle.bg_tree.specs.Ways.{IsFine, IsSplit, IsBound}
+use Rattle.bg_tree.specs.Ways.{ArePaths, IsEndOf}
+use Rattle.bg_tree.specs.Ends.{IsBeyond, IsHalt, IsLeaf}
 
 -- the parts are one tree for each path, with n inner nodes together, and an open leaf where none was `seen` before
 abbrev pub AreTrees : Formula → (ℕ → Bool) → ℕ → Bool → List PathOf → List Part → Type 0
@@ -63,14 +46,14 @@ nodes_of (Open ∷ rest) = nodes_of rest
 nodes_of (Plain n ∷ rest) = node_of n ∷ nodes_of rest
 nodes_of (Bound k ∷ rest) = Bounds k.gap.variable k.gap.below ∷ nodes_of rest
 
--- what is kept of a formula with the units of a set that is left unknown: a tree of the budget's inner nodes; or a path that
--- decides every atom and makes nothing false, with the budget's number of rows, or an operation that leaves the range
+-- what is kept of a formula with the units of a set that is left unknown: a tree of the budget's inner nodes; or a path that a
+-- search may go, which decides every atom and makes nothing false, with the budget's number of rows, or an operation that leaves the range
 abbrev pub IsCause : Formula → (ℕ → Bool) → Budget → Why → Type 0
 IsCause f set budget (Nodes parts) = AreTrees f set budget.nodes false (root f ∷ []) parts.items
 IsCause f set budget (Rows path o) =
-    IsComplete f set path.items × FillBudget (rows_on f.atoms path.items) budget.rows o.variables.items o.reasons.items
+    IsEndOf f set path.items × FillBudget (rows_on f.atoms path.items) budget.rows o.variables.items o.reasons.items
 IsCause f set budget (Range path beyond) =
-    IsComplete f set path.items × IsBeyond (rows_on f.atoms path.items) beyond
+    IsEndOf f set path.items × IsBeyond (rows_on f.atoms path.items) beyond
 
 -- what each answer of the search claims
 abbrev pub IsOutcome : Formula → (ℕ → Bool) → Budget → Outcome → Type 0
@@ -102,7 +85,7 @@ pub record Moves (f : Formula) (set : ℕ → Bool) (old new : Search) : Type 0 
   pub made : new.parts.items ≡ old.parts.items ++ (part ∷ [])
   pub tells : (rest : List Part) → AreTrees f set new.left new.seen (stack_of f new.walk) rest → AreTrees f set old.left old.seen (stack_of f old.walk) (part ∷ rest)
   pub whole : new.seen ≡ false → Continues f set old new part
-  pub paths : ArePaths f.terms (stack_of f old.walk) → ArePaths f.terms (stack_of f new.walk)
+  pub paths : ArePaths f set (stack_of f old.walk) → ArePaths f set (stack_of f new.walk)
   pub smaller : work new < work old
   pub spent : (old.seen ≡ true → old.left ≡ 0) → new.seen ≡ true → new.left ≡ 0
 

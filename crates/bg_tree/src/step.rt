@@ -8,7 +8,7 @@ ghost use Rattle.bg_cert.specs.Walks.{IsWalk, has, path_of, stack_of, others_of,
 ghost use Rattle.bg_pick.specs.Index.{IsIndex};
 ghost use Rattle.bg_pick.specs.Marks.{marks_of, IsMark, AllReady};
 ghost use Rattle.bg_pick.specs.Picks.{MaySplit, IsComplete};
-ghost use Rattle.bg_tree.specs.Once.{ArePaths};
+ghost use Rattle.bg_tree.specs.Ways.{ArePaths};
 ghost use Rattle.bg_tree.specs.Trees.{OthersReady, IsBound, Moves, Steps};
 
 use crate::outcome::{End, Halt};
@@ -206,7 +206,7 @@ fn finish(
     requires complete { IsComplete (formula_of f.now) (has set.now) (decided_on s.old.walk) }
     requires mark { IsMark (formula_of f.now) (has set.now) i.now (decided_on s.old.walk) guide.old.mark }
     requires others { OthersReady (formula_of f.now) (has set.now) i.now s.old.walk guide.old }
-    requires paths { ArePaths (formula_of f.now).terms (stack_of (formula_of f.now) s.old.walk) }
+    requires paths { ArePaths (formula_of f.now) (has set.now) (stack_of (formula_of f.now) s.old.walk) }
     ensures steps { IfOk result (λ halt. Steps (formula_of f.now) (has set.now) rows s.old s.new halt) }
     ensures ready { IfOk result (λ halt. halt ≡ None → AllReady (formula_of f.now) (has set.now) i.now (stack_of (formula_of f.now) s.new.walk) (marks_of guide.new)) }
 {
@@ -270,7 +270,7 @@ pub fn step(
     requires whole { is_whole (formula_of f.now) ≡ true }
     requires named { IsIndex (formula_of f.now) (has set.now) i.now }
     requires ready { AllReady (formula_of f.now) (has set.now) i.now (stack_of (formula_of f.now) s.old.walk) (marks_of guide.old) }
-    requires paths { ArePaths (formula_of f.now).terms (stack_of (formula_of f.now) s.old.walk) }
+    requires paths { ArePaths (formula_of f.now) (has set.now) (stack_of (formula_of f.now) s.old.walk) }
     ensures steps { IfOk result (λ halt. Steps (formula_of f.now) (has set.now) rows s.old s.new halt) }
     ensures ready { IfOk result (λ halt. halt ≡ None → AllReady (formula_of f.now) (has set.now) i.now (stack_of (formula_of f.now) s.new.walk) (marks_of guide.new)) }
 {

@@ -13,3 +13,9 @@ pub mod Declared
 pub mod Declarations
 pub mod Fitting
 pub mod Typed
+pub mod Exact
+pub mod Forgets
+pub mod ExactBodies
+pub mod Kept
+pub mod ExactPrograms
+pub mod ForwardRules

@@ -2,3 +2,5 @@ pub mod Agreement
 pub mod Naming
 pub mod Bodies
 pub mod Programs
+pub mod Covering
+pub mod Rules

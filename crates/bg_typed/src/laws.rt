@@ -1,10 +1,12 @@
 //! Laws that hold of what is judged.
-ghost use Rattle.std.specs.Prelude.{◌≡◌, ◌<◌, ◌≤◌, ℕ, List, [], Some, length};
+ghost use Rattle.std.specs.Prelude.{◌≡◌, ◌<◌, ◌≤◌, ℕ, List, [], ◌∷◌, Some, length};
 ghost use Rattle.bg_graph.specs.Graphs.{Graph, IsEdge, IsGraph, IsAcyclic};
 ghost use Rattle.bg_ast.specs.Values.{Ty};
 ghost use Rattle.bg_ast.specs.Resolved as r;
 ghost use Rattle.bg_ast.specs.Resolved.{Ex, Sts};
-ghost use Rattle.bg_ast.specs.Meaning.{ex_of, sts_of, type_in, named_of, meaning_of};
+ghost use Rattle.bg_base.specs.declared.pos.Pos.{Pos};
+ghost use Rattle.bg_ast.specs.Meaning.{ex_of, st_of, sts_of, impl_of, type_in, named_of, meaning_of};
+ghost use Rattle.bg_typed.specs.Rules.{IsEven, AreEven, HasIndices, KeepsTypes};
 ghost use Rattle.bg_sense.specs.Typing.{Sig, HasType};
 ghost use Rattle.bg_sense.specs.Typed.{Around, IsLinear, IsFormula, IsTypedStatement, IsTyped};
 ghost use Rattle.bg_kinds.specs.Kinds.{Kind, kind_in, type_faults};
@@ -15,6 +17,7 @@ ghost use Rattle.bg_typing.specs.Stmts.{truth_faults, sts_faults};
 ghost use Rattle.bg_types.specs.Programs.{synonyms_faults};
 ghost use Rattle.bg_types.specs.Verdicts.{IsWellTyped};
 ghost use Rattle.bg_typed.specs.Agreement.{Agrees};
+ghost use Rattle.bg_typed.specs.Covering.{Gives, GivesAround};
 ghost use Rattle.bg_typed.specs.Naming.{Matches, IsNamed};
 ghost use Rattle.bg_typed.specs.Bodies.{MatchesAround, AreNamedStatements};
 ghost use Rattle.bg_typed.specs.Programs.{IsNamedProgram};
@@ -52,4 +55,34 @@ pub fn written_types_stand_for_their_meaning()
 /// A program without faults of names and types is typed.
 pub fn well_typed_programs_are_typed()
     ensures { (p : r.Program) → IsNamedProgram p → IsWellTyped p → IsTyped (meaning_of p) }
+{}
+
+/// An expression that has a type, and each of whose products has a constant side, has no fault and is found to have this type.
+pub fn typed_expressions_have_no_fault()
+    ensures { (g : Scope) (s : Sig) (e : Ex) (t : Ty) → Gives g s → HasType (ex_of e) s t → IsLinear (ex_of e) → ((judge g e).faults ≡ []) × ((judge g e).side.kind ≡ Some t) }
+{}
+
+/// The meaning alone doesn't show that a right side is too many, that an index type is none, nor an implementation's own parameters and
+/// results: so rules of types that speak of the meaning alone would let them pass.
+pub fn meanings_forget()
+    ensures sides { (p : Pos) (t : r.Target) (a b : Ex) → (st_of (r.Assign p (t ∷ []) (r.More a (r.More b r.NoMore))) ≡ st_of (r.Assign p (t ∷ []) (r.More a r.NoMore))) × (IsEven (r.Assign p (t ∷ []) (r.More a (r.More b r.NoMore))) → ⊥) }
+    ensures indices { (named : ℕ → Ty) (p : Pos) (t : r.Ty) →
+        (type_in named (r.MapType (r.Index p (r.OneType (r.BoolType p) r.NoType) r.NoIndex) t) ≡ type_in named (r.MapType (r.Index p (r.OneType (r.IntType p) r.NoType) r.NoIndex) t))
+        × (HasIndices named (r.MapType (r.Index p (r.OneType (r.BoolType p) r.NoType) r.NoIndex) t) → ⊥) }
+    ensures names { (named : ℕ → Ty) (m : r.Impl) (ds es : List r.Declared) → impl_of named (record m { params = ds; results = es }) ≡ impl_of named m }
+{}
+
+/// Statements that are typed, each assignment of which has as many right sides as left ones, have no fault.
+pub fn typed_bodies_have_no_fault()
+    ensures { (g : Scope) (w : Around) (a : Sts) → GivesAround g w → IsTypedStatement w [] [] (sts_of a) → AreEven a → sts_faults g a ≡ [] }
+{}
+
+/// A program that keeps the rules of types, one a form, has no fault of types.
+pub fn programs_that_keep_the_rules_have_no_fault()
+    ensures { (p : r.Program) → KeepsTypes p → IsWellTyped p }
+{}
+
+/// A program without faults of types, whose names are declared, keeps the rules of types.
+pub fn faultless_programs_keep_the_rules()
+    ensures { (p : r.Program) → IsWellTyped p → IsNamedProgram p → KeepsTypes p }
 {}

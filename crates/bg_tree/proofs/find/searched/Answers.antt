@@ -44,7 +44,7 @@ loop-s-init c =
       sized = search rules;
       told = search rules;
       whole = search rules;
-      paths = paths_first (formula_of c.args.f.now).terms (formula_of c.args.f.now) c.in_ok-first_walk.field-0 (c.in_ok-first_walk.ensures.stack (formula_of c.args.f.now));
+      paths = paths_first (formula_of c.args.f.now) (has c.args.set.now) c.in_ok-first_walk.field-0 (c.in_ok-first_walk.ensures.stack (formula_of c.args.f.now));
       ready = first_ready (formula_of c.args.f.now) (has c.args.set.now) c.args.i.now _ _ c.requires.named (c.in_ok-first_walk.ensures.stack (formula_of c.args.f.now)) c.first_guide-guide.ensures;
       spent = search rules;
     }

@@ -2,7 +2,7 @@ use Rattle.std.proofs.Common.{◌≡◌, length, true}
 use Rattle.bg_formula.specs.Formulas.{formula_of}
 use Rattle.bg_cert.specs.Walks.{IsWalk, atoms_on, stack_of, has}
 use Rattle.bg_pick.specs.Marks.{marks_of, AllReady}
-use Rattle.bg_tree.specs.Once.{ArePaths}
+use Rattle.bg_tree.specs.Ways.{ArePaths}
 use Rattle.bg_tree.specs.Trees.{work}
 use Rattle.bg_tree.proofs.Told.{Told, Whole}
 use Rattle.bg_tree.proofs.find.searched.Given as goal
@@ -14,7 +14,7 @@ invariant-loop-s l =
       sized : atoms_on l.s.walk ≡ length l.f.atoms.items;
       told : Told (formula_of l.f) (has l.set) l.budget.nodes l.s;
       whole : Whole (formula_of l.f) (has l.set) l.s;
-      paths : ArePaths (formula_of l.f).terms (stack_of (formula_of l.f) l.s.walk);
+      paths : ArePaths (formula_of l.f) (has l.set) (stack_of (formula_of l.f) l.s.walk);
       ready : AllReady (formula_of l.f) (has l.set) l.i (stack_of (formula_of l.f) l.s.walk) (marks_of l.guide);
       spent : l.s.seen ≡ true → l.s.left ≡ 0;
     }

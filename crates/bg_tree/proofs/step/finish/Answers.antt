@@ -1,5 +1,6 @@
 use Rattle.bg_formula.specs.Formulas.{formula_of}
 use Rattle.bg_cert.specs.Walks.{has, decided_on}
+use Rattle.bg_tree.proofs.Paths.{open_bounds}
 use Rattle.bg_tree.proofs.Ends.{gap_may}
 use Rattle.bg_tree.proofs.step.finish.Goals as goal
 
@@ -8,3 +9,7 @@ halve-requires-clause-may c =
     let e = c.in_ok-steps.ensures in
     let g = rw c.in-Split.is at e in
     gap_may (formula_of c.args.f.now) (has c.args.set.now) (decided_on c.args.s.now.walk) c.in-Split.kept c.requires.complete g
+
+pub settle-requires-clause-bounds : goal.settle-requires-clause-bounds
+settle-requires-clause-bounds c =
+    open_bounds (formula_of c.args.f.now) (has c.args.set.now) c.args.s.now.walk c.requires.is_open c.requires.paths

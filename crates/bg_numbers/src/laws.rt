@@ -1,0 +1,38 @@
+//! Laws of numbers.
+ghost use Rattle.std.specs.Prelude.{◌≡◌, List, [], ◌++◌, Some, None};
+ghost use Rattle.bg_text.specs.Trees as t;
+ghost use Rattle.bg_text.specs.Types.{All};
+ghost use Rattle.bg_text.specs.Declarations.{IsDecl};
+ghost use Rattle.bg_ast.specs.Meaning.{meaning_of};
+ghost use Rattle.bg_ast.specs.Resolved as r;
+ghost use Rattle.bg_names.specs.Spaces.{Scope};
+ghost use Rattle.bg_names.specs.Exprs.{ex_faults, named_ex};
+ghost use Rattle.bg_numbers.specs.Means.{Means};
+ghost use Rattle.bg_names.specs.Faults.{Fault, better, IsFirst};
+ghost use Rattle.bg_names.specs.Spaces.{names_of};
+ghost use Rattle.bg_spaces.specs.Declarations.{function_ids};
+ghost use Rattle.bg_resolve.specs.Program.{plain_faults, named};
+ghost use Rattle.bg_resolve.specs.Resolves.{Recursion};
+ghost use Rattle.bg_resolve.specs.Calls.{WithRecursion};
+ghost use Rattle.bg_numbers.specs.Told.{IsToldFault};
+ghost use Rattle.bg_sense.specs.Resolved.{IsResolved};
+
+/// A program of the grammar without faults of names has numbers of its own for its clauses, calls, loops, conditionals and labels, names
+/// procedures and candidates that are there, and modifies globals by declaration.
+pub fn programs_are_resolved()
+    ensures { (ds : List t.Decl) → All IsDecl ds → plain_faults ds ≡ [] → IsResolved (meaning_of (named ds)) }
+{}
+
+/// The fault of names that is answered is one alone, with its name; none of the others comes before it; and it is what notes of the
+/// first fault hold at the end.
+pub fn told_faults_are_one()
+    ensures one { (ds : List t.Decl) (f g : Fault) → IsToldFault ds f → IsToldFault ds g → f ≡ g }
+    ensures first { (ds : List t.Decl) (f : Fault) → IsToldFault ds f → (rs : List Fault) × Recursion ds rs × IsFirst f (plain_faults ds ++ rs) }
+    ensures noted { (ds : List t.Decl) (f : Fault) → WithRecursion (names_of (function_ids ds)) ds (better None (plain_faults ds)) (Some f) → IsToldFault ds f }
+{}
+
+/// An expression has no fault of names exactly where it means something by the rules, one a form; then it means what it is named.
+pub fn faultless_expressions_mean_something()
+    ensures none { (g : Scope) (a : t.Ex) (e : r.Ex) → Means g a e → (ex_faults g a ≡ []) × (named_ex g a ≡ e) }
+    ensures some { (g : Scope) (a : t.Ex) → ex_faults g a ≡ [] → Means g a (named_ex g a) }
+{}

@@ -1,0 +1,5 @@
+mod Agree
+mod Choosing
+mod Shorter
+pub mod Plain
+mod Zero

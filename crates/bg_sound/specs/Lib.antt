@@ -1,0 +1,4 @@
+pub mod Told
+pub mod Used
+pub mod Sound
+pub mod Report
