@@ -7,3 +7,4 @@ pub mod TypeFaults
 pub mod NameFaults
 pub mod Refused
 pub mod TypedPrograms
+pub mod Named

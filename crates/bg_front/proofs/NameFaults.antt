@@ -12,7 +12,8 @@ use Rattle.bg_spaces.specs.Declarations.{function_ids}
 use Rattle.bg_resolve.specs.Program.{plain_faults}
 use Rattle.bg_resolve.specs.Calls.{IsRecursion, functions_in, calls_in}
 use Rattle.bg_resolve.specs.Calls.IsRecursion.{never, first}
-use Rattle.bg_front.specs.Programs.{AreNamed, IsNameFault}
+use Rattle.bg_front.specs.Programs.{IsNameFault}
+use Rattle.bg_front.proofs.Named.{AreNamed}
 use Rattle.bg_front.proofs.TypeFaults.{one_on_cycle}
 
 -- ---- the fault of recursion is one alone

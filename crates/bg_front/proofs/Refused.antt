@@ -13,8 +13,9 @@ use Rattle.bg_front.specs.Later.{outside, AreJudged, IsUnjudged}
 use Rattle.bg_front.specs.Limits.{most_bytes}
 use Rattle.bg_front.specs.Refusals.{Refusal, TooLong, Bytes, Syntax, Nesting, Names, Types, Later, Implementations, Places, Expanded}
 use Rattle.bg_front.specs.Trees.{IsTreeOf, HasNoTree}
-use Rattle.bg_front.specs.Programs.{AreNamed, IsNameFault, IsMeaningOf, IsProgramOf, ExceedsLimit, IsRefusedBy, limit_of, without_name}
+use Rattle.bg_front.specs.Programs.{IsNameFault, IsMeaningOf, IsProgramOf, ExceedsLimit, IsRefusedBy, limit_of, without_name}
 use Rattle.bg_front.proofs.Firsts.{one_unjudged, judged_not_unjudged}
+use Rattle.bg_front.proofs.Named.{AreNamed, are_named_in, is_named_in}
 use Rattle.bg_front.proofs.NameFaults.{named_no_fault, one_name_fault}
 use Rattle.bg_front.proofs.Ones.{Known, one_tree, not_both, one_refusal}
 use Rattle.bg_front.proofs.TypeFaults.{typed_no_fault, one_fault}
@@ -34,7 +35,7 @@ data Why (bytes : List ℕ) (x : Refusal) : Type 0 where
 exceeded : (bytes : List ℕ) (x : Refusal) → ExceedsLimit bytes x → Why bytes x
 exceeded bytes x h =
     let m : IsMeaningOf bytes h.0 h.1 = h.2 in
-    some m.short h.0 m.decls m.tree (large m.names (subst (λ (p : r.Program). IsWellTyped p) m.meant h.3) h.4 (subst (λ (p : r.Program). limit_of p ≡ Some x) m.meant h.5))
+    some m.short h.0 m.decls m.tree (large (are_named_in bytes h.0 h.1 m) (subst (λ (p : r.Program). IsWellTyped p) (is_named_in bytes h.0 h.1 m) h.3) h.4 (subst (λ (p : r.Program). limit_of p ≡ Some x) (is_named_in bytes h.0 h.1 m) h.5))
 
 why : (bytes : List ℕ) (x : Refusal) → IsRefusedBy bytes x → Why bytes x
 why bytes TooLong h = long h refl
@@ -44,10 +45,10 @@ why bytes Nesting h = none h.0 h.1
 why bytes (Names f) h = some h.0 h.1 h.2 h.3 (misnamed f h.4 refl)
 why bytes (Types xs f) h =
     let m : IsMeaningOf bytes h.0 h.1 = h.2 in
-    some m.short h.0 m.decls m.tree (mistyped f m.names (subst (λ (p : r.Program). IsFault p f) m.meant h.3) (ap (λ (l : List r.TypeName). Types l f) (h.4 ∙ ap (λ (p : r.Program). p.types) m.meant)))
+    some m.short h.0 m.decls m.tree (mistyped f (are_named_in bytes h.0 h.1 m) (subst (λ (p : r.Program). IsFault p f) (is_named_in bytes h.0 h.1 m) h.3) (ap (λ (l : List r.TypeName). Types l f) (h.4 ∙ ap (λ (p : r.Program). p.types) (is_named_in bytes h.0 h.1 m))))
 why bytes (Later q w) h =
     let m : IsMeaningOf bytes h.0 h.1 = h.2 in
-    some m.short h.0 m.decls m.tree (unjudged q w m.names (subst (λ (p : r.Program). IsWellTyped p) m.meant h.3) h.4 refl)
+    some m.short h.0 m.decls m.tree (unjudged q w (are_named_in bytes h.0 h.1 m) (subst (λ (p : r.Program). IsWellTyped p) (is_named_in bytes h.0 h.1 m) h.3) h.4 refl)
 why bytes (Implementations c) h = exceeded bytes (Implementations c) h
 why bytes (Places c) h = exceeded bytes (Places c) h
 why bytes Expanded h = exceeded bytes Expanded h
@@ -56,7 +57,7 @@ why bytes Expanded h = exceeded bytes Expanded h
 pub one_program : Known → (bytes : List ℕ) (p q : r.Program) → IsProgramOf bytes p → IsProgramOf bytes q → p ≡ q
 one_program k bytes p q a b =
     let e = one_tree k bytes a.tokens b.tokens a.spelled.decls b.spelled.decls a.spelled.tree b.spelled.tree in
-    a.spelled.meant ∙ (ap named e.1 ∙ sym b.spelled.meant)
+    is_named_in bytes a.tokens p a.spelled ∙ (ap named e.1 ∙ sym (is_named_in bytes b.tokens q b.spelled))
 
 no_limit : (o : Option Refusal) (x : Refusal) → o ≡ None → o ≡ Some x → ⊥
 no_limit o x h k = absurd (let e : None ≡ Some x = sym h ∙ k in cc)
@@ -72,9 +73,9 @@ no_reason k bytes p x a (long l e) = omega (arith, l, a.spelled.short)
 no_reason k bytes p x a (none l h) = not_both k bytes a.tokens a.spelled.decls x a.spelled.tree h
 no_reason k bytes p x a (some l ts ds tree h) =
     let e = one_tree k bytes ts a.tokens ds a.spelled.decls tree a.spelled.tree in
-    let meant : p ≡ named ds = a.spelled.meant ∙ ap named (sym e.1) in
+    let meant : p ≡ named ds = is_named_in bytes a.tokens p a.spelled ∙ ap named (sym e.1) in
     few_rest ts ds x
-    (subst (λ (d : List Decl). AreNamed d) (sym e.1) a.spelled.names)
+    (subst (λ (d : List Decl). AreNamed d) (sym e.1) (are_named_in bytes a.tokens p a.spelled))
     (subst (λ (q : r.Program). IsWellTyped q) meant a.typed)
     (subst (λ (t : List Tok). AreJudged t) (sym e.0) a.judged)
     (subst (λ (q : r.Program). limit_of q ≡ None) meant a.within)

@@ -4,9 +4,10 @@ use Rattle.bg_text.specs.Tokens.{Tok}
 use Rattle.bg_text.specs.Trees.{Decl}
 use Rattle.bg_ast.specs.Resolved as r
 use Rattle.bg_names.specs.Faults as n
-use Rattle.bg_resolve.specs.Program.{plain_faults, named}
+use Rattle.bg_resolve.specs.Program.{plain_faults}
 use Rattle.bg_resolve.specs.Resolves.{Recursion}
 use Rattle.bg_size.specs.Counts.{most_places, most_expanded, place_counts, expanded_counts, first_above, is_any_above}
+use Rattle.bg_numbers.specs.Declared.{MeansProgram}
 use Rattle.bg_types.specs.Verdicts.{IsWellTyped, IsFault}
 use Rattle.bg_front.specs.Later.{AreJudged, IsUnjudged}
 use Rattle.bg_front.specs.Limits.{most_bytes, most_implementations}
@@ -16,21 +17,16 @@ use Rattle.bg_front.specs.Trees.{IsTreeOf, HasNoTree}
 use Rattle.bg_front.specs.declared.refusal.ReadError.{ReadError}
 use Rattle.bg_front.specs.declared.refusal.ReadError.TheVariants as errors
 
--- the declarations break no rule of names
-abbrev pub AreNamed : List Decl → Type 0
-AreNamed ds = (plain_faults ds ≡ []) × Recursion ds []
-
 -- their first fault of names
 abbrev pub IsNameFault : List Decl → n.Fault → Type 0
 IsNameFault ds fault = (rs : List n.Fault) × Recursion ds rs × n.IsFirst fault (plain_faults ds ++ rs)
 
--- the bytes, few enough, hold these tokens, which spell declarations that break no rule of names, and mean this program
+-- the bytes, few enough, hold these tokens, which spell declarations that mean this program
 pub record IsMeaningOf (bytes : List ℕ) (ts : List Tok) (program : r.Program) : Type 0 where
   pub decls : List Decl
   pub short : length bytes ≤ most_bytes
   pub tree : IsTreeOf bytes ts decls
-  pub names : AreNamed decls
-  pub meant : program ≡ named decls
+  pub meant : MeansProgram decls program
 
 -- too many places of the first implementation that has too many, or too many nodes of one
 abbrev pub size_limit : Option ℕ → Bool → Option f.Refusal

@@ -15,6 +15,7 @@ use crate::refusal::{ReadError, Refusal};
 use crate::sizes::limit_of;
 use crate::tree::{Read, tree_of};
 use bg_ast::resolved::Resolved;
+use bg_numbers::laws::names_mean_a_program;
 use bg_resolve::{ResolveError, resolve};
 use bg_text::{Decl, Token};
 use bg_types::{TypeFault, Typed, check_types};
@@ -44,6 +45,7 @@ fn meaning<'a>(
     ensures meant { IfOk result (λ p. IsMeaningOf bytes.now (views tokens.now) (program_of p)) }
     ensures refused { IfErr result (λ e. IsRefused bytes.now e) }
 {
+    names_mean_a_program();
     match resolve(alloc, decls) {
         Ok(program) => Ok(program),
         Err(ResolveError::Fault(fault)) => Err(ReadError::Refused(Refusal::Names(fault))),

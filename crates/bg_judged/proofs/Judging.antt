@@ -15,6 +15,7 @@ use Rattle.bg_sense.specs.Typed.{IsTyped}
 use Rattle.bg_typed.specs.Programs.{IsNamedProgram}
 use Rattle.bg_front.specs.Later.{is_unjudged, outside, spot_from}
 use Rattle.bg_front.specs.Programs.{IsMeaningOf, IsProgramOf}
+use Rattle.bg_front.proofs.Named.{are_named_in, is_named_in}
 use Rattle.bg_fits.specs.Scalars.{passes, is_scalar_type, is_scalar, is_over_scalars}
 use Rattle.bg_judged.specs.Within.{is_beyond, AreWithin}
 use Rattle.bg_judged.proofs.Marks.{never}
@@ -91,11 +92,11 @@ judged_here false k out h = h
 module _ (are_named : (ds : List Decl) → All IsDecl ds → plain_faults ds ≡ [] → IsNamedProgram (named ds)) (are_typed : (p : r.Program) → IsNamedProgram p → IsWellTyped p → IsTyped (meaning_of p)) where
   meaning_typed : (bytes : List ℕ) (ts : List Tok) (p : r.Program) → IsMeaningOf bytes ts p → IsWellTyped p → IsTyped (meaning_of p)
   meaning_typed bytes ts p h typed =
-      are_typed p (subst IsNamedProgram (sym h.meant) (are_named h.decls h.tree.1.places.0 h.names.0)) typed
+      are_typed p (subst IsNamedProgram (sym (is_named_in bytes ts p h)) (are_named h.decls h.tree.1.places.0 (are_named_in bytes ts p h).0)) typed
 
   pub within_scalars : (numbers : Bool) (bytes : List ℕ) (ts : List Tok) (p : r.Program) → IsMeaningOf bytes ts p → IsWellTyped p → AreWithin numbers ts → is_over_scalars numbers (meaning_of p) ≡ true
   within_scalars numbers bytes ts p h typed within =
-      let good = subst (λ q. passes (is_scalar_type numbers) (few numbers) (meaning_of q) ≡ true) (sym h.meant) (tokens_good numbers ts h.decls within h.tree.1.spells.1 h.names.0) in
+      let good = subst (λ q. passes (is_scalar_type numbers) (few numbers) (meaning_of q) ≡ true) (sym (is_named_in bytes ts p h)) (tokens_good numbers ts h.decls within h.tree.1.spells.1 (are_named_in bytes ts p h).0) in
       program_turn numbers (few numbers) (is_scalar numbers) (scalar_turn numbers) (meaning_of p) (meaning_typed bytes ts p h typed) good
 
   pub judged_scalars : (bytes : List ℕ) (p : r.Program) → IsProgramOf bytes p → is_over_scalars true (meaning_of p) ≡ true

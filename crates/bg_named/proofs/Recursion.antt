@@ -34,14 +34,14 @@ function_ids_are (t.Globals v) = refl
 function_ids_are (t.Procedure q) = refl
 function_ids_are (t.Implementation i) = refl
 
-all_function_ids : (ds : List t.Decl) → map fun_id (flat_map funs_of ds) ≡ function_ids ds
+pub all_function_ids : (ds : List t.Decl) → map fun_id (flat_map funs_of ds) ≡ function_ids ds
 all_function_ids [] = refl
 all_function_ids (d ∷ ds) = map-append fun_id (funs_of d) (flat_map funs_of ds) ∙ rw (function_ids_are d, all_function_ids ds) refl
 
 only_never : (names : List (List ℕ)) (ds : List t.Decl) → IsRecursion names ds [] → IsAcyclic (calls_in names ds)
 only_never names ds (never h) = h
 
-functions_are : (g : Spaces) (ds : List t.Decl) → flat_map (named_functions g) ds ≡ map (named_function g) (flat_map funs_of ds)
+pub functions_are : (g : Spaces) (ds : List t.Decl) → flat_map (named_functions g) ds ≡ map (named_function g) (flat_map funs_of ds)
 functions_are g [] = refl
 functions_are g (t.Types p attrs es ∷ ds) = functions_are g ds
 functions_are g (t.Constants c ∷ ds) = functions_are g ds

@@ -6,3 +6,8 @@ mod Programs
 mod Names
 mod Places
 mod Meanings
+mod Once
+mod StMeanings
+mod DeclMeanings
+mod Applied
+pub mod Meant

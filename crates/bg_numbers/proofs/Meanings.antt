@@ -14,10 +14,10 @@ use Rattle.bg_named.proofs.SpacesPlaces.{used}
 use Rattle.bg_numbers.specs.Means.{IsRead, Means, MeanAll, MeanBrackets, MeanLinks}
 use Rattle.bg_numbers.proofs.Places.{has_by_place}
 
-both : (fs gs : List Fault) → fs ≡ [] → gs ≡ [] → fs ++ gs ≡ []
+pub both : (fs gs : List Fault) → fs ≡ [] → gs ≡ [] → fs ++ gs ≡ []
 both fs gs e f = ap (λ (l : List Fault). l ++ gs) e ∙ f
 
-no_use : (names : List (List ℕ)) (p : Pos) (x : List ℕ) (k : ℕ) → place names x ≡ Some k → use_faults names (record { pos = p; text = x }) ≡ []
+pub no_use : (names : List (List ℕ)) (p : Pos) (x : List ℕ) (k : ℕ) → place names x ≡ Some k → use_faults names (record { pos = p; text = x }) ≡ []
 no_use names p x k e = ap (λ (b : Bool). unless b (fault kinds.UnknownName p x)) (has_by_place names x k e)
 
 read_fine : (p : Pos) (x : List ℕ) (m : Meaning) (e : r.Ex) → IsRead p m e → (read_faults p x m ≡ []) × (read_as p m ≡ e)
@@ -135,3 +135,9 @@ means_fine g a e h = fine g a e h
 
 pub faultless_means : (g : Scope) (a : t.Ex) → ex_faults g a ≡ [] → Means g a (named_ex g a)
 faultless_means g a h = mean g a h
+
+pub all_means_fine : (g : Scope) (as_ : t.Exs) (es : r.Exs) → MeanAll g as_ es → (exs_faults g as_ ≡ []) × (named_exs g as_ ≡ es)
+all_means_fine g as_ es h = all_fine g as_ es h
+
+pub faultless_all : (g : Scope) (as_ : t.Exs) → exs_faults g as_ ≡ [] → MeanAll g as_ (named_exs g as_)
+faultless_all g as_ h = mean_all g as_ h

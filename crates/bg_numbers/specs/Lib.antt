@@ -1,2 +1,5 @@
 pub mod Told
 pub mod Means
+pub mod Once
+pub mod Statements
+pub mod Declared
