@@ -1,10 +1,10 @@
 -- A bound touches no clause: what is ready before it is ready behind it, both ways.
-use Rattle.std.proofs.Common.{◌≡◌, ℕ, Bool, true, false, not, ◌&&◌, ◌||◌, cond, List, [], ◌∷◌, ◌++◌, ℤ, length, refl, sym, ap, ◌∙◌, arith}
+use Rattle.std.proofs.Common.{◌≡◌, ℕ, Bool, true, false, not, ◌&&◌, ◌||◌, cond, List, [], ◌∷◌, ◌++◌, ℤ, refl, sym, ap, ◌∙◌, arith}
 use Rattle.std.specs.Prelude.{Option, Some, None}
 use Rattle.bg_formula.specs.declared.atom.Literal.{Literal}
 use Rattle.bg_formula.specs.Formulas.{Formula}
 use Rattle.bg_cert.specs.declared.cert.Decision.{Decision}
-use Rattle.bg_cert.specs.declared.cert.Decision.TheVariants.{Atom, AtMost}
+use Rattle.bg_cert.specs.declared.cert.Decision.TheVariants.{AtMost}
 use Rattle.bg_cert.specs.Paths.{PathOf, decides, clause_false, names_false}
 use Rattle.bg_cert.specs.Causes.{is_decided, has_true, undecided, is_one, is_unit, any_false, units_of}
 use Rattle.bg_cert.specs.Walks.{path_of}
@@ -12,9 +12,9 @@ use Rattle.bg_cert.proofs.Untouched.{decides_snoc}
 use Rattle.bg_pick.specs.declared.hint.Hint.{Hint}
 use Rattle.bg_pick.specs.declared.index.Index.{Index}
 use Rattle.bg_pick.specs.declared.mark.Mark.{Mark}
-use Rattle.bg_pick.specs.Index.{clause_at, Names}
-use Rattle.bg_pick.specs.Marks.{unit_at, row_at, IsMark, IsReady, AllReady}
-use Rattle.bg_pick.proofs.Lists.{false_in}
+use Rattle.bg_pick.specs.Index.{clause_at}
+use Rattle.bg_pick.specs.Marks.{unit_at, IsMark, IsReady, AllReady}
+use Rattle.bg_pick.proofs.Lists.{false_in, none_false as none_false_in}
 use Rattle.bg_pick.proofs.Members.{clause_among}
 use Rattle.bg_pick.proofs.Readies.{row_more, one_longer}
 use Rattle.bg_pick.proofs.Touched.{true_more, decided_more}
@@ -106,3 +106,9 @@ mark_same f set i ds m n a b c d h =
       opens = rw c h.opens;
       frees = rw d h.frees;
     }
+
+-- a bound makes nothing false
+pub bound_fine : (f : Formula) (set : ℕ → Bool) (ds : List Decision) (x : ℕ) (k : ℤ) (s : Bool) → any_false ds (f.clauses ++ units_of f set) ≡ false → any_false (ds ++ (AtMost x k s ∷ [])) (f.clauses ++ units_of f set) ≡ false
+bound_fine f set ds x k s h =
+    none_false_in (ds ++ (AtMost x k s ∷ [])) (f.clauses ++ units_of f set)
+    (λ n c e. same_false (ds ++ (AtMost x k s ∷ [])) ds c (λ a t. decides_bound a t ds x k s) ∙ false_in ds (f.clauses ++ units_of f set) n c e h)

@@ -31,6 +31,17 @@ nothing_false f set i ds m r h =
     not_named x false e = e
     not_named x true e = h x (r.fresh x e)
 
+pub something_false : (f : Formula) (set : ℕ → Bool) (ds : List Decision) (x : Hint) → names_false ds (clause_at f set x) ≡ true → any_false ds (f.clauses ++ units_of f set) ≡ true
+something_false f set ds x h = by_clause (clause_at f set x) refl h
+  where
+    by_any : (c : List Literal) → clause_at f set x ≡ Some c → clause_false ds c ≡ true → (b : Bool) → any_false ds (f.clauses ++ units_of f set) ≡ b → b ≡ true
+    by_any c e k true a = refl
+    by_any c e k false a = absurd (let n = clause_among f set x c e in let y = false_in ds (f.clauses ++ units_of f set) n.0 c n.1 a in cc)
+
+    by_clause : (o : Option (List Literal)) → clause_at f set x ≡ o → names_false ds o ≡ true → any_false ds (f.clauses ++ units_of f set) ≡ true
+    by_clause None e k = absurd (cc)
+    by_clause (Some c) e k = by_any c e k (any_false ds (f.clauses ++ units_of f set)) refl
+
 -- ---- rows of a longer path
 
 pub row_more : (i : Index) (ds : List Decision) (d : Decision) (g k : ℕ) (x : Hint) → at (row_at i ds g) k ≡ Some x → at (row_at i (ds ++ (d ∷ [])) g) k ≡ Some x

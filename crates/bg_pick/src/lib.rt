@@ -19,5 +19,5 @@ pub use hint::Hint;
 pub use index::{Index, index_of};
 pub use left::Left;
 pub use mark::Mark;
-pub use pick::{Pick, next_at};
+pub use pick::{Pick, fails, next_at};
 pub use probe::{Probe, new_probe};

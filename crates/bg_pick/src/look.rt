@@ -11,8 +11,8 @@ use crate::left::{has_true, is_decided, some_left};
 use crate::mark::Mark;
 use crate::probe::{Common, Probe, assume, forget, spread, value_of};
 use crate::rows::{hints_at, row_at};
-use bg_cert::Trail;
-use bg_formula::{Clauses, Literal};
+use bg_cert::{Trail, decides};
+use bg_formula::{Atom, Clauses, Literal};
 
 /// How many clauses are looked at for one split.
 const MOST_CLAUSES: u32 = 4096;
@@ -236,31 +236,31 @@ fn candidate(f: &Clauses, i: &Index, trail: &Trail, p: &mut Probe, mark: &mut Ma
     found
 }
 
-/// An undecided atom of the first of these clauses that has no true literal.
-fn first_left(f: &Clauses, trail: &Trail, hints: &[Hint]) -> Option<u32> {
-    for hint in hints {
-        if let Hint::Nth(k) = hint {
-            if let Some(clause) = f.clauses.get(*k) {
-                if let Some(a) = some_left(trail, clause) {
-                    return Some(a);
-                }
+/// Whether a clause says something of a block or of a part of a form that is reached: it begins with the denial of a truth atom that
+/// is true.
+fn is_reached(f: &Clauses, trail: &Trail, clause: &[Literal]) -> bool {
+    let Some(l) = clause.get(0) else {
+        return false;
+    };
+    if l.sign {
+        return false;
+    }
+    match f.atoms.get(l.atom as usize) {
+        Some(Atom::Truth(_)) => decides(trail, l.atom as usize, true),
+        _ => false,
+    }
+}
+
+/// An undecided atom of the open clause that is reached and stands last in the program: clauses stand from the last block back. So
+/// the search goes back from the claim, and splits nothing that it doesn't need.
+fn last_reached(f: &Clauses, trail: &Trail) -> Option<u32> {
+    for clause in &f.clauses {
+        if is_reached(f, trail, clause) {
+            if let Some(a) = some_left(trail, clause) {
+                return Some(a);
             }
         }
     }
-    None
-}
-
-/// An undecided atom of an open clause that a decision touched, of the first such decision. A clause of which no literal is decided
-/// asks for nothing yet: a split of its atoms would double what is left to do.
-fn touched(f: &Clauses, i: &Index, trail: &Trail, mark: &mut Mark) -> Option<u32> {
-    let from = mark.done;
-    for row in from..trail.decisions.len() {
-        if let Some(a) = first_left(f, trail, row_at(i, trail, row.saturating_add(1))) {
-            mark.done = row;
-            return Some(a);
-        }
-    }
-    mark.done = trail.decisions.len();
     None
 }
 
@@ -280,8 +280,8 @@ fn if_open(f: &Clauses, i: &Index, trail: &Trail, a: u32) -> Option<u32>
     }
 }
 
-/// An undecided atom of an open clause, chosen by a look ahead, or else of one that a decision touched; none where there is no such
-/// clause. Of the mark it changes what is kept for the next look alone.
+/// An undecided atom of an open clause, chosen by a look ahead, or else of the last one of the program that is reached; none where
+/// there is no such clause. Of the mark it changes what is kept for the next look alone.
 pub fn suggest(f: &Clauses, i: &Index, trail: &Trail, p: &mut Probe, mark: &mut Mark) -> Option<u32>
     ensures stands { IfSome result (λ a. IsOpenAt trail.now.decisions.items (map (λ c. c.items) f.now.clauses.items) a) }
     ensures row { mark.new.row ≡ mark.old.row }
@@ -292,7 +292,7 @@ pub fn suggest(f: &Clauses, i: &Index, trail: &Trail, p: &mut Probe, mark: &mut 
     let mut look = *mark;
     let found = match candidate(f, i, trail, p, &mut look) {
         Some(a) => Some(a),
-        None => touched(f, i, trail, &mut look),
+        None => last_reached(f, trail),
     };
     mark.look = look.look;
     mark.top = look.top;

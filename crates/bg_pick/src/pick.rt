@@ -1,9 +1,11 @@
 //! What to do next at a path.
-ghost use Rattle.std.specs.Prelude.{◌≡◌, ◌++◌, length, false, true, MatchOption};
+ghost use Rattle.std.specs.Prelude.{◌≡◌, ◌<◌, ◌++◌, ◌∷◌, [], length, false, true, IfOk, OnOk, MatchOption};
 ghost use Rattle.bg_formula.specs.Formulas.{formula_of, is_whole};
 ghost use Rattle.bg_cert.specs.Certs.{node_of, closes};
 ghost use Rattle.bg_cert.specs.Causes.{any_false, may_split, all_decided, units_of};
 ghost use Rattle.bg_cert.specs.Walks.{has, path_of};
+ghost use Rattle.bg_cert.specs.declared.cert.Decision.TheVariants.{Atom};
+ghost use Rattle.bg_pick.specs.Index.{IsIndex};
 ghost use Rattle.bg_pick.specs.Marks.{IsMark, IsReady};
 ghost use Rattle.bg_pick.specs.Picks.{IsPick};
 
@@ -13,8 +15,9 @@ use crate::look::suggest;
 use crate::mark::{Mark, first_false, free_from, next_unit, open_from};
 use crate::probe::Probe;
 use crate::rows::row_at;
-use bg_cert::{Node, Trail};
+use bg_cert::{Decision, Node, Trail, decide, undo_to};
 use bg_formula::Clauses;
+use std::alloc::AllocError;
 
 /// What to do next at a path: close it by a leaf, split a unit's atom, split another atom, or
 /// nothing is left.
@@ -121,4 +124,41 @@ pub fn next_at(
             None => Pick::Leaf,
         },
     }
+}
+
+/// Whether a clause or a unit is false.
+fn is_refuted(f: &Clauses, set: &[bool], i: &Index, trail: &Trail, mark: &Mark) -> bool
+    requires { IsReady (formula_of f.now) (has set.now) i.now trail.now.decisions.items mark.now }
+    ensures { result ≡ any_false trail.now.decisions.items ((formula_of f.now).clauses ++ units_of (formula_of f.now) (has set.now)) }
+{
+    let last = row_at(i, trail, trail.decisions.len());
+    match first_false(f, set, trail, last) {
+        Some(_) => true,
+        None => false,
+    }
+}
+
+/// Whether a clause or a unit is false where one more atom is decided. The path stays as it is.
+pub fn fails(
+    f: &Clauses,
+    set: &[bool],
+    i: &Index,
+    trail: &mut Trail,
+    mark: &Mark,
+    a: usize,
+    s: bool,
+) -> Result<bool, AllocError>
+    requires named { IsIndex (formula_of f.now) (has set.now) i.now }
+    requires fine { any_false trail.old.decisions.items ((formula_of f.now).clauses ++ units_of (formula_of f.now) (has set.now)) ≡ false }
+    requires mark { IsMark (formula_of f.now) (has set.now) i.now trail.old.decisions.items mark.now }
+    requires there { a < length trail.old.counts.items }
+    ensures stays { OnOk result (trail.new.decisions.items ≡ trail.old.decisions.items) }
+    ensures sized { OnOk result (length trail.new.counts.items ≡ length trail.old.counts.items) }
+    ensures told { IfOk result (λ yes. yes ≡ any_false (trail.old.decisions.items ++ (Atom a s ∷ [])) ((formula_of f.now).clauses ++ units_of (formula_of f.now) (has set.now))) }
+{
+    let depth = trail.decisions.len();
+    decide(trail, Decision::Atom(a, s))?;
+    let yes = is_refuted(f, set, i, trail, mark);
+    undo_to(trail, depth);
+    Ok(yes)
 }

@@ -1,4 +1,4 @@
-use Rattle.std.proofs.Common.{◌≡◌, ℕ, zero, suc, ◌+◌, ◌/◌, ◌%◌, ◌≤◌, ◌==◌, ◌&&◌, Bool, true, false, List, [], ◌∷◌, ◌++◌, Option, Some, None, if◌then◌else◌, nat_lt, nat_le, codes, count_by, length, ℤ, pos, negsuc, arith, refl}
+use Rattle.std.proofs.Common.{◌≡◌, ℕ, zero, suc, ◌+◌, ◌/◌, ◌%◌, ◌≤◌, ◌==◌, ◌&&◌, Bool, true, false, List, [], ◌∷◌, ◌++◌, Option, Some, None, if◌then◌else◌, nat_lt, nat_le, codes, length, ℤ, pos, negsuc, arith, refl}
 use Rattle.std.proofs.lemmas.Bool.{and_parts, leb-true}
 use Rattle.std.specs.Fmt.{decimal, signed_decimal, digits, digits_onto, digit_glyph}
 use Rattle.bg_base.specs.declared.exact.Op.{Op}
@@ -8,7 +8,7 @@ use Rattle.bg_tree.specs.declared.outcome.Beyond.{Beyond}
 use Rattle.bg_tree.specs.declared.outcome.Beyond.TheVariants.{Elimination, Value}
 use Rattle.bg_tree.specs.declared.outcome.Why.{Why}
 use Rattle.bg_tree.specs.declared.outcome.Why.TheVariants.{Nodes, Rows, Range}
-use Rattle.bg_told.specs.Kept.{is_inner, operator_text, operation_text, beyond_text, kept_text, why_text, cause_text}
+use Rattle.bg_told.specs.Kept.{operator_text, operation_text, beyond_text, kept_text, why_text, cause_text}
 use Rattle.bg_base.specs.declared.pos.Pos.{Pos}
 use Rattle.bg_places.specs.declared.place.Spot.{Spot}
 use Rattle.bg_places.specs.declared.place.Spot.TheVariants.{Assert, Entry, Turn, Call, Return}
@@ -141,13 +141,13 @@ pub record IsCauseText (text : List ℕ) : Type 0 where
   pub kept_flat : IsFlat kept
 
 why_parts : (why : Why) → IsCauseText (why_text why)
-why_parts (Nodes parts) =
+why_parts (Nodes parts budget) =
     record {
       word = codes "nodes";
-      kept = decimal (count_by is_inner parts.items);
+      kept = decimal budget;
       is = refl;
       word_flat = refl;
-      kept_flat = decimal_is_flat (count_by is_inner parts.items);
+      kept_flat = decimal_is_flat budget;
     }
 why_parts (Rows path o) =
     record {

@@ -1,12 +1,9 @@
 -- What is told of a place that is left unknown.
-use Rattle.std.specs.Prelude.{ℕ, Bool, true, false, List, [], ◌++◌, codes, count_by, length}
+use Rattle.std.specs.Prelude.{ℕ, List, ◌++◌, codes, length}
 use Rattle.std.specs.Fmt.{decimal, signed_decimal}
 use Rattle.bg_base.specs.declared.exact.Op.{Op}
 use Rattle.bg_base.specs.declared.exact.Op.TheVariants.{Plus, Minus, Times, Negate}
 use Rattle.bg_base.specs.declared.exact.OutOfRange.{OutOfRange}
-use Rattle.bg_cert.specs.declared.cert.Node.TheVariants.{Split}
-use Rattle.bg_tree.specs.declared.part.Part.{Part}
-use Rattle.bg_tree.specs.declared.part.Part.TheVariants.{Plain, Bound}
 use Rattle.bg_tree.specs.declared.outcome.Beyond.{Beyond}
 use Rattle.bg_tree.specs.declared.outcome.Beyond.TheVariants.{Elimination, Value}
 use Rattle.bg_tree.specs.declared.outcome.Why.{Why}
@@ -14,12 +11,6 @@ use Rattle.bg_tree.specs.declared.outcome.Why.TheVariants.{Nodes, Rows, Range}
 use Rattle.bg_check.specs.declared.verdict.Cause.{Cause}
 use Rattle.bg_check.specs.declared.verdict.Cause.TheVariants.{Search, Form, Replay}
 use Rattle.bg_told.specs.Lines.{line}
-
--- whether a part of a tree has children
-abbrev pub is_inner : Part → Bool
-is_inner (Plain (Split a)) = true
-is_inner (Bound k) = true
-is_inner _ = false
 
 abbrev pub operator_text : Op → List ℕ
 operator_text Plus = codes "+"
@@ -35,13 +26,13 @@ abbrev pub beyond_text : Beyond → List ℕ
 beyond_text (Elimination o further) = operation_text further.operation
 beyond_text (Value o spots far) = operation_text far.operation
 
--- a cause in the place's line, and what is kept: the number of inner nodes, or of rows, or the operation
+-- a cause in the place's line, and what is kept: the budget of nodes, or the number of rows, or the operation
 abbrev pub kept_text : List ℕ → List ℕ → List ℕ
 kept_text word kept = line (codes " " ++ word) ++ line (codes "    kept " ++ kept)
 
 -- where the search ends
 abbrev pub why_text : Why → List ℕ
-why_text (Nodes parts) = kept_text (codes "nodes") (decimal (count_by is_inner parts.items))
+why_text (Nodes parts budget) = kept_text (codes "nodes") (decimal budget)
 why_text (Rows path o) = kept_text (codes "rows") (decimal (length o.reasons.items))
 why_text (Range path beyond) = kept_text (codes "range") (beyond_text beyond)
 

@@ -1,25 +1,14 @@
 //! What is kept of a place that is left unknown.
-ghost use Rattle.std.specs.Prelude.{◌≡◌, ◌++◌, OnOk, count_by, codes, length};
+ghost use Rattle.std.specs.Prelude.{◌≡◌, ◌++◌, OnOk, codes, length};
 ghost use Rattle.std.specs.Fmt.{decimal};
-ghost use Rattle.bg_told.specs.Kept.{is_inner, operator_text, operation_text, beyond_text, kept_text, why_text, cause_text};
+ghost use Rattle.bg_told.specs.Kept.{operator_text, operation_text, beyond_text, kept_text, why_text, cause_text};
 
 use crate::put::{put_integer, put_number};
 use bg_base::{Op, OutOfRange};
-use bg_cert::Node;
 use bg_check::Cause;
 use bg_elim::Order;
-use bg_tree::{Beyond, Part, Why};
+use bg_tree::{Beyond, Why};
 use std::alloc::AllocError;
-
-/// How many inner nodes a tree has that is not finished.
-fn inner(parts: &[Part]) -> usize
-    ensures { result ≡ count_by is_inner parts.now }
-{
-    parts
-        .iter()
-        .filter(|part| matches!(part, Part::Plain(Node::Split(_)) | Part::Bound(_)))
-        .count()
-}
 
 fn put_operator(out: &mut Vec<u8>, op: Op) -> Result<(), AllocError>
     ensures { OnOk result (out.new.items ≡ out.old.items ++ operator_text op) }
@@ -52,11 +41,11 @@ fn put_beyond(out: &mut Vec<u8>, beyond: &Beyond) -> Result<(), AllocError>
     }
 }
 
-fn put_nodes(out: &mut Vec<u8>, parts: &[Part]) -> Result<(), AllocError>
-    ensures { OnOk result (out.new.items ≡ out.old.items ++ kept_text (codes "nodes") (decimal (count_by is_inner parts.now))) }
+fn put_nodes(out: &mut Vec<u8>, budget: u32) -> Result<(), AllocError>
+    ensures { OnOk result (out.new.items ≡ out.old.items ++ kept_text (codes "nodes") (decimal budget)) }
 {
     out.extend_from_slice(b" nodes\n    kept ")?;
-    put_number(out, inner(parts))?;
+    put_number(out, budget as usize)?;
     out.push(b'\n')?;
     Ok(())
 }
@@ -101,7 +90,7 @@ fn put_why(out: &mut Vec<u8>, why: &Why) -> Result<(), AllocError>
     ensures { OnOk result (out.new.items ≡ out.old.items ++ why_text why.now) }
 {
     match why {
-        Why::Nodes(parts) => put_nodes(out, parts),
+        Why::Nodes(_, budget) => put_nodes(out, *budget),
         Why::Rows(_, order) => put_rows(out, order),
         Why::Range(_, beyond) => put_range(out, beyond),
     }

@@ -33,7 +33,7 @@ type Told<'a> = (Spot, Option<u32>, (u32, u32), Option<(u32, u32)>, Known<'a>);
 enum Known<'a> {
     Proved,
     Refuted(&'a [Scalar], &'a [Scalar], &'a [Choice]),
-    Unknown(&'a [Kind]),
+    Unknown(&'a [Kind], u32),
     Filled(&'a [Reason]),
     Beyond(OutOfRange, bool),
     Form(OutOfRange),
@@ -144,9 +144,10 @@ fn verdict(alloc: Global, known: Known) -> Result<Verdict, AllocError> {
             frame: frame.to_vec(alloc)?,
             choices: choices.to_vec(alloc)?,
         })),
-        Known::Unknown(kinds) => Ok(Verdict::Unknown(Cause::Search(Why::Nodes(parts(
-            alloc, kinds,
-        )?)))),
+        Known::Unknown(kinds, budget) => {
+            let all = parts(alloc, kinds)?;
+            Ok(Verdict::Unknown(Cause::Search(Why::Nodes(all, budget))))
+        }
         Known::Filled(reasons) => {
             let order = order(alloc, reasons)?;
             Ok(Verdict::Unknown(Cause::Search(Why::Rows(Vec::new(alloc), order))))
@@ -326,7 +327,7 @@ const SPENT: Case = (
         None,
         (3, 3),
         None,
-        Known::Unknown(&[Kind::Split, Kind::Open, Kind::Open]),
+        Known::Unknown(&[Kind::Split, Kind::Open, Kind::Open], 1),
     )],
 );
 
@@ -349,7 +350,7 @@ const GUARDED: Case = (
             Some(1),
             (2, 17),
             None,
-            Known::Unknown(&[Kind::Open]),
+            Known::Unknown(&[Kind::Open], 0),
         ),
     ],
 );
@@ -396,22 +397,25 @@ const MIXED: Case = (
             None,
             (1, 40),
             Some((6, 7)),
-            Known::Unknown(&[
-                Kind::Split,
-                Kind::Bound,
-                Kind::Clause,
-                Kind::Open,
-                Kind::Split,
-                Kind::Unit,
-                Kind::Rows,
-            ]),
+            Known::Unknown(
+                &[
+                    Kind::Split,
+                    Kind::Bound,
+                    Kind::Clause,
+                    Kind::Open,
+                    Kind::Split,
+                    Kind::Unit,
+                    Kind::Rows,
+                ],
+                3,
+            ),
         ),
         (
             Spot::Return(0, 3),
             None,
             (1, 60),
             None,
-            Known::Unknown(&[Kind::Open]),
+            Known::Unknown(&[Kind::Open], 0),
         ),
     ],
 );

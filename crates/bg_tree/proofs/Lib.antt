@@ -8,3 +8,5 @@ pub mod Leaves
 pub mod Idle
 pub mod Sided
 pub mod Distant
+pub mod Books
+pub mod Shapes

@@ -2,6 +2,9 @@ pub mod Once
 pub mod Gaps
 pub mod Ways
 pub mod Ends
+pub mod Counts
+pub mod Shapes
+pub mod Books
 pub mod Trees
 pub mod Wide
 pub mod Far

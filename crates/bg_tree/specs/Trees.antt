@@ -1,5 +1,5 @@
 -- The trees that the search makes.
-use Rattle.std.specs.Prelude.{◌≡◌, ℕ, ◌+◌, ◌-◌, ◌*◌, ◌<◌, Bool, true, false, List, [], ◌∷◌, ◌++◌, map, reverse, Option, Some, None}
+use Rattle.std.specs.Prelude.{◌≡◌, ℕ, ◌+◌, ◌-◌, ◌*◌, ◌^◌, ◌<◌, ◌⊎◌, Bool, true, false, List, [], ◌∷◌, ◌++◌, map, reverse, Option, Some, None}
 use Rattle.bg_formula.specs.Formulas.{Formula}
 use Rattle.bg_cert.specs.declared.cert.Node.TheVariants.{Split}
 use Rattle.bg_cert.specs.declared.cert.Decision.TheVariants.{Atom, AtMost}
@@ -24,6 +24,8 @@ use Rattle.bg_tree.specs.declared.outcome.Outcome.TheVariants.{Closed, Leaf, Unk
 pub use Rattle.bg_tree.specs.Ways.{IsFine, IsSplit, IsBound}
 use Rattle.bg_tree.specs.Ways.{ArePaths, IsEndOf}
 use Rattle.bg_tree.specs.Ends.{IsBeyond, IsHalt, IsLeaf}
+use Rattle.bg_tree.specs.Counts.{Alone, counted, IsUsedUp}
+use Rattle.bg_tree.specs.Books.{besides, value, IsBook, IsLate}
 
 -- the parts are one tree for each path, with n inner nodes together, and an open leaf where none was `seen` before
 abbrev pub AreTrees : Formula → (ℕ → Bool) → ℕ → Bool → List PathOf → List Part → Type 0
@@ -46,10 +48,11 @@ nodes_of (Open ∷ rest) = nodes_of rest
 nodes_of (Plain n ∷ rest) = node_of n ∷ nodes_of rest
 nodes_of (Bound k ∷ rest) = Bounds k.gap.variable k.gap.below ∷ nodes_of rest
 
--- what is kept of a formula with the units of a set that is left unknown: a tree of the budget's inner nodes; or a path that a
+-- what is kept of a formula with the units of a set that is left unknown: a tree that uses the budget of nodes up; or a path that a
 -- search may go, which decides every atom and makes nothing false, with the budget's number of rows, or an operation that leaves the range
 abbrev pub IsCause : Formula → (ℕ → Bool) → Budget → Why → Type 0
-IsCause f set budget (Nodes parts) = AreTrees f set budget.nodes false (root f ∷ []) parts.items
+IsCause f set budget (Nodes parts kept) =
+    (kept ≡ budget.nodes) × (n : ℕ) × (AreTrees f set n false (root f ∷ []) parts.items × IsUsedUp budget.nodes n (counted (Alone ∷ []) parts.items))
 IsCause f set budget (Rows path o) =
     IsEndOf f set path.items × FillBudget (rows_on f.atoms path.items) budget.rows o.variables.items o.reasons.items
 IsCause f set budget (Range path beyond) =
@@ -69,7 +72,24 @@ OthersReady f set i walk guide = AllReady f set i (others_of f walk) (reverse gu
 
 -- what bounds the steps
 abbrev pub work : Search → ℕ
-work s = 2 * s.left + paths_open s.walk
+work s = 2 * s.inner + paths_open s.walk
+
+abbrev pub inner_of : Part → ℕ
+inner_of Open = 0
+inner_of (Plain (Split a)) = 1
+inner_of (Plain leaf) = 0
+inner_of (Bound k) = 1
+
+-- no more nodes can count, or there can be no more inner ones
+abbrev pub IsSpent : Search → Type 0
+IsSpent s = (s.book.left ≡ 0) ⊎ (s.inner ≡ 0)
+
+-- the search knows which nodes may count yet; once a leaf was left open, none may, and all that waits are second children
+pub record KeepsCount (f : Formula) (set : ℕ → Bool) (s : Search) : Type 0 where
+  pub book : IsBook f set (stack_of f s.walk) s.book
+  pub small : value s.book < 2 ^ 32
+  pub spent : s.seen ≡ true → IsSpent s
+  pub late : s.seen ≡ true → IsLate (stack_of f s.walk) s.book.head
 
 -- what follows a part is accepted for the paths behind it exactly where it is with the part for those before it
 abbrev pub Continues : Formula → (ℕ → Bool) → Search → Search → Part → Type 0
@@ -83,11 +103,25 @@ pub record Moves (f : Formula) (set : ℕ → Bool) (old new : Search) : Type 0 
   pub sized : atoms_on new.walk ≡ atoms_on old.walk
   pub part : Part
   pub made : new.parts.items ≡ old.parts.items ++ (part ∷ [])
-  pub tells : (rest : List Part) → AreTrees f set new.left new.seen (stack_of f new.walk) rest → AreTrees f set old.left old.seen (stack_of f old.walk) (part ∷ rest)
+  pub tells : (n : ℕ) (rest : List Part) → AreTrees f set n new.seen (stack_of f new.walk) rest → AreTrees f set (n + inner_of part) old.seen (stack_of f old.walk) (part ∷ rest)
+  pub inner : new.inner + inner_of part ≡ old.inner
+  pub counts : (rest : List Part) → counted (besides (stack_of f old.walk) old.book) (part ∷ rest) + value new.book ≡ counted (besides (stack_of f new.walk) new.book) rest + value old.book
   pub whole : new.seen ≡ false → Continues f set old new part
   pub paths : ArePaths f set (stack_of f old.walk) → ArePaths f set (stack_of f new.walk)
   pub smaller : work new < work old
-  pub spent : (old.seen ≡ true → old.left ≡ 0) → new.seen ≡ true → new.left ≡ 0
+  pub kept : KeepsCount f set new
+
+-- a look at what another decision makes false changes nothing
+pub record IsSame (old new : Search) : Type 0 where
+  pub walks : IsWalk new.walk
+  pub sized : atoms_on new.walk ≡ atoms_on old.walk
+  pub decided : decided_on new.walk ≡ decided_on old.walk
+  pub waiting : new.walk.waiting ≡ old.walk.waiting
+  pub is_open : new.walk.is_open ≡ old.walk.is_open
+  pub parts : new.parts ≡ old.parts
+  pub inner : new.inner ≡ old.inner
+  pub book : new.book ≡ old.book
+  pub seen : new.seen ≡ old.seen
 
 -- a step: nothing changed at the end, else one more part
 abbrev pub Steps : Formula → (ℕ → Bool) → ℕ → Search → Search → Option Halt → Type 0

@@ -1,10 +1,13 @@
 //! The search.
-ghost use Rattle.std.specs.Prelude.{◌≡◌, IfOk, true};
-ghost use Rattle.bg_formula.specs.Formulas.{formula_of, is_whole};
-ghost use Rattle.bg_cert.specs.Walks.{has};
+ghost use Rattle.std.specs.Prelude.{◌≡◌, ◌<◌, ◌*◌, ◌^◌, ◌∷◌, [], IfOk, true, false};
+ghost use Rattle.bg_formula.specs.Formulas.{Formula, formula_of, is_whole};
+ghost use Rattle.bg_cert.specs.Certs.{root};
+ghost use Rattle.bg_cert.specs.Walks.{IsWalk, atoms_on, stack_of, has};
+ghost use Rattle.bg_tree.specs.declared.book.Head.TheVariants.{First};
 ghost use Rattle.bg_pick.specs.Index.{IsIndex};
 ghost use Rattle.bg_tree.specs.Trees.{IsOutcome};
 
+use crate::book::{Book, Head};
 use crate::outcome::{Budget, Outcome, Why, outcome_of};
 use crate::step::{Aids, Search, step};
 use crate::whole::whole;
@@ -13,6 +16,34 @@ use bg_conflict::new_ledger;
 use bg_formula::Clauses;
 use bg_pick::{Index, first_guide, index_of, new_probe};
 use std::alloc::{AllocError, Global};
+
+/// The search at the root, over so many atoms, where so many nodes may count.
+fn first_search(alloc: Global, atoms: usize, nodes: u32) -> Result<Search, AllocError>
+    ensures walks { IfOk result (λ s. IsWalk s.walk) }
+    ensures sized { IfOk result (λ s. atoms_on s.walk ≡ atoms) }
+    ensures stack { IfOk result (λ s. (f : Formula) → stack_of f s.walk ≡ root f ∷ []) }
+    ensures parts { IfOk result (λ s. s.parts.items ≡ []) }
+    ensures inner { IfOk result (λ s. s.inner ≡ 20 * nodes) }
+    ensures left { IfOk result (λ s. s.book.left ≡ nodes) }
+    ensures small { IfOk result (λ s. s.book.left < 2 ^ 32) }
+    ensures head { IfOk result (λ s. s.book.head ≡ First) }
+    ensures owed { IfOk result (λ s. s.book.owed.items ≡ []) }
+    ensures seen { IfOk result (λ s. s.seen ≡ false) }
+{
+    let inner = u64::from(nodes) * 20;
+    let walk = first_walk(alloc, atoms)?;
+    Ok(Search {
+        walk,
+        parts: Vec::new(alloc),
+        inner,
+        book: Book {
+            left: nodes,
+            head: Head::First,
+            owed: Vec::new(alloc),
+        },
+        seen: false,
+    })
+}
 
 /// The search, where the index of the formula is made.
 fn searched(
@@ -27,12 +58,7 @@ fn searched(
     requires named { IsIndex (formula_of f.now) (has set.now) i.now }
     ensures { IfOk result (λ outcome. IsOutcome (formula_of f.now) (has set.now) budget outcome) }
 {
-    let mut s = Search {
-        walk: first_walk(alloc, f.atoms.len())?,
-        parts: Vec::new(alloc),
-        left: budget.nodes,
-        seen: false,
-    };
+    let mut s = first_search(alloc, f.atoms.len(), budget.nodes)?;
     let mut guide = first_guide(alloc);
     while s.walk.is_open {
         if let Some(halt) = step(alloc, f, set, i, &mut s, &mut guide, aids, budget.rows)? {
@@ -40,7 +66,7 @@ fn searched(
         }
     }
     if s.seen {
-        Ok(Outcome::Unknown(Why::Nodes(s.parts)))
+        Ok(Outcome::Unknown(Why::Nodes(s.parts, budget.nodes)))
     } else {
         Ok(Outcome::Closed(whole(alloc, s.parts)?))
     }

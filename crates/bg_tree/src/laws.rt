@@ -1,8 +1,10 @@
 //! Laws on what the search finds, each the contract of a function that does nothing.
-ghost use Rattle.std.specs.Prelude.{◌≡◌, ℕ, ℤ, ◌<◌, Bool, true, false, List, length, map};
+ghost use Rattle.std.specs.Prelude.{◌≡◌, ℕ, ℤ, ◌<◌, Bool, true, false, List, [], ◌∷◌, length, map};
 ghost use Rattle.bg_rows.specs.Rows.{row_of};
 ghost use Rattle.bg_elim.specs.Answers.{SolvedBy};
 ghost use Rattle.bg_point.specs.Points.{value_of, IsPoint};
+ghost use Rattle.bg_tree.specs.Counts.{Alone, counted};
+ghost use Rattle.bg_tree.specs.Shapes.{Shape, AreLeaves, parts_of, count};
 ghost use Rattle.bg_tree.specs.Far.{doubled, IsFarLeaf};
 ghost use Rattle.bg_formula.specs.Formulas.{Formula, is_whole};
 ghost use Rattle.bg_formula.specs.Atoms.{at};
@@ -63,4 +65,9 @@ pub fn far_points_are_no_leaves()
         IsComplete doubled all leaf.path.items × IsOnce leaf.path.items × SolvedBy (rows_on doubled.atoms leaf.path.items) leaf.order
         × IsPoint leaf.order.variables.items (map row_of leaf.order.rows.items) leaf.spots.items
         × (IsWay doubled all (root doubled) leaf.path.items → ⊥) }
+{}
+
+/// What is counted along the parts of a tree are the nodes of which not exactly one child is a closed leaf.
+pub fn nodes_count_by_their_children()
+    ensures { (t : Shape) → AreLeaves t → counted (Alone ∷ []) (parts_of t) ≡ count t }
 {}

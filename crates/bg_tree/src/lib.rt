@@ -3,6 +3,7 @@
 //! leaves 128 bits.
 #![tactic(auto)]
 
+mod book;
 mod find;
 pub mod laws;
 mod outcome;
@@ -13,6 +14,7 @@ mod step;
 mod tests;
 mod whole;
 
+pub use book::{Book, Head};
 pub use find::search;
 pub use outcome::{Beyond, Budget, End, Halt, Leaf, Outcome, Why};
 pub use part::{Kept, Part};

@@ -52,8 +52,9 @@ pub enum End {
 /// Why the search finds neither a certificate nor a complete leaf.
 #[derive(Debug, Drop)]
 pub enum Why {
-    /// A tree with exactly the budget's inner nodes and an open leaf.
-    Nodes(Vec<Part>),
+    /// A tree with an open leaf, in which exactly the budget's number of nodes counts, or which has 20 times as many inner nodes;
+    /// and the budget.
+    Nodes(Vec<Part>, u32),
     /// A path that decides every atom and makes nothing false, of whose rows as many different ones
     /// were kept as the budget says.
     Rows(Vec<Decision>, Order),

@@ -9,25 +9,29 @@ ghost use Rattle.bg_pick.specs.Index.{IsIndex};
 ghost use Rattle.bg_pick.specs.Marks.{marks_of, IsMark, AllReady};
 ghost use Rattle.bg_pick.specs.Picks.{MaySplit, IsComplete};
 ghost use Rattle.bg_tree.specs.Ways.{ArePaths};
-ghost use Rattle.bg_tree.specs.Trees.{OthersReady, IsBound, Moves, Steps};
+ghost use Rattle.bg_tree.specs.declared.book.Head.TheVariants.{Due};
+ghost use Rattle.bg_tree.specs.Books.{IsOwed, is_paid};
+ghost use Rattle.bg_tree.specs.Trees.{OthersReady, IsBound, IsSpent, KeepsCount, IsSame, Moves, Steps};
 
+use crate::book::{Book, Head, owe, pass};
 use crate::outcome::{End, Halt};
 use crate::part::{Kept, Part};
 use crate::settle::{refuted, settle};
 use bg_cert::{Decision, Node, Walk, close, open_both};
 use bg_conflict::Ledger;
 use bg_formula::Clauses;
-use bg_pick::{Guide, Index, Pick, Probe, go_on, next_at, split};
+use bg_pick::{Guide, Index, Mark, Pick, Probe, fails, go_on, next_at, split};
 use bg_point::Gap;
 use std::alloc::{AllocError, Global};
 
-/// The search's state: the paths, the tree so far, the inner nodes that are left, and whether a
-/// leaf was left open.
+/// The search's state: the paths, the tree so far, the inner nodes that are left, which of them may
+/// count, and whether a leaf was left open.
 #[derive(Debug, Drop)]
 pub struct Search {
     pub walk: Walk,
     pub parts: Vec<Part>,
-    pub left: u32,
+    pub inner: u64,
+    pub book: Book,
     pub seen: bool,
 }
 
@@ -42,37 +46,51 @@ pub struct Aids {
 fn emit_leaf(f: &Clauses, set: &[bool], s: &mut Search, node: Node) -> Result<(), AllocError>
     requires is_walk { IsWalk s.old.walk }
     requires is_open { IsTrue s.old.walk.is_open }
+    requires kept { KeepsCount (formula_of f.now) (has set.now) s.old }
+    requires due { s.old.seen ≡ true → s.old.book.head ≡ Due }
     requires holds { closes (formula_of f.now) (has set.now) (path_of (formula_of f.now) (decided_on s.old.walk)) (node_of node) ≡ true }
     ensures moves { OnOk result (Moves (formula_of f.now) (has set.now) s.old s.new) }
     ensures stack { OnOk result (stack_of (formula_of f.now) s.new.walk ≡ others_of (formula_of f.now) s.old.walk) }
 {
     s.parts.push(Part::Plain(node))?;
     close(&mut s.walk)?;
+    pass(&mut s.book, true);
     Ok(())
 }
 
-/// Leaves the open path open, where no inner node is left.
+/// Leaves the open path open, where no node is left.
 fn emit_open(f: &Clauses, set: &[bool], s: &mut Search) -> Result<(), AllocError>
     requires is_walk { IsWalk s.old.walk }
     requires is_open { IsTrue s.old.walk.is_open }
     requires is_fine { any_false (decided_on s.old.walk) ((formula_of f.now).clauses ++ units_of (formula_of f.now) (has set.now)) ≡ false }
-    requires is_spent { s.old.left ≡ 0 }
+    requires kept { KeepsCount (formula_of f.now) (has set.now) s.old }
+    requires is_spent { IsSpent s.old }
     ensures moves { OnOk result (Moves (formula_of f.now) (has set.now) s.old s.new) }
     ensures stack { OnOk result (stack_of (formula_of f.now) s.new.walk ≡ others_of (formula_of f.now) s.old.walk) }
 {
     s.parts.push(Part::Open)?;
     close(&mut s.walk)?;
+    pass(&mut s.book, false);
     s.seen = true;
     Ok(())
 }
 
-/// Splits an atom by the rule.
-fn emit_split(f: &Clauses, set: &[bool], s: &mut Search, a: usize) -> Result<(), AllocError>
+/// Splits an atom by the rule. The node is paid for, or its second child is false.
+fn emit_split(
+    f: &Clauses,
+    set: &[bool],
+    s: &mut Search,
+    a: usize,
+    is_paid: bool,
+) -> Result<(), AllocError>
     requires is_walk { IsWalk s.old.walk }
     requires is_open { IsTrue s.old.walk.is_open }
     requires is_sized { atoms_on s.old.walk ≡ length f.now.atoms.items }
     requires may { MaySplit (formula_of f.now) (has set.now) (decided_on s.old.walk) a }
-    requires is_left { 0 < s.old.left }
+    requires kept { KeepsCount (formula_of f.now) (has set.now) s.old }
+    requires is_left { 0 < s.old.book.left }
+    requires is_inner { 0 < s.old.inner }
+    requires owed { IsOwed (formula_of f.now) (has set.now) (path_of (formula_of f.now) (decided_on s.old.walk ++ (Atom a false ∷ []))) is_paid }
     ensures moves { OnOk result (Moves (formula_of f.now) (has set.now) s.old s.new) }
     ensures stack { OnOk result (stack_of (formula_of f.now) s.new.walk ≡ path_of (formula_of f.now) (decided_on s.old.walk ++ (Atom a true ∷ [])) ∷ path_of (formula_of f.now) (decided_on s.old.walk ++ (Atom a false ∷ [])) ∷ others_of (formula_of f.now) s.old.walk) }
 {
@@ -82,7 +100,8 @@ fn emit_split(f: &Clauses, set: &[bool], s: &mut Search, a: usize) -> Result<(),
         Decision::Atom(a, true),
         Decision::Atom(a, false),
     )?;
-    s.left -= 1;
+    owe(&mut s.book, is_paid)?;
+    s.inner -= 1;
     Ok(())
 }
 
@@ -98,16 +117,19 @@ fn emit_bound(f: &Clauses, set: &[bool], s: &mut Search, kept: Kept) -> Result<(
     requires is_walk { IsWalk s.old.walk }
     requires is_open { IsTrue s.old.walk.is_open }
     requires may { IsBound (formula_of f.now) (has set.now) (path_of (formula_of f.now) (decided_on s.old.walk)) kept }
-    requires is_left { 0 < s.old.left }
+    requires kept { KeepsCount (formula_of f.now) (has set.now) s.old }
+    requires is_left { 0 < s.old.book.left }
+    requires is_inner { 0 < s.old.inner }
     ensures moves { OnOk result (Moves (formula_of f.now) (has set.now) s.old s.new) }
     ensures stack { OnOk result (stack_of (formula_of f.now) s.new.walk ≡ path_of (formula_of f.now) (decided_on s.old.walk ++ (AtMost kept.gap.variable kept.gap.below true ∷ [])) ∷ path_of (formula_of f.now) (decided_on s.old.walk ++ (AtMost kept.gap.variable kept.gap.below false ∷ [])) ∷ others_of (formula_of f.now) s.old.walk) }
 {
-    let left = s.left - 1;
+    let inner = s.inner - 1;
     let first = at_gap(&kept.gap, true);
     let second = at_gap(&kept.gap, false);
     s.parts.push(Part::Bound(kept))?;
     open_both(&mut s.walk, first, second)?;
-    s.left = left;
+    owe(&mut s.book, true)?;
+    s.inner = inner;
     Ok(())
 }
 
@@ -122,6 +144,8 @@ fn close_by(
 ) -> Result<(), AllocError>
     requires is_walk { IsWalk s.old.walk }
     requires is_open { IsTrue s.old.walk.is_open }
+    requires kept { KeepsCount (formula_of f.now) (has set.now) s.old }
+    requires due { s.old.seen ≡ true → s.old.book.head ≡ Due }
     requires holds { closes (formula_of f.now) (has set.now) (path_of (formula_of f.now) (decided_on s.old.walk)) (node_of node) ≡ true }
     requires others { OthersReady (formula_of f.now) (has set.now) i.now s.old.walk guide.old }
     ensures moves { OnOk result (Moves (formula_of f.now) (has set.now) s.old s.new) }
@@ -132,7 +156,76 @@ fn close_by(
     Ok(())
 }
 
-/// Splits an atom by the rule, or leaves the path open where no inner node is left.
+/// Leaves the open path open, where no node is left, and goes on with the next path and its mark.
+fn leave(
+    f: &Clauses,
+    set: &[bool],
+    i: &Index,
+    s: &mut Search,
+    guide: &mut Guide,
+) -> Result<(), AllocError>
+    requires is_walk { IsWalk s.old.walk }
+    requires is_open { IsTrue s.old.walk.is_open }
+    requires kept { KeepsCount (formula_of f.now) (has set.now) s.old }
+    requires is_fine { any_false (decided_on s.old.walk) ((formula_of f.now).clauses ++ units_of (formula_of f.now) (has set.now)) ≡ false }
+    requires is_spent { IsSpent s.old }
+    requires others { OthersReady (formula_of f.now) (has set.now) i.now s.old.walk guide.old }
+    ensures moves { OnOk result (Moves (formula_of f.now) (has set.now) s.old s.new) }
+    ensures ready { OnOk result (AllReady (formula_of f.now) (has set.now) i.now (stack_of (formula_of f.now) s.new.walk) (marks_of guide.new)) }
+{
+    emit_open(f, set, s)?;
+    go_on(guide);
+    Ok(())
+}
+
+/// Whether a clause or a unit is false where the atom is denied. The search stays as it is.
+fn peek(
+    f: &Clauses,
+    set: &[bool],
+    i: &Index,
+    s: &mut Search,
+    mark: &Mark,
+    a: usize,
+) -> Result<bool, AllocError>
+    requires is_walk { IsWalk s.old.walk }
+    requires is_open { IsTrue s.old.walk.is_open }
+    requires is_sized { atoms_on s.old.walk ≡ length f.now.atoms.items }
+    requires named { IsIndex (formula_of f.now) (has set.now) i.now }
+    requires may { MaySplit (formula_of f.now) (has set.now) (decided_on s.old.walk) a }
+    requires mark { IsMark (formula_of f.now) (has set.now) i.now (decided_on s.old.walk) mark.now }
+    ensures same { OnOk result (IsSame s.old s.new) }
+    ensures told { IfOk result (λ yes. yes ≡ any_false (decided_on s.old.walk ++ (Atom a false ∷ [])) ((formula_of f.now).clauses ++ units_of (formula_of f.now) (has set.now))) }
+{
+    fails(f, set, i, &mut s.walk.trail, mark, a, false)
+}
+
+/// Splits an atom by the rule. A node whose second child is false isn't paid for.
+fn fork(
+    f: &Clauses,
+    set: &[bool],
+    i: &Index,
+    s: &mut Search,
+    mark: &Mark,
+    a: usize,
+) -> Result<(), AllocError>
+    requires is_walk { IsWalk s.old.walk }
+    requires is_open { IsTrue s.old.walk.is_open }
+    requires is_sized { atoms_on s.old.walk ≡ length f.now.atoms.items }
+    requires named { IsIndex (formula_of f.now) (has set.now) i.now }
+    requires may { MaySplit (formula_of f.now) (has set.now) (decided_on s.old.walk) a }
+    requires mark { IsMark (formula_of f.now) (has set.now) i.now (decided_on s.old.walk) mark.now }
+    requires kept { KeepsCount (formula_of f.now) (has set.now) s.old }
+    requires is_left { 0 < s.old.book.left }
+    requires is_inner { 0 < s.old.inner }
+    ensures moves { OnOk result (Moves (formula_of f.now) (has set.now) s.old s.new) }
+    ensures stack { OnOk result (stack_of (formula_of f.now) s.new.walk ≡ path_of (formula_of f.now) (decided_on s.old.walk ++ (Atom a true ∷ [])) ∷ path_of (formula_of f.now) (decided_on s.old.walk ++ (Atom a false ∷ [])) ∷ others_of (formula_of f.now) s.old.walk) }
+{
+    let is_false = peek(f, set, i, s, mark, a)?;
+    emit_split(f, set, s, a, !is_false)?;
+    Ok(())
+}
+
+/// Splits an atom by the rule, or leaves the path open where no node is left.
 fn divide(
     f: &Clauses,
     set: &[bool],
@@ -148,21 +241,20 @@ fn divide(
     requires may { MaySplit (formula_of f.now) (has set.now) (decided_on s.old.walk) a }
     requires mark { IsMark (formula_of f.now) (has set.now) i.now (decided_on s.old.walk) guide.old.mark }
     requires others { OthersReady (formula_of f.now) (has set.now) i.now s.old.walk guide.old }
+    requires kept { KeepsCount (formula_of f.now) (has set.now) s.old }
     ensures moves { OnOk result (Moves (formula_of f.now) (has set.now) s.old s.new) }
     ensures ready { OnOk result (AllReady (formula_of f.now) (has set.now) i.now (stack_of (formula_of f.now) s.new.walk) (marks_of guide.new)) }
 {
-    if s.left == 0 {
-        emit_open(f, set, s)?;
-        go_on(guide);
-        Ok(())
+    if s.inner == 0 || s.book.left == 0 {
+        leave(f, set, i, s, guide)
     } else {
-        emit_split(f, set, s, a)?;
+        fork(f, set, i, s, &guide.mark, a)?;
         split(guide)?;
         Ok(())
     }
 }
 
-/// Splits the bound at a gap, or leaves the path open where no inner node is left.
+/// Splits the bound at a gap, or leaves the path open where no node is left.
 fn halve(
     f: &Clauses,
     set: &[bool],
@@ -176,17 +268,16 @@ fn halve(
     requires may { IsBound (formula_of f.now) (has set.now) (path_of (formula_of f.now) (decided_on s.old.walk)) kept }
     requires mark { IsMark (formula_of f.now) (has set.now) i.now (decided_on s.old.walk) guide.old.mark }
     requires others { OthersReady (formula_of f.now) (has set.now) i.now s.old.walk guide.old }
+    requires kept { KeepsCount (formula_of f.now) (has set.now) s.old }
     ensures moves { OnOk result (Moves (formula_of f.now) (has set.now) s.old s.new) }
     ensures ready { OnOk result (AllReady (formula_of f.now) (has set.now) i.now (stack_of (formula_of f.now) s.new.walk) (marks_of guide.new)) }
 {
-    if s.left > 0 {
+    if s.inner > 0 && s.book.left > 0 {
         emit_bound(f, set, s, kept)?;
         split(guide)?;
         Ok(())
     } else {
-        emit_open(f, set, s)?;
-        go_on(guide);
-        Ok(())
+        leave(f, set, i, s, guide)
     }
 }
 
@@ -204,6 +295,8 @@ fn finish(
     requires is_open { IsTrue s.old.walk.is_open }
     requires whole { is_whole (formula_of f.now) ≡ true }
     requires complete { IsComplete (formula_of f.now) (has set.now) (decided_on s.old.walk) }
+    requires kept { KeepsCount (formula_of f.now) (has set.now) s.old }
+    requires unseen { s.old.seen ≡ false }
     requires mark { IsMark (formula_of f.now) (has set.now) i.now (decided_on s.old.walk) guide.old.mark }
     requires others { OthersReady (formula_of f.now) (has set.now) i.now s.old.walk guide.old }
     requires paths { ArePaths (formula_of f.now) (has set.now) (stack_of (formula_of f.now) s.old.walk) }
@@ -243,6 +336,8 @@ fn advance(
     requires may { MaySplit (formula_of f.now) (has set.now) (decided_on s.old.walk) a }
     requires mark { IsMark (formula_of f.now) (has set.now) i.now (decided_on s.old.walk) guide.old.mark }
     requires others { OthersReady (formula_of f.now) (has set.now) i.now s.old.walk guide.old }
+    requires kept { KeepsCount (formula_of f.now) (has set.now) s.old }
+    requires unseen { s.old.seen ≡ false }
     ensures moves { OnOk result (Moves (formula_of f.now) (has set.now) s.old s.new) }
     ensures ready { OnOk result (AllReady (formula_of f.now) (has set.now) i.now (stack_of (formula_of f.now) s.new.walk) (marks_of guide.new)) }
 {
@@ -252,7 +347,18 @@ fn advance(
     }
 }
 
-/// One step. Where nothing is left to decide, nothing is false and the rows tell no more, why the
+/// Whether the open path is a second child whose node is paid for.
+fn is_paid(book: &Book) -> bool
+    ensures { result ≡ is_paid book.now.head }
+{
+    match book.head {
+        Head::Paid => true,
+        _ => false,
+    }
+}
+
+/// One step. Once a leaf was left open, each path that waits is closed by what is false on it, or left open too: so the nodes that
+/// count stay as many as they are. Where nothing is left to decide, nothing is false and the rows tell no more, why the
 /// search ends.
 pub fn step(
     alloc: Global,
@@ -270,10 +376,15 @@ pub fn step(
     requires whole { is_whole (formula_of f.now) ≡ true }
     requires named { IsIndex (formula_of f.now) (has set.now) i.now }
     requires ready { AllReady (formula_of f.now) (has set.now) i.now (stack_of (formula_of f.now) s.old.walk) (marks_of guide.old) }
+    requires kept { KeepsCount (formula_of f.now) (has set.now) s.old }
     requires paths { ArePaths (formula_of f.now) (has set.now) (stack_of (formula_of f.now) s.old.walk) }
     ensures steps { IfOk result (λ halt. Steps (formula_of f.now) (has set.now) rows s.old s.new halt) }
     ensures ready { IfOk result (λ halt. halt ≡ None → AllReady (formula_of f.now) (has set.now) i.now (stack_of (formula_of f.now) s.new.walk) (marks_of guide.new)) }
 {
+    if s.seen && is_paid(&s.book) {
+        leave(f, set, i, s, guide)?;
+        return Ok(None);
+    }
     match next_at(f, set, i, &s.walk.trail, &mut guide.mark, &mut aids.probe) {
         Pick::Close(node) => {
             close_by(f, set, i, s, guide, node)?;

@@ -85,7 +85,7 @@ fn leaves_and_budgets(rt: HostRuntime) -> Result<(), Fail> {
         _ => return Err("no leaf".into()),
     }
     match found(alloc, &f, &[], 1)? {
-        Outcome::Unknown(Why::Nodes(parts)) => assert!(rt; parts.len() == 3),
+        Outcome::Unknown(Why::Nodes(parts, _)) => assert!(rt; parts.len() == 3),
         _ => return Err("no budget".into()),
     }
     Ok(())
@@ -143,6 +143,25 @@ fn ways_that_meet_again_are_searched_once(rt: HostRuntime) -> Result<(), Fail> {
         Outcome::Closed(nodes) => assert!(rt; accepts(alloc, &f, &[], &nodes)?),
         _ => return Err("no certificate".into()),
     }
+    Ok(())
+}
+
+/// Four clauses over two variables take three nodes that count: the root, and on both sides a split whose children are both closed.
+/// A conflict that would pass the budget is left open.
+#[test]
+fn nodes_that_count(rt: HostRuntime) -> Result<(), Fail> {
+    let alloc = rt.alloc();
+    let clauses: [&[(u32, bool)]; 4] = [
+        &[(0, true), (1, true)],
+        &[(0, true), (1, false)],
+        &[(0, false), (1, true)],
+        &[(0, false), (1, false)],
+    ];
+    let f = formula(alloc, 2, &clauses, &[])?;
+    assert_eq!(rt; told(alloc, &f, 3, 1000)?, ('c', 7));
+    assert_eq!(rt; told(alloc, &f, 2, 1000)?, ('n', 5));
+    assert_eq!(rt; told(alloc, &f, 1, 1000)?, ('n', 3));
+    assert_eq!(rt; told(alloc, &f, 0, 1000)?, ('n', 1));
     Ok(())
 }
 
@@ -205,7 +224,7 @@ fn told(alloc: Global, f: &Clauses, nodes: u32, rows: u32) -> Result<(char, i128
             Some(spot) => Ok(('l', spot.value)),
             None => Ok(('l', 0)),
         },
-        Outcome::Unknown(Why::Nodes(parts)) => Ok(('n', parts.len() as i128)),
+        Outcome::Unknown(Why::Nodes(parts, _)) => Ok(('n', parts.len() as i128)),
         Outcome::Unknown(Why::Rows(_, order)) => Ok(('r', order.rows.len() as i128)),
         Outcome::Unknown(Why::Range(_, Beyond::Elimination(_, _))) => Ok(('e', 0)),
         Outcome::Unknown(Why::Range(_, Beyond::Value(_, _, _))) => Ok(('v', 0)),
@@ -269,8 +288,8 @@ fn gaps_take_a_bound_where_whole_numbers_are_lost(rt: HostRuntime) -> Result<(),
         ask(&[(1, -1)], 0, true),
     ];
     let f = rows_formula(alloc, 2, &lost, 0)?;
-    assert_eq!(rt; told(alloc, &f, 5, 1000)?, ('c', 11));
-    assert_eq!(rt; told(alloc, &f, 4, 1000)?, ('n', 9));
+    assert_eq!(rt; told(alloc, &f, 1, 1000)?, ('c', 11));
+    assert_eq!(rt; told(alloc, &f, 0, 1000)?, ('n', 1));
     Ok(())
 }
 
@@ -285,7 +304,7 @@ fn rows_have_points_or_leave_the_range(rt: HostRuntime) -> Result<(), Fail> {
     let below = [ask(&[(0, 2)], -5, true), ask(&[(0, 1)], -9, false)];
     let f = rows_formula(alloc, 1, &below, 0)?;
     assert_eq!(rt; told(alloc, &f, 9, 1000)?, ('l', -3));
-    assert_eq!(rt; told(alloc, &f, 1, 1000)?, ('n', 3));
+    assert_eq!(rt; told(alloc, &f, 0, 1000)?, ('n', 1));
     let f = rows_formula(alloc, 0, &[], 3)?;
     assert_eq!(rt; told(alloc, &f, 9, 1)?, ('l', 0));
     let sum = [

@@ -1,10 +1,10 @@
-use Rattle.std.proofs.Common.{◌∙◌, rules}
+use Rattle.std.proofs.Common.{◌∙◌, ◌*◌, refl, rules, arith}
 use Rattle.bg_formula.specs.Formulas.{formula_of}
 use Rattle.bg_cert.specs.Walks.{has}
 use Rattle.bg_tree.specs.Trees.{Moves}
 use Rattle.bg_tree.proofs.Paths.{paths_first}
 use Rattle.bg_tree.proofs.Ends.{halted}
-use Rattle.bg_tree.proofs.Told.{moved, told_more, told_all, whole_more, whole_all}
+use Rattle.bg_tree.proofs.Told.{moved, told_first, told_more, tallied_first, tallied_more, kept_first, told_all, whole_first, whole_more, whole_all}
 use Rattle.bg_pick.proofs.Readies.{first_ready}
 use Rattle.bg_tree.proofs.find.searched.Goals as goal
 
@@ -16,11 +16,13 @@ loop-s-preserved c =
     record {
       walks = m.walks;
       sized = m.sized ∙ c.loop-s.invariant.sized;
-      told = told_more f set c.args.budget.nodes c.loop-s.s c.step.new.s m c.loop-s.invariant.told;
+      told = told_more f set (20 * c.args.budget.nodes) c.loop-s.s c.step.new.s m c.loop-s.invariant.told;
+      tallied = tallied_more f set c.args.budget.nodes c.loop-s.s c.step.new.s m c.loop-s.invariant.tallied;
+      kept = m.kept;
+      within = let i = m.inner in let w = c.loop-s.invariant.within in omega (arith, i, w);
       whole = whole_more f set c.loop-s.s c.step.new.s m c.loop-s.invariant.whole;
       paths = m.paths c.loop-s.invariant.paths;
       ready = c.in_ok-halt.ensures.ready c.in_default.is;
-      spent = m.spent c.loop-s.invariant.spent;
     }
 
 pub returns-in-Some : goal.returns-in-Some
@@ -31,7 +33,8 @@ returns-in-Some c =
 
 pub returns-then-s : goal.returns-then-s
 returns-then-s c =
-    told_all (formula_of c.args.f.now) (has c.args.set.now) c.args.budget.nodes c.loop-s.s c.loop-s.invariant.told c.loop-s-test.false c.if-s.true (c.loop-s.invariant.spent c.if-s.true)
+    let t = told_all (formula_of c.args.f.now) (has c.args.set.now) c.args.budget.nodes c.loop-s.s c.loop-s.invariant.told c.loop-s.invariant.tallied c.loop-s.invariant.kept c.loop-s.invariant.within c.loop-s-test.false c.if-s.true in
+    (refl, t.0, t.1)
 
 pub returns : goal.returns
 returns c =
@@ -39,12 +42,17 @@ returns c =
 
 pub loop-s-init : goal.loop-s-init
 loop-s-init c =
+    let f = formula_of c.args.f.now in
+    let set = has c.args.set.now in
+    let e = c.in_ok-s.ensures in
     record {
-      walks = search rules;
+      walks = e.walks;
       sized = search rules;
-      told = search rules;
-      whole = search rules;
-      paths = paths_first (formula_of c.args.f.now) (has c.args.set.now) c.in_ok-first_walk.field-0 (c.in_ok-first_walk.ensures.stack (formula_of c.args.f.now));
-      ready = first_ready (formula_of c.args.f.now) (has c.args.set.now) c.args.i.now _ _ c.requires.named (c.in_ok-first_walk.ensures.stack (formula_of c.args.f.now)) c.first_guide-guide.ensures;
-      spent = search rules;
+      told = told_first f set (20 * c.args.budget.nodes) c.in_ok-s.s e.parts (e.stack f) e.seen e.inner;
+      tallied = tallied_first f set c.args.budget.nodes c.in_ok-s.s e.parts (e.stack f) e.left e.head e.owed;
+      kept = kept_first f set c.args.budget.nodes c.in_ok-s.s (e.stack f) e.left e.head e.owed e.seen e.small;
+      within = rw e.inner (omega arith);
+      whole = whole_first f set c.in_ok-s.s e.parts (e.stack f);
+      paths = paths_first f set c.in_ok-s.s.walk (e.stack f);
+      ready = first_ready f set c.args.i.now _ _ c.requires.named (e.stack f) c.first_guide-guide.ensures;
     }

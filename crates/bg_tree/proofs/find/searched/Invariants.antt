@@ -1,10 +1,10 @@
-use Rattle.std.proofs.Common.{◌≡◌, length, true}
+use Rattle.std.proofs.Common.{◌≡◌, ◌*◌, ◌≤◌, length}
 use Rattle.bg_formula.specs.Formulas.{formula_of}
 use Rattle.bg_cert.specs.Walks.{IsWalk, atoms_on, stack_of, has}
 use Rattle.bg_pick.specs.Marks.{marks_of, AllReady}
 use Rattle.bg_tree.specs.Ways.{ArePaths}
-use Rattle.bg_tree.specs.Trees.{work}
-use Rattle.bg_tree.proofs.Told.{Told, Whole}
+use Rattle.bg_tree.specs.Trees.{work, KeepsCount}
+use Rattle.bg_tree.proofs.Told.{Told, Tallied, Whole}
 use Rattle.bg_tree.proofs.find.searched.Given as goal
 
 abbrev pub invariant-loop-s : goal.invariant-loop-s
@@ -12,11 +12,13 @@ invariant-loop-s l =
     record {
       walks : IsWalk l.s.walk;
       sized : atoms_on l.s.walk ≡ length l.f.atoms.items;
-      told : Told (formula_of l.f) (has l.set) l.budget.nodes l.s;
+      told : Told (formula_of l.f) (has l.set) (20 * l.budget.nodes) l.s;
+      tallied : Tallied (formula_of l.f) (has l.set) l.budget.nodes l.s;
+      kept : KeepsCount (formula_of l.f) (has l.set) l.s;
+      within : l.s.inner ≤ 20 * l.budget.nodes;
       whole : Whole (formula_of l.f) (has l.set) l.s;
       paths : ArePaths (formula_of l.f) (has l.set) (stack_of (formula_of l.f) l.s.walk);
       ready : AllReady (formula_of l.f) (has l.set) l.i (stack_of (formula_of l.f) l.s.walk) (marks_of l.guide);
-      spent : l.s.seen ≡ true → l.s.left ≡ 0;
     }
 
 abbrev pub decreases-loop-s : goal.decreases-loop-s

@@ -1,0 +1,8 @@
+use Rattle.bg_formula.specs.Formulas.{formula_of}
+use Rattle.bg_cert.specs.Walks.{has}
+use Rattle.bg_tree.proofs.Steps.{same_moves}
+use Rattle.bg_tree.proofs.step.fork.Goals as goal
+
+pub returns-clause-moves : goal.returns-clause-moves
+returns-clause-moves c =
+    same_moves (formula_of c.args.f.now) (has c.args.set.now) c.args.s.now c.peek.new.s c.emit_split.new.s c.in_ok-is_false.ensures.same c.in_ok-emit_split.ensures.moves
