@@ -1,0 +1,306 @@
+"""Executes programs over truth values and whole numbers, for the judge of reports; the rules are those of docs/MEANING.md.
+
+Statements are executed and nothing is proved; whole numbers have no bound. A run is a source run, in which loops turn, or an
+induction run, in which a loop checks its invariants, forgets what its body may change, and makes one turn or none. Calls go by
+the callee's contract in both.
+"""
+import operator
+import random
+import re
+
+from language import walk
+
+OPERATORS = {
+    "<==>": operator.eq, "==": operator.eq, "!=": operator.ne, "<": operator.lt, "<=": operator.le, ">": operator.gt,
+    ">=": operator.ge, "+": operator.add, "-": operator.sub, "*": operator.mul,
+    "&&": lambda a, b: a and b, "||": lambda a, b: a or b, "==>": lambda a, b: not a or b,
+}  # fmt: skip
+VALUES = {"bool": r"true|false", "int": r"0|-?[1-9][0-9]*"}
+
+
+def evaluate(now, entry, says):
+    """The value of an expression; `now` and `entry` have the value of each name, and `entry` is what `old` sees."""
+    kind = says[0]
+    if kind in ("num", "bool"):
+        return says[1]
+    if kind == "name":
+        return now[says[1]]
+    if kind == "old":
+        return evaluate(entry, entry, says[1])
+    if kind == "not":
+        return not evaluate(now, entry, says[1])
+    if kind == "neg":
+        return -evaluate(now, entry, says[1])
+    return OPERATORS[says[1]](evaluate(now, entry, says[2]), evaluate(now, entry, says[3]))
+
+
+def value_of(text, kind):
+    """The value that a text spells, or None."""
+    if not re.fullmatch(VALUES[kind], text):
+        return None
+    return text == "true" if kind == "bool" else int(text)
+
+
+def text_of(value):
+    return str(value).lower() if isinstance(value, bool) else str(value)
+
+
+class End(Exception):
+    """The end of a run: ended, blocked, going, bad choice, or failed at a place."""
+
+    def __init__(self, word, place=None):
+        super().__init__(word)
+        self.word, self.place = word, place
+
+    def __str__(self):
+        return f"{self.word} at {self.place}" if self.place else self.word
+
+
+class ListedChoices:
+    """Choices that are printed, in order; where they are assumed to be otherwise, the run is blocked."""
+
+    tries = 1
+
+    def __init__(self, texts):
+        self.texts, self.taken = texts, 0
+
+    def next(self):
+        if self.taken == len(self.texts):
+            raise End("bad choice")
+        self.taken += 1
+        return self.texts[self.taken - 1]
+
+    def branch(self, count):
+        found = re.fullmatch(r"branch (0|[1-9][0-9]*)", self.next())
+        if not found or int(found[1]) >= count:
+            raise End("bad choice")
+        return int(found[1])
+
+    def value(self, kind):
+        value = value_of(self.next(), kind)
+        if value is None:
+            raise End("bad choice")
+        return value
+
+
+class RandomChoices:
+    """Choices at random; those that an assumption denies at once are made anew a few times."""
+
+    tries = 12
+
+    def __init__(self, seed, pool):
+        self.random, self.pool = random.Random(seed), pool
+
+    def branch(self, count):
+        return self.random.randrange(count)
+
+    def value(self, kind):
+        return self.random.random() < 0.5 if kind == "bool" else self.random.choice(self.pool)
+
+
+class Run:
+    """A run of an implementation. `outer` and `inner` have the values of the globals and of the implementation's own names."""
+
+    def __init__(self, program, implementation, choices, steps=None):
+        """An induction run, or a source run of at most so many steps."""
+        self.program, self.implementation, self.choices, self.steps = program, implementation, choices, steps
+        self.procedure = program.procedures[implementation.procedure]
+        self.is_induction = steps is None
+        self.outer, self.inner, self.entry = {}, {}, {}
+
+    def run(self, outer, inner):
+        """The end of the run from these values."""
+        self.outer, self.inner, self.entry = dict(outer), dict(inner), dict(outer)
+        try:
+            if not self.holds_all(it for it in self.procedure.clauses if it.kind == "requires"):
+                return End("blocked")
+            self.statements(self.implementation.body)
+            for clause in self.procedure.checked("ensures"):
+                self.check(clause, f"postcondition {spot(clause)}", self.own())
+            return End("ended")
+        except End as end:
+            return end
+
+    def now(self):
+        return {**self.outer, **self.inner}
+
+    def before(self):
+        return {**self.entry, **self.inner}
+
+    def own(self):
+        """The procedure's names, which stand for the implementation's by position: their values now and as `old` sees them."""
+        theirs = self.procedure.params + self.procedure.results
+        mine = self.implementation.params + self.implementation.results
+        names = {it.name: self.inner[other.name] for it, other in zip(theirs, mine)}
+        return {**self.outer, **names}, {**self.entry, **names}
+
+    def value(self, says):
+        return evaluate(self.now(), self.before(), says)
+
+    def holds_all(self, clauses):
+        now, before = self.own()
+        return all(evaluate(now, before, it.says) for it in clauses)
+
+    def check(self, clause, place, scope):
+        self.step()
+        if not evaluate(*scope, clause.says):
+            raise End("failed", place)
+
+    def step(self):
+        if self.steps is not None:
+            if self.steps == 0:
+                raise End("going")
+            self.steps -= 1
+
+    def store(self, name, value):
+        (self.inner if name in self.inner else self.outer)[name] = value
+
+    def type_of(self, name):
+        known = {it.name: it.type for it in self.program.globals + self.implementation.inner()}
+        return known[name]
+
+    # Statements end normally (None), or by a jump: ("goto", label), ("break", label or None), ("return", None).
+    def statements(self, statements):
+        at = 0
+        while at < len(statements):
+            jump = self.statement(statements[at])
+            at += 1
+            if jump is None:
+                continue
+            ahead = [k for k, it in enumerate(statements) if jump[0] == "goto" and jump[1] in it.labels]
+            if not ahead:
+                return jump
+            at = ahead[0]
+        return None
+
+    def statement(self, it):
+        self.step()
+        jump = getattr(self, f"do_{it.kind}")(it)
+        is_left = jump and jump[0] == "break" and it.kind in ("if", "while") and jump[1] in it.labels
+        return None if is_left else jump
+
+    def do_skip(self, _):
+        return None
+
+    def do_assert(self, it):
+        self.check(it.clause, f"assert {spot(it)}", (self.now(), self.before()))
+
+    def do_assume(self, it):
+        if not self.value(it.says):
+            raise End("blocked")
+
+    def do_havoc(self, it):
+        for name in it.names:
+            self.store(name, self.choices.value(self.type_of(name)))
+
+    def do_assign(self, it):
+        values = [self.value(says) for says in it.values]
+        for name, value in zip(it.names, values):
+            self.store(name, value)
+
+    def do_goto(self, it):
+        return ("goto", it.names[self.choices.branch(len(it.names)) if len(it.names) > 1 else 0])
+
+    def do_break(self, it):
+        return ("break", it.names[0] if it.names else None)
+
+    def do_return(self, _):
+        return ("return", None)
+
+    def is_first(self, guard):
+        """Whether a conditional takes its first side, or a loop makes a turn."""
+        return self.choices.branch(2) == 0 if guard is None else self.value(guard)
+
+    def do_if(self, it):
+        return self.statements(it.body if self.is_first(it.says) else it.other)
+
+    def do_while(self, it):
+        when = "entry"
+        while True:
+            for clause in it.invariants:
+                if not clause.free:
+                    self.check(clause, f"invariant {when} {spot(clause)}", (self.now(), self.before()))
+            if self.is_induction:
+                if when == "turn":
+                    raise End("ended")
+                self.settle(lambda: self.forget(it.body), lambda: all(self.value(clause.says) for clause in it.invariants))
+            elif not all(self.value(clause.says) for clause in it.invariants):
+                raise End("blocked")
+            self.step()
+            if not self.is_first(it.says):
+                return None
+            jump = self.statements(it.body)
+            if jump == ("break", None):
+                return None
+            if jump is not None:
+                return jump
+            when = "turn"
+
+    def settle(self, choose, holds):
+        """Makes choices under which something is assumed."""
+        for _ in range(self.choices.tries):
+            choose()
+            if holds():
+                return
+        raise End("blocked")
+
+    def forget(self, body):
+        """Chooses values of what the body may change: of globals, and then of the implementation's names, as they are declared."""
+        changed = set()
+        for it in walk(body):
+            if it.kind in ("assign", "havoc", "call"):
+                changed.update((name in self.inner, name) for name in it.names)
+            if it.kind == "call":
+                changed.update((False, name) for name in self.program.procedures[it.callee].modifies)
+        for group, is_inner in ((self.program.globals, False), (self.implementation.inner(), True)):
+            for it in group:
+                if (is_inner, it.name) in changed:
+                    (self.inner if is_inner else self.outer)[it.name] = self.choices.value(it.type)
+
+    def do_call(self, it):
+        callee = self.program.procedures[it.callee]
+        given = {v.name: self.value(says) for v, says in zip(callee.params, it.values)}
+        for clause in callee.checked("requires"):
+            scope = {**self.outer, **given}
+            self.check(clause, f"precondition {spot(it)} of {spot(clause)}", (scope, scope))
+        before, results = dict(self.outer), {}
+
+        def choose():
+            for v in self.program.globals:
+                if v.name in callee.modifies:
+                    self.outer[v.name] = self.choices.value(v.type)
+            results.update((v.name, self.choices.value(v.type)) for v in callee.results)
+
+        def holds():
+            now, entry = {**self.outer, **given, **results}, {**before, **given, **results}
+            return all(evaluate(now, entry, clause.says) for clause in callee.clauses if clause.kind == "ensures")
+
+        self.settle(choose, holds)
+        for name, v in zip(it.names, callee.results):
+            self.store(name, results[v.name])
+
+
+def spot(it):
+    return f"{it.pos[0]}:{it.pos[1]}"
+
+
+def places(program, implementation):
+    """The places of an implementation, in their order."""
+    found = []
+
+    def add(statements):
+        for it in statements:
+            if it.kind == "assert":
+                found.append(f"assert {spot(it)}")
+            if it.kind == "call":
+                checked = program.procedures[it.callee].checked("requires")
+                found.extend(f"precondition {spot(it)} of {spot(clause)}" for clause in checked)
+            checked = [clause for clause in it.invariants if not clause.free]
+            found.extend(f"invariant entry {spot(clause)}" for clause in checked)
+            add(it.body)
+            add(it.other)
+            found.extend(f"invariant turn {spot(clause)}" for clause in checked)
+
+    add(implementation.body)
+    own = program.procedures[implementation.procedure].checked("ensures")
+    return found + [f"postcondition {spot(clause)}" for clause in own]

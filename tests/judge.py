@@ -1,0 +1,209 @@
+#!/usr/bin/env python3
+"""Judges a report by executing the program: whether it is right of what it says, as far as runs can tell.
+
+usage: judge.py FILE.bpl REPORT [--runs N] [--seed K] [--nodes N] [--rows N]
+
+The report has the form that docs/FORMATS.md gives, with the places that the program has. Each counterexample is replayed: the run
+fails at the place that it is printed for, and takes each printed choice. What is kept of an unknown place is its budget, or an
+operation that leaves 128 bits. Of each implementation N runs (100) are made at random, half with loops that turn and half with
+loops that are cut, from entry values that its preconditions take; none may fail at a place that the report doesn't list. The status
+is 0 where nothing is wrong, and 1 where something is, which is printed.
+"""
+import argparse
+import random
+import re
+import sys
+from dataclasses import dataclass, field
+
+from evaluator import ListedChoices, RandomChoices, Run, places, text_of, value_of
+from language import TextFault, read_program
+
+FRONT = ["axioms: consistent", "retained set: greatest"]
+WORDS = ("verified", "refuted", "unknown")
+OPERATIONS = {"+": lambda a, b: a + b, "-": lambda a, b: a - b, "*": lambda a, b: a * b, "neg": lambda a, _: -a}
+NUMBER = r"(?:0|-?[1-9][0-9]*)"
+STEPS = 400
+
+
+class Wrong(Exception):
+    """What is wrong with a report."""
+
+
+@dataclass
+class Place:
+    """A place that isn't proved: what is said of it, and the lines below it."""
+
+    name: str
+    word: str
+    lines: list
+
+
+@dataclass
+class Said:
+    """What a report says of one implementation."""
+
+    title: str
+    word: str
+    places: list = field(default_factory=list)
+
+
+def read_report(text):
+    """Returns what a report says of each implementation; its lines are those of the form, and its counts are right."""
+    lines = text.split("\n")
+    if lines[:2] != FRONT or lines[-1] != "" or len(lines) < 4:
+        raise Wrong("the report has not the form of one")
+    said = []
+    for line in lines[2:-2]:
+        found = re.fullmatch(r"implementation (\S+ \d+:\d+) (verified|refuted|unknown)", line)
+        below = re.fullmatch(r"  (refuted) (.+)|  (unknown) (.+ (?:nodes|rows|range))", line)
+        if found:
+            said.append(Said(*found.groups()))
+        elif below and said:
+            said[-1].places.append(Place(below[2] or below[4].rpartition(" ")[0], (below[1] or below[4].rpartition(" ")[2]), []))
+        elif line.startswith("    ") and said and said[-1].places:
+            said[-1].places[-1].lines.append(line[4:])
+        else:
+            raise Wrong(f"a line that no report has: {line}")
+    counts = ", ".join(f"{sum(it.word == word for it in said)} {word}" for word in WORDS)
+    if lines[-2] != f"summary: 0 retained, 0 dropped; {counts}":
+        raise Wrong(f"the summary is {lines[-2]}, and the counts are {counts}")
+    return said
+
+
+def check_form(program, said):
+    """The report speaks of the implementations and places of the program, in their order, and each word is that of the places."""
+    titles = [it.title() for it in program.implementations]
+    if [it.title for it in said] != titles:
+        raise Wrong(f"the implementations are {titles}")
+    for it, own in zip(said, program.implementations):
+        there = places(program, own)
+        listed = [place.name for place in it.places]
+        if [name for name in there if name in listed] != listed:
+            raise Wrong(f"{it.title}: the places listed are {listed}, and its places are {there}")
+        open_words = {place.word for place in it.places}
+        if it.word != ("refuted" if "refuted" in open_words else "unknown" if open_words else "verified"):
+            raise Wrong(f"{it.title}: {it.word} is not the word of what is listed below it")
+
+
+def check_kept(place, budgets):
+    """Below an unknown place stands what is kept."""
+    if place.word in budgets:
+        if place.lines != [f"kept {budgets[place.word]}"]:
+            raise Wrong(f"{place.name}: kept is {place.lines}, and the budget {budgets[place.word]}")
+        return
+    found = re.fullmatch(rf"kept (\+|-|\*|neg) ({NUMBER}) ({NUMBER})", "\n".join(place.lines))
+    if not found or -(2**127) <= OPERATIONS[found[1]](int(found[2]), int(found[3])) < 2**127:
+        raise Wrong(f"{place.name}: no operation that leaves 128 bits: {place.lines}")
+
+
+def entry_values(variables, lines):
+    """The values that the first lines give to variables, by name."""
+    values = {}
+    if len(lines) < len(variables):
+        raise Wrong(f"{len(variables)} variables, and {len(lines)} lines")
+    for it, line in zip(variables, lines):
+        head, text = f"var {it.name} = ", line.partition(" = ")[2]
+        value = value_of(text, it.type)
+        if not line.startswith(head) or value is None:
+            raise Wrong(f"{head}with a value of type {it.type} is wanted in place of: {line}")
+        values[it.name] = value
+    return values
+
+
+def check_counterexample(program, own, place):
+    """The printed run fails at its place, and takes each printed choice."""
+    outer, inner = program.globals, own.inner()
+    state = entry_values(outer, place.lines), entry_values(inner, place.lines[len(outer) :])
+    lines = place.lines[len(outer) + len(inner) :]
+    if not all(line.startswith("choice ") for line in lines):
+        raise Wrong(f"choices are wanted behind the variables: {lines}")
+    choices = ListedChoices([line[len("choice ") :] for line in lines])
+    end = Run(program, own, choices).run(*state)
+    if (end.word, end.place) != ("failed", place.name):
+        raise Wrong(f"the run {end}")
+    if choices.taken != len(lines):
+        raise Wrong(f"the run takes {choices.taken} choices of {len(lines)}")
+
+
+def pool_of(text):
+    """Whole numbers to try: small ones, and those beside the numbers of the program."""
+    numbers = {int(it) for it in re.findall(r"(?<![\w'~#$^.?`])[0-9]{1,40}", text)}
+    near = {sign * number + step for number in sorted(numbers)[:40] for sign in (1, -1) for step in (-1, 0, 1)}
+    return [*range(-3, 6)] * (1 + len(near) // 12) + sorted(near)
+
+
+def start(program, own, choices):
+    """Entry values at random, if they are found, of those that the preconditions take."""
+    run = Run(program, own, choices)
+    wanted = [it for it in run.procedure.clauses if it.kind == "requires"]
+    for _ in range(30):
+        outer = {it.name: choices.value(it.type) for it in program.globals}
+        inner = {it.name: choices.value(it.type) for it in own.inner()}
+        run.outer, run.inner, run.entry = outer, inner, outer
+        if run.holds_all(wanted):
+            break
+    return outer, inner
+
+
+def attack(program, own, said, pool, runs, seed):
+    """No run at random fails at a place that is not listed."""
+    open_places = {it.name for it in said.places}
+    for number in range(runs):
+        choices = RandomChoices(f"{seed} {said.title} {number}", pool)
+        outer, inner = start(program, own, choices)
+        end = Run(program, own, choices, None if number % 2 else STEPS).run(outer, inner)
+        if end.word == "failed" and end.place not in open_places:
+            values = ", ".join(f"{name} = {text_of(value)}" for name, value in {**outer, **inner}.items())
+            kind = "with loops cut" if number % 2 else "with loops that turn"
+            raise Wrong(f"{end.place} is called proved, and a run {kind} fails there from {values or 'the only state'}")
+
+
+def faults_in(text, report, runs=100, seed=1, nodes=20_000, rows=20_000):
+    """What is wrong with the report of a program: a list of lines."""
+    program = read_program(text)
+    try:
+        said = read_report(report)
+        check_form(program, said)
+    except Wrong as wrong:
+        return [str(wrong)]
+    faults, pool = [], pool_of(text)
+
+    def ask(where, question, *words):
+        try:
+            question(*words)
+        except Wrong as wrong:
+            faults.append(f"{where}: {wrong}")
+
+    for it, own in zip(said, program.implementations):
+        for place in it.places:
+            where = f"{it.title}, {place.name}"
+            if place.word == "refuted":
+                ask(where, check_counterexample, program, own, place)
+            else:
+                ask(where, check_kept, place, {"nodes": nodes, "rows": rows})
+        ask(it.title, attack, program, own, it, pool, runs, seed)
+    return faults
+
+
+def main():
+    parser = argparse.ArgumentParser(description=__doc__.split("\n", maxsplit=1)[0])
+    parser.add_argument("program")
+    parser.add_argument("report")
+    for word, usual in (("--runs", 100), ("--seed", 1), ("--nodes", 20_000), ("--rows", 20_000)):
+        parser.add_argument(word, type=int, default=usual)
+    args = parser.parse_args()
+    with open(args.program, encoding="latin-1") as file:
+        text = file.read()
+    with open(args.report, encoding="latin-1") as file:
+        report = file.read()
+    try:
+        faults = faults_in(text, report, args.runs, args.seed, args.nodes, args.rows)
+    except TextFault as fault:
+        faults = [f"the program is not one that is judged: {fault}"]
+    print(*faults, sep="\n", end="\n" if faults else "")
+    return 1 if faults else 0
+
+
+if __name__ == "__main__":
+    sys.setrecursionlimit(20_000)
+    sys.exit(main())
