@@ -92,6 +92,8 @@ def main():
     parser.add_argument("--count", type=int, default=400)
     parser.add_argument("--seed", type=int, default=1)
     args = parser.parse_args()
+    # (the script ./bg then says its failures alone)
+    os.environ["BG_QUIET"] = "1"
     rng = random.Random(args.seed)
     passed = failed = 0
     told = {"verified": 0, "refuted": 0, "range": 0, "nodes": 0, "rows": 0}

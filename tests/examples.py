@@ -29,11 +29,13 @@ def main():
     parser = argparse.ArgumentParser(description=__doc__.split("\n", maxsplit=1)[0])
     parser.add_argument("--bg", required=True)
     args = parser.parse_args()
+    # (the script ./bg then says its failures alone)
+    os.environ["BG_QUIET"] = "1"
     passed = failed = 0
     for source in sorted(glob.glob(os.path.join(TOP, "examples", "*.bpl"))):
         with open(source[: -len("bpl")] + "expected", "rb") as file:
             out, err, status = wanted(file.read())
-        ran = subprocess.run([*shlex.split(args.bg), "verify", source], capture_output=True, timeout=120)
+        ran = subprocess.run([*shlex.split(args.bg), "verify", source], capture_output=True, timeout=600)
         if (ran.stdout, ran.stderr, ran.returncode) == (out, err, status):
             passed += 1
             continue

@@ -1,5 +1,10 @@
 #!/usr/bin/env python3
-"""Bad input through bg: the status, the report and the error line that the rules give, and no crash."""
+"""Bad input through bg: the status, the report and the error line that the rules give, and no crash.
+
+usage: hostile.py [--bg FILE] [--short]
+
+With --short texts are smaller and fewer, and those at the limits are left out but for one. The last line is `N passed, M failed`.
+"""
 import argparse
 import os
 import re
@@ -83,14 +88,6 @@ implementation Work(n: int, r: Ref, f: Field) returns (i: int)
 """
 
 
-def own_lines(err):
-    """Without the lines in front that the script bg itself says."""
-    lines = err.splitlines(keepends=True)
-    while lines and lines[0].startswith(b"bg: "):
-        lines = lines[1:]
-    return b"".join(lines)
-
-
 def cut(data):
     return data if len(data) <= 120 else data[:120] + b" .. (%d bytes)" % len(data)
 
@@ -104,7 +101,7 @@ class Trial:
             done = subprocess.run(
                 [self.bg, *words], cwd=self.folder, capture_output=True, timeout=600, stdin=subprocess.DEVNULL
             )
-            got = (done.returncode, done.stdout, own_lines(done.stderr))
+            got = (done.returncode, done.stdout, done.stderr)
         except (OSError, subprocess.TimeoutExpired) as e:
             got = (str(e), b"", b"")
         if got == (status, out, err):
@@ -123,7 +120,7 @@ class Trial:
         with open(path, "wb") as f:
             f.write(data)
         done = subprocess.run([self.bg, "verify", path], capture_output=True, timeout=600, stdin=subprocess.DEVNULL)
-        line = own_lines(done.stderr)
+        line = done.stderr
         good = (done.returncode, done.stdout, line) == (0, NONE, b"") or (
             done.returncode == 3 and done.stdout == b"" and LINE.fullmatch(line)
         )
@@ -155,28 +152,42 @@ def procedures(count):
     return b"".join(b"procedure P%d() { }\n" % i for i in range(count))
 
 
-def trials(t):
-    for b in range(256):
-        t.text(f"byte {b}", bytes([b]), *alone(b))
-    name = b"n" * 1_000_000
-    t.text("empty text", b"", 0, NONE, b"")
-    t.text("unclosed body", b"procedure P() { assert true;", 3, b"", b"error: 1:29 syntax\n")
+def one(name, position):
+    """The report of one implementation without places."""
+    return FRONT + b"implementation %s %s verified\n" % (name, position) + ONE
+
+
+def large(t, size):
+    """Texts that are long in one way, each of about so many parts."""
+    name = b"n" * (10 * size)
     t.text("long name alone", name, 3, b"", b"error: 1:1 syntax\n")
-    t.text("long name", b"procedure " + name + b"() { }", 0, FRONT + b"implementation " + name + b" 1:1 verified\n" + ONE, b"")
-    t.text("spaces at the limit", b" " * 4_194_304, 0, NONE, b"")
-    t.text("spaces over the limit", b" " * 4_194_305, 8, b"", b"error: limit bytes 4194305\n")
-    t.text("nested comments", b"/*" * 100_000 + b" @ " + b"*/" * 100_000, 0, NONE, b"")
-    t.text("an open comment", b"/*" * 100_000 + b"*/" * 99_999, 3, b"", b"error: 1:1 open comment\n")
-    one = FRONT + b"implementation P 1:1 verified\n" + ONE
-    t.text("a row of signs", b"procedure P() { assert " + b"!" * 100_000 + b"true; }", 0, one, b"")
-    t.text("a chain", b"procedure P() { assert true" + b" && true" * 100_000 + b"; }", 0, one, b"")
-    sums = b"procedure P() { assert 0 == 1" + b" + 1" * 100_000 + b"; }"
+    t.text("long name", b"procedure " + name + b"() { }", 0, one(name, b"1:1"), b"")
+    t.text("nested comments", b"/*" * size + b" @ " + b"*/" * size, 0, NONE, b"")
+    t.text("an open comment", b"/*" * size + b"*/" * (size - 1), 3, b"", b"error: 1:1 open comment\n")
+    t.text("a row of signs", b"procedure P() { assert " + b"!" * size + b"true; }", 0, one(b"P", b"1:1"), b"")
+    t.text("a chain", b"procedure P() { assert true" + b" && true" * size + b"; }", 0, one(b"P", b"1:1"), b"")
+    sums = b"procedure P() { assert 0 == 1" + b" + 1" * size + b"; }"
     false = FRONT + b"implementation P 1:1 refuted\n  refuted assert 1:17\n" + ONE.replace(b"1 verified, 0 refuted", b"0 verified, 1 refuted")
     t.text("a chain of sums", sums, 1, false, b"")
+
+
+def at_the_limits(t):
+    t.text("spaces at the limit", b" " * 4_194_304, 0, NONE, b"")
     t.text("many procedures", procedures(10_000), 0, FRONT + many(10_000), b"")
     t.text("too many procedures", procedures(10_001), 8, b"", b"error: limit implementations 10001\n")
+
+
+def trials(t, is_short):
+    for b in range(0, 256, 9 if is_short else 1):
+        t.text(f"byte {b}", bytes([b]), *alone(b))
+    t.text("empty text", b"", 0, NONE, b"")
+    t.text("unclosed body", b"procedure P() { assert true;", 3, b"", b"error: 1:29 syntax\n")
+    t.text("spaces over the limit", b" " * 4_194_305, 8, b"", b"error: limit bytes 4194305\n")
+    large(t, 2_000 if is_short else 100_000)
+    if not is_short:
+        at_the_limits(t)
     t.text("each construct", PROGRAM, 3, b"", b"error: 1:1 unsupported type\n")
-    for i in range(len(PROGRAM)):
+    for i in range(0, len(PROGRAM), 23 if is_short else 1):
         t.front(f"prefix {i}", PROGRAM[:i])
     t.run("absent file", ["verify", "absent.bpl"], 5, b"", b"error: cannot read absent.bpl\n")
     t.run("no file", ["verify"], 4, b"", USAGE)
@@ -191,12 +202,15 @@ def many(count):
 
 
 def main():
-    words = argparse.ArgumentParser(description=__doc__)
+    words = argparse.ArgumentParser(description=__doc__.split("\n", maxsplit=1)[0])
     words.add_argument("--bg", default="./bg")
+    words.add_argument("--short", action="store_true")
     given = words.parse_args()
+    # (the script ./bg then says its failures alone)
+    os.environ["BG_QUIET"] = "1"
     with tempfile.TemporaryDirectory() as folder:
         t = Trial(os.path.abspath(given.bg), folder)
-        trials(t)
+        trials(t, given.short)
     peak = resource.getrusage(resource.RUSAGE_CHILDREN).ru_maxrss
     t.passed += peak < MOST_MEMORY
     t.failed += peak >= MOST_MEMORY

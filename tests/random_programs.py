@@ -1,15 +1,15 @@
 #!/usr/bin/env python3
-"""Makes random programs over truth values and whole numbers with the whole statement language, and has their reports judged.
+"""Makes random programs over truth values and whole numbers with the whole statement language, and judges their reports (judge.py).
 
-usage: random_programs.py --bg COMMAND [--judge COMMAND] [--count N] [--seed K] [--truths] [--budget N] [--jobs N] [--keep FOLDER]
+usage: random_programs.py --bg COMMAND [--count N] [--seed K] [--runs N] [--truths] [--budget N] [--jobs N] [--keep FOLDER]
 
-COMMAND of --bg is the program, as `./bg`. COMMAND of --judge is an evaluator that gets the names of a program and of its report,
-and ends with 0 where it agrees. With --truths there are no whole numbers. With --budget the program gets as many inner nodes and rows.
-The last line is `N passed, M failed`.
+Of each implementation N runs are tried. With --truths there are no whole numbers. With --budget the program gets as many inner nodes
+and rows. With --keep programs and reports are written to a folder, and left there. The last line is `N passed, M failed`.
 """
 import argparse
 import collections
 import concurrent.futures
+import functools
 import os
 import random
 import re
@@ -17,6 +17,8 @@ import shlex
 import subprocess
 import sys
 import tempfile
+
+import judge
 
 SIGNS = ["&&", "||", "==>", "<==", "<==>", "==", "!="]
 RELATIONS = ["<", "<=", ">", ">=", "==", "!="]
@@ -242,50 +244,51 @@ class Program:
 
 
 def judged(args, folder, number):
-    """Returns what is wrong with the report of one program, or None, with the words that the report says of implementations."""
+    """Returns what is wrong with the report of one program, a list of lines, and the words that the report says of implementations."""
     text = Program(random.Random(args.seed * 1_000_003 + number), not args.truths).text
-    source, report = os.path.join(folder, f"{number}.bpl"), os.path.join(folder, f"{number}.report")
+    source = os.path.join(folder, f"{number}.bpl")
     with open(source, "w", encoding="ascii") as file:
         file.write(text)
     budget = ["--nodes", str(args.budget), "--rows", str(args.budget)] if args.budget else []
-    ran = subprocess.run([*shlex.split(args.bg), "verify", *budget, source], capture_output=True, timeout=300)
-    with open(report, "wb") as file:
-        file.write(ran.stdout)
-    said = re.findall(r"^implementation \S+ \S+ (\w+)$", ran.stdout.decode(), re.M)
+    ran = subprocess.run([*shlex.split(args.bg), "verify", *budget, source], capture_output=True, timeout=600)
+    report = ran.stdout.decode("latin-1")
+    with open(os.path.join(folder, f"{number}.report"), "w", encoding="latin-1") as file:
+        file.write(report)
+    said = re.findall(r"^implementation \S+ \S+ (\w+)$", report, re.M)
     want = 1 if "refuted" in said else 2 if "unknown" in said else 0
     if ran.returncode != want or ran.stderr:
-        return f"status {ran.returncode} for {want}: {ran.stderr.decode().strip()}", said
-    if args.judge:
-        told = subprocess.run([*shlex.split(args.judge), source, report], capture_output=True, timeout=600)
-        if told.returncode:
-            return (told.stdout + told.stderr).decode().strip(), said
-    return None, said
+        return [f"status {ran.returncode} for {want}: {ran.stderr.decode('latin-1').strip()}"], said
+    budgets = {"nodes": args.budget, "rows": args.budget} if args.budget else {}
+    return judge.faults_in(text, report, args.runs, args.seed, **budgets), said
 
 
 def main():
     parser = argparse.ArgumentParser(description=__doc__.split("\n", maxsplit=1)[0])
     parser.add_argument("--bg", required=True)
-    parser.add_argument("--judge")
     parser.add_argument("--count", type=int, default=300)
     parser.add_argument("--seed", type=int, default=1)
+    parser.add_argument("--runs", type=int, default=100)
     parser.add_argument("--truths", action="store_true")
     parser.add_argument("--budget", type=int)
     parser.add_argument("--jobs", type=int, default=1)
     parser.add_argument("--keep")
     args = parser.parse_args()
+    # (the script ./bg then says its failures alone)
+    os.environ["BG_QUIET"] = "1"
     failed, words = 0, collections.Counter()
     with tempfile.TemporaryDirectory() as folder:
         if args.keep:
             os.makedirs(args.keep, exist_ok=True)
-        with concurrent.futures.ThreadPoolExecutor(args.jobs) as pool:
-            for number, (wrong, said) in enumerate(pool.map(lambda n: judged(args, args.keep or folder, n), range(args.count))):
+        asked = functools.partial(judged, args, args.keep or folder)
+        with concurrent.futures.ProcessPoolExecutor(args.jobs) as pool:
+            for number, (wrong, said) in enumerate(pool.map(asked, range(args.count))):
                 words.update(said)
-                if wrong:
-                    failed += 1
-                    print(f"{number}: {wrong}", flush=True)
+                failed += bool(wrong)
+                for line in wrong:
+                    print(f"{number}: {line}", flush=True)
     print(", ".join(f"{words[word]} {word}" for word in ("verified", "refuted", "unknown")))
     print(f"{args.count - failed} passed, {failed} failed")
-    return 1 if failed else 0
+    return 1 if failed or not args.count else 0
 
 
 if __name__ == "__main__":

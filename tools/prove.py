@@ -34,8 +34,9 @@ def listed():
 def with_below(crates, name, found):
     """Adds a crate and all below it to those that are found, each behind those that it stands on."""
     for it in crates[name]:
-        with_below(crates, it, found)
-    found.setdefault(name)
+        if it not in found:
+            with_below(crates, it, found)
+    found[name] = None
 
 
 def heights(crates, order):

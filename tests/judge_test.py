@@ -1,0 +1,208 @@
+#!/usr/bin/env python3
+"""The judge of reports finds nothing wrong in the stored reports of examples/, and finds what is wrong with doctored ones.
+
+Each doctored report is a right one in which a text is replaced by another; a phrase of what the judge says of it is wanted. The last
+line is `N passed, M failed`.
+"""
+import glob
+import os
+import sys
+
+import judge
+
+TOP = os.path.dirname(os.path.dirname(os.path.abspath(__file__)))
+
+STEP = """procedure Step(n: int) returns (r: int)
+  requires n >= 0;
+  ensures r == n;
+{
+  r := 0;
+  while (r != n)
+    invariant r <= n;
+    free invariant r >= 0;
+  {
+    r := r + 2;
+  }
+}
+"""
+STEP_REPORT = """axioms: consistent
+retained set: greatest
+implementation Step 1:1 refuted
+  refuted invariant turn 7:5
+    var n = 1
+    var r = 0
+    choice 0
+summary: 0 retained, 0 dropped; 0 verified, 1 refuted, 0 unknown
+"""
+PICK = """var g: int, done: bool;
+procedure Take(k: int) returns (left: int);
+  requires k > 0;
+  modifies g;
+  ensures left == old(g) - k && g == left;
+  free ensures left >= 0;
+procedure Pick(c: bool) returns (a: int)
+  modifies g, done;
+  ensures g == old(g) - 1;
+{
+  var x: int;
+  outer: while (*)
+    invariant g == old(g);
+  {
+    havoc x;
+    if (x > 7) {
+      goto one, two;
+    } else if (c) {
+      break outer;
+    }
+    assert x != 3;
+    goto two;
+    one:
+    call a := Take(x);
+    return;
+    two:
+    assert done ==> x <= 7;
+  }
+  call a := Take(1);
+}
+"""
+PICK_REPORT = """axioms: consistent
+retained set: greatest
+implementation Pick 7:1 refuted
+  refuted assert 21:5
+    var g = 0
+    var done = true
+    var c = false
+    var a = 0
+    var x = 3
+    choice 0
+    choice 0
+    choice 0
+    choice branch 0
+    choice 3
+  refuted assert 27:5
+    var g = 0
+    var done = true
+    var c = false
+    var a = 0
+    var x = 8
+    choice 0
+    choice 0
+    choice 0
+    choice branch 0
+    choice 8
+    choice branch 1
+  refuted postcondition 9:3
+    var g = 8
+    var done = true
+    var c = true
+    var a = 0
+    var x = 8
+    choice 8
+    choice 0
+    choice 8
+    choice branch 0
+    choice 8
+    choice branch 0
+    choice 0
+    choice 0
+summary: 0 retained, 0 dropped; 0 verified, 1 refuted, 0 unknown
+"""
+POST = PICK_REPORT[PICK_REPORT.index("  refuted postcondition") : PICK_REPORT.index("summary")]
+FAR = "procedure Far(x: int) {\n  assert x + x != 1;\n}\n"
+FAR_REPORT = """axioms: consistent
+retained set: greatest
+implementation Far 1:1 unknown
+  unknown assert 2:3 range
+    kept + 170141183460469231731687303715884105727 1
+summary: 0 retained, 0 dropped; 0 verified, 0 refuted, 1 unknown
+"""
+BUDGET_REPORT = FAR_REPORT.replace(" range\n    kept + 170141183460469231731687303715884105727 1", " nodes\n    kept 20000")
+RIGHT = [("loop", STEP, STEP_REPORT), ("jumps", PICK, PICK_REPORT), ("range", FAR, FAR_REPORT), ("budget", FAR, BUDGET_REPORT)]
+# What is doctored, the program, its right report, a text of it and what stands in its place, and a phrase of the answer.
+DOCTORED = [
+    ("a counterexample's value", STEP, STEP_REPORT, "var n = 1", "var n = 2", "the run ended"),
+    ("a value that a precondition denies", STEP, STEP_REPORT, "var n = 1", "var n = -1", "the run blocked"),
+    ("a value that a free invariant denies", STEP, STEP_REPORT, "choice 0", "choice -1", "the run blocked"),
+    ("a counterexample's place", STEP, STEP_REPORT, "turn 7:5", "entry 7:5", "the run failed at invariant turn 7:5"),
+    ("a place that isn't there", STEP, STEP_REPORT, "turn 7:5", "turn 8:5", "its places are"),
+    ("a choice that is left over", STEP, STEP_REPORT, "choice 0\n", "choice 0\n    choice 0\n", "takes 1 choices of 2"),
+    ("a choice that is missing", STEP, STEP_REPORT, "    choice 0\n", "", "the run bad choice"),
+    ("a choice of another kind", STEP, STEP_REPORT, "choice 0", "choice branch 0", "the run bad choice"),
+    ("a choice that is none", STEP, STEP_REPORT, "choice 0", "chance 0", "choices are wanted"),
+    ("a variable that is missing", STEP, STEP_REPORT, "    var r = 0\n", "", "var r = "),
+    ("variables in another order", STEP, STEP_REPORT, "var n = 1\n    var r = 0", "var r = 0\n    var n = 1", "var n = "),
+    ("a truth value for a number", STEP, STEP_REPORT, "var r = 0", "var r = true", "a value of type int is wanted"),
+    ("a number with a needless zero", STEP, STEP_REPORT, "var r = 0", "var r = 00", "a value of type int is wanted"),
+    ("an implementation's word", STEP, STEP_REPORT.replace("0 verified, 1", "1 verified, 0"), "1:1 refuted", "1:1 verified", "not the word"),
+    ("the summary", STEP, STEP_REPORT, "0 verified, 1", "1 verified, 0", "the counts are"),
+    ("the front", STEP, STEP_REPORT, "consistent", "contradictory", "has not the form"),
+    ("a line", STEP, STEP_REPORT, "  refuted inv", "  rejected inv", "a line that no report has"),
+    ("an implementation that is missing", STEP, STEP_REPORT, "Step 1:1", "Step 2:1", "the implementations are"),
+    ("places in another order", PICK, PICK_REPORT, "  refuted assert 21:5\n", f"{POST}  refuted assert 21:5\n", "its places are"),
+    ("what a loop forgets", PICK, PICK_REPORT, "    choice 0\n    choice 0\n    choice 0\n", "    choice 0\n    choice 0\n", "the run bad choice"),
+    ("a branch", PICK, PICK_REPORT, "choice 8\n    choice branch 1", "choice 8\n    choice branch 0", "the run bad choice"),
+    ("a branch that isn't there", PICK, PICK_REPORT, "choice 8\n    choice branch 1", "choice 8\n    choice branch 2", "the run bad choice"),
+    ("what a call may give", PICK, PICK_REPORT, "branch 0\n    choice 0\n    choice 0\n", "branch 0\n    choice 0\n    choice 1\n", "the run blocked"),
+    ("an operation within 128 bits", FAR, FAR_REPORT, "727 1", "726 1", "no operation that leaves"),
+    ("no operation", FAR, FAR_REPORT, "kept + 1", "kept / 1", "no operation that leaves"),
+    ("a budget", FAR, BUDGET_REPORT, "kept 20000", "kept 19999", "the budget 20000"),
+]
+# A program of which one place fails in some runs, and the place; the report calls it proved.
+UNSOUND = [
+    ("an assertion", "procedure P(x: int) {\n  assert x != 3;\n}\n", "assert 2:3"),
+    ("a truth", "procedure P(a: bool, b: bool) {\n  assert (a ==> b) <==> (b <== !a);\n}\n", "assert 2:3"),
+    ("signs", "procedure P(x: int) {\n  assert -x - 1 - 1 != 2 * x + 4;\n}\n", "assert 2:3"),
+    ("an invariant on arrival", "procedure P(x: int) {\n  while (*)\n    invariant x <= 4;\n  {\n  }\n}\n", "invariant entry 3:5"),
+    ("an invariant after a turn", STEP, "invariant turn 7:5"),
+    ("a precondition", "procedure Q(k: int);\n  requires k > 0;\nprocedure P(n: int) {\n  call Q(n);\n}\n", "precondition 4:3 of 2:3"),
+    ("a postcondition", "var g: int;\nprocedure P()\n  modifies g;\n  ensures g == old(g) + 1;\n{\n  g := 2 * g;\n}\n", "postcondition 4:3"),
+    ("a postcondition by another name", "procedure P(x: int, y: int) returns (z: int);\n  ensures z == x - y;\n"
+     "implementation P(y: int, x: int) returns (r: int) {\n  r := x - y;\n}\n", "postcondition 2:3"),
+    ("what a call changes", "var g: int;\nprocedure Q();\n  modifies g;\nprocedure P()\n  modifies g;\n{\n  g := 1;\n  call Q();\n"
+     "  assert g == 1;\n}\n", "assert 9:3"),
+    ("the end of a loop", "procedure P(n: int)\n{\n  var x: int;\n  x := 0;\n  while (x < n)\n  {\n    x := x + 1;\n  }\n"
+     "  assert x == n;\n}\n", "assert 9:3"),
+    ("a break", "procedure P(c: bool)\n{\n  var x: int;\n  x := 0;\n  out: if (*) {\n    x := 1;\n    if (c) {\n      break out;\n    }\n"
+     "    x := 0;\n  }\n  assert x == 0;\n}\n", "assert 12:3"),
+    ("a jump", "procedure P()\n{\n  var x: bool;\n  goto a, b;\n  a:\n  x := true;\n  b:\n  assert x;\n}\n", "assert 8:3"),
+    ("a return", "procedure P(c: bool) returns (r: int)\n  ensures r == 1;\n{\n  r := 0;\n  if (c) {\n    return;\n  }\n  r := 1;\n}\n", "postcondition 2:3"),
+]  # fmt: skip
+
+
+def verified(text):
+    """The report that calls each implementation of a program verified."""
+    titles = [it.title() for it in judge.read_program(text).implementations]
+    lines = [f"implementation {it} verified" for it in titles]
+    return "\n".join([*judge.FRONT, *lines, f"summary: 0 retained, 0 dropped; {len(titles)} verified, 0 refuted, 0 unknown", ""])
+
+
+def trials():
+    """What is tried: its name, a program, a report, and the phrase that is wanted of the judge, None where nothing is wrong."""
+    for name, text, report in RIGHT:
+        yield f"right: {name}", text, report, None
+    for source in sorted(glob.glob(os.path.join(TOP, "examples", "*.bpl"))):
+        with open(source, encoding="latin-1") as file, open(source[: -len("bpl")] + "expected", encoding="latin-1") as other:
+            text, report = file.read(), other.read()
+        if not report.startswith("error: "):
+            yield f"right: {os.path.basename(source)}", text, report, None
+    for name, text, report, part, other, phrase in DOCTORED:
+        assert part in report, name
+        yield f"doctored: {name}", text, report.replace(part, other, 1), phrase
+    for name, text, place in UNSOUND:
+        yield f"called proved: {name}", text, verified(text), f"{place} is called proved"
+
+
+def main():
+    passed = failed = 0
+    for name, text, report, phrase in trials():
+        faults = judge.faults_in(text, report)
+        is_well = any(phrase in it for it in faults) if phrase else not faults
+        passed, failed = passed + is_well, failed + (not is_well)
+        if not is_well:
+            print(f"{name}: wanted {phrase or 'no fault'}, found {faults}")
+    print(f"{passed} passed, {failed} failed")
+    return 1 if failed or not passed else 0
+
+
+if __name__ == "__main__":
+    sys.exit(main())
