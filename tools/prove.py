@@ -6,9 +6,16 @@ usage: prove.py [--at-once N] CRATE
 `rt run` alone builds the libraries one after the other, and reads the text of all of them in one process before that. Here each check
 has one job, and the libraries below its crate stand already when it begins. What was built from the present sources is not built
 again. A line on standard error tells each crate that is done.
+
+Each crate is built by `rt` itself, with two things changed: it locks the crate's folder alone (else it also locks those of all crates
+below, and no two checks run side by side), and it sums up the texts of each crate below once a look (else once for each path through
+crates.txt, which takes minutes in high crates).
 """
 import argparse
+import importlib.machinery
+import importlib.util
 import os
+import shutil
 import signal
 import subprocess
 import sys
@@ -18,6 +25,30 @@ from concurrent.futures import FIRST_COMPLETED, ThreadPoolExecutor, wait
 TOP = os.path.dirname(os.path.dirname(os.path.abspath(__file__)))
 # The memory that a check of one crate may take, in kB.
 EACH = 2_500_000
+
+
+def run_rt(words):
+    """Runs a command of `rt` in this folder and returns its status."""
+    sys.dont_write_bytecode = True
+    loader = importlib.machinery.SourceFileLoader("rt", os.path.realpath(shutil.which("rt")))
+    rt = importlib.util.module_from_spec(importlib.util.spec_from_loader("rt", loader))
+    loader.exec_module(rt)
+    lock, stamp, stamps = rt.rtlib.lock, rt.rtlib.Crate.stamp, {}
+
+    def stamp_once(crate):
+        """What `stamp` gives, in which each crate's own texts are read once."""
+        is_first = not stamps
+        if crate.folder not in stamps:
+            stamps[crate.folder] = None
+            stamps[crate.folder] = stamp(crate)
+        found = stamps[crate.folder]
+        if is_first:
+            stamps.clear()
+        return found
+
+    rt.rtlib.Crate.stamp = stamp_once
+    rt.rtlib.lock = lambda crates: lock(crates[-1:])
+    return rt.main(words)
 
 
 def listed():
@@ -63,7 +94,8 @@ class Builds:
         """Returns what a check said and its status, with the seconds that it took."""
         began, folder = time.monotonic(), os.path.join(TOP, "crates", name)
         is_program = os.path.isfile(os.path.join(folder, "src", "main.rt"))
-        words = ["rt", "run", "--jobs", "1", "--", "verify", "data/a.bpl"] if is_program else ["rt", "lib", "--jobs", "1"]
+        words = ["run", "--jobs", "1", "--", "verify", "data/a.bpl"] if is_program else ["lib", "--jobs", "1"]
+        words = [sys.executable, os.path.abspath(__file__), "--rt", *words]
         how = {"stdin": subprocess.DEVNULL, "stdout": subprocess.PIPE, "stderr": subprocess.STDOUT}
         with subprocess.Popen(words, cwd=folder, text=True, errors="replace", **how) as process:
             self.processes.add(process)
@@ -101,6 +133,8 @@ def prove(crates, order, most, builds):
 
 
 def main():
+    if sys.argv[1:2] == ["--rt"]:
+        return run_rt(sys.argv[2:])
     parser = argparse.ArgumentParser(description=__doc__.split("\n", maxsplit=1)[0])
     parser.add_argument("--at-once", type=int, help="checks side by side; otherwise one for each processor, of 2.5 GB each")
     parser.add_argument("crate")
