@@ -3,7 +3,7 @@ use Rattle.std.proofs.Common.{◌≡◌, ℕ, nat_lt, Bool, true, false, if◌th
 use Rattle.bg_text.specs.Tokens.{Tok}
 use Rattle.bg_ast.specs.Resolved as r
 use Rattle.bg_size.specs.Counts.{most_places, most_expanded, place_counts, expanded_counts, first_above, is_any_above}
-use Rattle.bg_types.specs.Verdicts.{IsWellTyped}
+use Rattle.bg_typed.specs.Rules.{KeepsTypes}
 use Rattle.bg_front.specs.Later.{AreJudged}
 use Rattle.bg_front.specs.Limits.{most_implementations}
 use Rattle.bg_front.specs.Refusals.{Refusal, TooLong, Bytes, Syntax, Nesting, Names, Types, Later, Implementations, Places, Expanded}
@@ -37,7 +37,7 @@ is_a_size p x e =
 no_size : {A : Type 0} → false ≡ true → A
 no_size e = absurd (let k : false ≡ true = e in cc)
 
-pub limit_refuses : (bytes : List ℕ) (ts : List Tok) (p : r.Program) (x : Refusal) → IsMeaningOf bytes ts p → IsWellTyped p → AreJudged ts → limit_of p ≡ Some x → IsRefusedBy bytes x
+pub limit_refuses : (bytes : List ℕ) (ts : List Tok) (p : r.Program) (x : Refusal) → IsMeaningOf bytes ts p → KeepsTypes p → AreJudged ts → limit_of p ≡ Some x → IsRefusedBy bytes x
 limit_refuses bytes ts p (Implementations n) m w j e = (ts, p, m, w, j, e)
 limit_refuses bytes ts p (Places n) m w j e = (ts, p, m, w, j, e)
 limit_refuses bytes ts p Expanded m w j e = (ts, p, m, w, j, e)

@@ -5,7 +5,7 @@ use Rattle.bg_text.specs.Trees.{Decl}
 use Rattle.bg_ast.specs.Resolved as r
 use Rattle.bg_resolve.specs.Program.{plain_faults, named}
 use Rattle.bg_resolve.specs.Resolves.{Recursion}
-use Rattle.bg_numbers.proofs.Meant.{program_fine}
+use Rattle.bg_meant.proofs.Meant.{program_fine}
 use Rattle.bg_front.specs.Programs.{IsMeaningOf}
 
 abbrev pub AreNamed : List Decl → Type 0

@@ -1,28 +1,30 @@
 -- A text has one program, or one refusal.
-use Rattle.std.proofs.Common.{◌≡◌, ◌≤◌, ◌<◌, ℕ, List, [], length, Option, Some, None, refl, sym, ap, ◌∙◌, subst, arith}
+use Rattle.std.proofs.Common.{◌≡◌, ◌≤◌, ◌<◌, ℕ, List, length, Option, Some, None, refl, sym, ap, ◌∙◌, subst, arith}
 use Rattle.bg_base.specs.declared.pos.Pos.{Pos}
 use Rattle.bg_text.specs.Tokens.{Tok}
 use Rattle.bg_text.specs.Trees.{Decl}
 use Rattle.bg_ast.specs.Resolved as r
-use Rattle.bg_names.specs.declared.error.FaultKind.{FaultKind}
 use Rattle.bg_names.specs.Faults as n
 use Rattle.bg_resolve.specs.Program.{named}
+use Rattle.bg_resolve.specs.Resolves.{IsToldFault}
+use Rattle.bg_resolve.proofs.Told.{one_told}
 use Rattle.bg_kinds.specs.Faults as t
 use Rattle.bg_types.specs.Verdicts.{IsWellTyped, IsFault}
+use Rattle.bg_typed.specs.Rules.{KeepsTypes}
 use Rattle.bg_front.specs.Later.{outside, AreJudged, IsUnjudged}
 use Rattle.bg_front.specs.Limits.{most_bytes}
 use Rattle.bg_front.specs.Refusals.{Refusal, TooLong, Bytes, Syntax, Nesting, Names, Types, Later, Implementations, Places, Expanded}
 use Rattle.bg_front.specs.Trees.{IsTreeOf, HasNoTree}
-use Rattle.bg_front.specs.Programs.{IsNameFault, IsMeaningOf, IsProgramOf, ExceedsLimit, IsRefusedBy, limit_of, without_name}
+use Rattle.bg_front.specs.Programs.{IsMeaningOf, IsProgramOf, ExceedsLimit, IsRefusedBy, limit_of}
 use Rattle.bg_front.proofs.Firsts.{one_unjudged, judged_not_unjudged}
 use Rattle.bg_front.proofs.Named.{AreNamed, are_named_in, is_named_in}
-use Rattle.bg_front.proofs.NameFaults.{named_no_fault, one_name_fault}
+use Rattle.bg_front.proofs.NameFaults.{named_no_fault}
 use Rattle.bg_front.proofs.Ones.{Known, one_tree, not_both, one_refusal}
 use Rattle.bg_front.proofs.TypeFaults.{typed_no_fault, one_fault}
 
 -- ---- what is said of a text that has a tree
 data Rest (ts : List Tok) (ds : List Decl) (x : Refusal) : Type 0 where
-  misnamed : (f : n.Fault) → IsNameFault ds f → x ≡ Names f → Rest ts ds x
+  misnamed : (f : n.Fault) → IsToldFault ds f → x ≡ Names f → Rest ts ds x
   mistyped : (f : t.Fault) → AreNamed ds → IsFault (named ds) f → x ≡ Types (named ds).types f → Rest ts ds x
   unjudged : (p : Pos) (w : List ℕ) → AreNamed ds → IsWellTyped (named ds) → IsUnjudged ts p w → x ≡ Later p w → Rest ts ds x
   large : AreNamed ds → IsWellTyped (named ds) → AreJudged ts → limit_of (named ds) ≡ Some x → Rest ts ds x
@@ -32,26 +34,30 @@ data Why (bytes : List ℕ) (x : Refusal) : Type 0 where
   none : length bytes ≤ most_bytes → HasNoTree bytes x → Why bytes x
   some : length bytes ≤ most_bytes → (ts : List Tok) (ds : List Decl) → IsTreeOf bytes ts ds → Rest ts ds x → Why bytes x
 
-exceeded : (bytes : List ℕ) (x : Refusal) → ExceedsLimit bytes x → Why bytes x
-exceeded bytes x h =
-    let m : IsMeaningOf bytes h.0 h.1 = h.2 in
-    some m.short h.0 m.decls m.tree (large (are_named_in bytes h.0 h.1 m) (subst (λ (p : r.Program). IsWellTyped p) (is_named_in bytes h.0 h.1 m) h.3) h.4 (subst (λ (p : r.Program). limit_of p ≡ Some x) (is_named_in bytes h.0 h.1 m) h.5))
+-- what is known of types
+abbrev Fine : Type 0
+Fine = (p : r.Program) → KeepsTypes p → IsWellTyped p
 
-why : (bytes : List ℕ) (x : Refusal) → IsRefusedBy bytes x → Why bytes x
-why bytes TooLong h = long h refl
-why bytes (Bytes p f) h = none h.0 h.1
-why bytes (Syntax p) h = none h.0 h.1
-why bytes Nesting h = none h.0 h.1
-why bytes (Names f) h = some h.0 h.1 h.2 h.3 (misnamed f h.4 refl)
-why bytes (Types xs f) h =
+exceeded : Fine → (bytes : List ℕ) (x : Refusal) → ExceedsLimit bytes x → Why bytes x
+exceeded fine bytes x h =
+    let m : IsMeaningOf bytes h.0 h.1 = h.2 in
+    some m.short h.0 m.decls m.tree (large (are_named_in bytes h.0 h.1 m) (subst (λ (p : r.Program). IsWellTyped p) (is_named_in bytes h.0 h.1 m) (fine h.1 h.3)) h.4 (subst (λ (p : r.Program). limit_of p ≡ Some x) (is_named_in bytes h.0 h.1 m) h.5))
+
+why : Fine → (bytes : List ℕ) (x : Refusal) → IsRefusedBy bytes x → Why bytes x
+why fine bytes TooLong h = long h refl
+why fine bytes (Bytes p f) h = none h.0 h.1
+why fine bytes (Syntax p) h = none h.0 h.1
+why fine bytes Nesting h = none h.0 h.1
+why fine bytes (Names f) h = some h.0 h.1 h.2 h.3 (misnamed f h.4 refl)
+why fine bytes (Types xs f) h =
     let m : IsMeaningOf bytes h.0 h.1 = h.2 in
     some m.short h.0 m.decls m.tree (mistyped f (are_named_in bytes h.0 h.1 m) (subst (λ (p : r.Program). IsFault p f) (is_named_in bytes h.0 h.1 m) h.3) (ap (λ (l : List r.TypeName). Types l f) (h.4 ∙ ap (λ (p : r.Program). p.types) (is_named_in bytes h.0 h.1 m))))
-why bytes (Later q w) h =
+why fine bytes (Later q w) h =
     let m : IsMeaningOf bytes h.0 h.1 = h.2 in
-    some m.short h.0 m.decls m.tree (unjudged q w (are_named_in bytes h.0 h.1 m) (subst (λ (p : r.Program). IsWellTyped p) (is_named_in bytes h.0 h.1 m) h.3) h.4 refl)
-why bytes (Implementations c) h = exceeded bytes (Implementations c) h
-why bytes (Places c) h = exceeded bytes (Places c) h
-why bytes Expanded h = exceeded bytes Expanded h
+    some m.short h.0 m.decls m.tree (unjudged q w (are_named_in bytes h.0 h.1 m) (subst (λ (p : r.Program). IsWellTyped p) (is_named_in bytes h.0 h.1 m) (fine h.1 h.3)) h.4 refl)
+why fine bytes (Implementations c) h = exceeded fine bytes (Implementations c) h
+why fine bytes (Places c) h = exceeded fine bytes (Places c) h
+why fine bytes Expanded h = exceeded fine bytes Expanded h
 
 -- ---- programs
 pub one_program : Known → (bytes : List ℕ) (p q : r.Program) → IsProgramOf bytes p → IsProgramOf bytes q → p ≡ q
@@ -68,40 +74,35 @@ few_rest ts ds x a b c d (mistyped f n h e) = typed_no_fault (named ds) f b h
 few_rest ts ds x a b c d (unjudged p w n t h e) = judged_not_unjudged outside ts p w c h
 few_rest ts ds x a b c d (large n w j h) = no_limit (limit_of (named ds)) x d h
 
-no_reason : Known → (bytes : List ℕ) (p : r.Program) (x : Refusal) → IsProgramOf bytes p → Why bytes x → ⊥
-no_reason k bytes p x a (long l e) = omega (arith, l, a.spelled.short)
-no_reason k bytes p x a (none l h) = not_both k bytes a.tokens a.spelled.decls x a.spelled.tree h
-no_reason k bytes p x a (some l ts ds tree h) =
+no_reason : Known → Fine → (bytes : List ℕ) (p : r.Program) (x : Refusal) → IsProgramOf bytes p → Why bytes x → ⊥
+no_reason k fine bytes p x a (long l e) = omega (arith, l, a.spelled.short)
+no_reason k fine bytes p x a (none l h) = not_both k bytes a.tokens a.spelled.decls x a.spelled.tree h
+no_reason k fine bytes p x a (some l ts ds tree h) =
     let e = one_tree k bytes ts a.tokens ds a.spelled.decls tree a.spelled.tree in
     let meant : p ≡ named ds = is_named_in bytes a.tokens p a.spelled ∙ ap named (sym e.1) in
     few_rest ts ds x
     (subst (λ (d : List Decl). AreNamed d) (sym e.1) (are_named_in bytes a.tokens p a.spelled))
-    (subst (λ (q : r.Program). IsWellTyped q) meant a.typed)
+    (fine (named ds) (subst (λ (q : r.Program). KeepsTypes q) meant a.typed))
     (subst (λ (t : List Tok). AreJudged t) (sym e.0) a.judged)
     (subst (λ (q : r.Program). limit_of q ≡ None) meant a.within)
     h
 
-pub program_not_refused : Known → (bytes : List ℕ) (p : r.Program) (x : Refusal) → IsProgramOf bytes p → IsRefusedBy bytes x → ⊥
-program_not_refused k bytes p x a b = no_reason k bytes p x a (why bytes x b)
+pub program_not_refused : Known → Fine → (bytes : List ℕ) (p : r.Program) (x : Refusal) → IsProgramOf bytes p → IsRefusedBy bytes x → ⊥
+program_not_refused k fine bytes p x a b = no_reason k fine bytes p x a (why fine bytes x b)
 
 -- ---- refusals
-names_alike : (f g : n.Fault) → (f.kind ≡ g.kind) × (f.pos ≡ g.pos) → without_name (Names f) ≡ without_name (Names g)
-names_alike f g e =
-    ap (λ (k : FaultKind). Names (record { kind = k; pos = f.pos; name = [] })) e.0
-    ∙ ap (λ (p : Pos). Names (record { kind = g.kind; pos = p; name = [] })) e.1
-
-later_alike : (p q : Pos) (v w : List ℕ) → (p ≡ q) × (v ≡ w) → without_name (Later p v) ≡ without_name (Later q w)
+later_alike : (p q : Pos) (v w : List ℕ) → (p ≡ q) × (v ≡ w) → Later p v ≡ Later q w
 later_alike p q v w e = ap (λ (x : Pos). Later x v) e.0 ∙ ap (λ (x : List ℕ). Later q x) e.1
 
 one_limit : (o : Option Refusal) (x y : Refusal) → o ≡ Some x → o ≡ Some y → x ≡ y
 one_limit o x y h k = let e : Some x ≡ Some y = sym h ∙ k in cc
 
 -- two reasons, by what each is
-through : (x y u v : Refusal) → x ≡ u → y ≡ v → without_name u ≡ without_name v → without_name x ≡ without_name y
-through x y u v h k e = ap without_name h ∙ (e ∙ sym (ap without_name k))
+through : (x y u v : Refusal) → x ≡ u → y ≡ v → u ≡ v → x ≡ y
+through x y u v h k e = h ∙ (e ∙ sym k)
 
-rest_alike : (ts : List Tok) (ds : List Decl) (x y : Refusal) → Rest ts ds x → Rest ts ds y → without_name x ≡ without_name y
-rest_alike ts ds x y (misnamed f a e) (misnamed g b h) = through x y (Names f) (Names g) e h (names_alike f g (one_name_fault ds f g a b))
+rest_alike : (ts : List Tok) (ds : List Decl) (x y : Refusal) → Rest ts ds x → Rest ts ds y → x ≡ y
+rest_alike ts ds x y (misnamed f a e) (misnamed g b h) = through x y (Names f) (Names g) e h (ap Names (one_told ds f g a b))
 rest_alike ts ds x y (misnamed f a e) (mistyped g n b h) = absurd (named_no_fault ds f n a)
 rest_alike ts ds x y (misnamed f a e) (unjudged q w n t b h) = absurd (named_no_fault ds f n a)
 rest_alike ts ds x y (misnamed f a e) (large n t j h) = absurd (named_no_fault ds f n a)
@@ -118,14 +119,14 @@ rest_alike ts ds x y (unjudged p v m s a e) (large n t j h) = absurd (judged_not
 rest_alike ts ds x y (large m s i e) (misnamed g b h) = absurd (named_no_fault ds g m b)
 rest_alike ts ds x y (large m s i e) (mistyped g n b h) = absurd (typed_no_fault (named ds) g s b)
 rest_alike ts ds x y (large m s i e) (unjudged q w n t b h) = absurd (judged_not_unjudged outside ts q w i b)
-rest_alike ts ds x y (large m s i e) (large n t j h) = ap without_name (one_limit (limit_of (named ds)) x y e h)
+rest_alike ts ds x y (large m s i e) (large n t j h) = one_limit (limit_of (named ds)) x y e h
 
-alike : Known → (bytes : List ℕ) (x y : Refusal) → Why bytes x → Why bytes y → without_name x ≡ without_name y
-alike k bytes x y (long l e) (long m f) = ap without_name (e ∙ sym f)
+alike : Known → (bytes : List ℕ) (x y : Refusal) → Why bytes x → Why bytes y → x ≡ y
+alike k bytes x y (long l e) (long m f) = e ∙ sym f
 alike k bytes x y (long l e) (none m h) = absurd (omega (arith, l, m))
 alike k bytes x y (long l e) (some m ts ds tree h) = absurd (omega (arith, l, m))
 alike k bytes x y (none l g) (long m f) = absurd (omega (arith, l, m))
-alike k bytes x y (none l g) (none m h) = ap without_name (one_refusal k bytes x y g h)
+alike k bytes x y (none l g) (none m h) = one_refusal k bytes x y g h
 alike k bytes x y (none l g) (some m ts ds tree h) = absurd (not_both k bytes ts ds x tree g)
 alike k bytes x y (some l ts ds tree g) (long m f) = absurd (omega (arith, l, m))
 alike k bytes x y (some l ts ds tree g) (none m h) = absurd (not_both k bytes ts ds y tree h)
@@ -133,5 +134,5 @@ alike k bytes x y (some l ts ds tree g) (some m us es other h) =
     let e = one_tree k bytes us ts es ds other tree in
     rest_alike ts ds x y g (subst (λ (d : List Decl). Rest ts d y) e.1 (subst (λ (t : List Tok). Rest t es y) e.0 h))
 
-pub refused_alike : Known → (bytes : List ℕ) (x y : Refusal) → IsRefusedBy bytes x → IsRefusedBy bytes y → without_name x ≡ without_name y
-refused_alike k bytes x y a b = alike k bytes x y (why bytes x a) (why bytes y b)
+pub refused_alike : Known → Fine → (bytes : List ℕ) (x y : Refusal) → IsRefusedBy bytes x → IsRefusedBy bytes y → x ≡ y
+refused_alike k fine bytes x y a b = alike k bytes x y (why fine bytes x a) (why fine bytes y b)

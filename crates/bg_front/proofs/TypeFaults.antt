@@ -1,22 +1,13 @@
 -- A program has no fault of types, or one that is answered.
-use Rattle.std.proofs.Common.{◌≡◌, inl, inr, ℕ, Bool, true, false, List, [], ◌∷◌, ◌++◌, Some, slice_get, sym, ap, ◌∙◌, subst, arith}
-use mathlib.Core.Logic.{dite}
-use native.Mathlib.Decide.{ℕ_discrete, dec_lt}
-use Rattle.bg_graph.specs.Graphs.{Graph, IsFirstOnCycle}
+use Rattle.std.proofs.Common.{◌≡◌, inl, inr, ℕ, Bool, true, false, List, [], ◌∷◌, ◌++◌, Some, slice_get, sym, ap, ◌∙◌, subst}
 use Rattle.bg_ast.specs.Resolved as r
 use Rattle.bg_kinds.specs.Faults.{Fault, EachOf, IsFirst, CyclicSynonym, comes_before}
 use Rattle.bg_kinds.specs.Kinds.{Kind}
 use Rattle.bg_types.specs.Programs.{program_faults}
 use Rattle.bg_kinds.specs.Synonyms.{synonym_graph, IsCyclic}
 use Rattle.bg_types.specs.Verdicts.{IsWellTyped, IsFault}
+use Rattle.bg_resolve.proofs.Told.{one_on_cycle}
 use Rattle.bg_front.proofs.Unfolded.{one_unfolding}
-
--- ---- the first node on a cycle is one alone
-pub one_on_cycle : (g : Graph) (j k : ℕ) → IsFirstOnCycle g j → IsFirstOnCycle g k → j ≡ k
-one_on_cycle g j k a b =
-    dite (ℕ_discrete j k)
-    (λ e. e)
-    (λ n. absurd (dite (dec_lt j k) (λ l. b.1 j l a.0) (λ o. a.1 k (omega (arith, n, o)) b.0)))
 
 -- ---- the fault of a list that is answered is one alone
 at_cut : (P : Fault → Type 0) (xs : List Fault) (f : Fault) (ys : List Fault) → EachOf P (xs ++ f ∷ ys) → P f

@@ -1,14 +1,13 @@
 -- The program of a text, and why it has none.
-use Rattle.std.specs.Prelude.{◌≡◌, ◌≤◌, ◌<◌, ℕ, nat_lt, Bool, true, false, if◌then◌else◌, List, [], ◌++◌, length, Option, Some, None}
+use Rattle.std.specs.Prelude.{◌≡◌, ◌≤◌, ◌<◌, ℕ, nat_lt, Bool, true, false, if◌then◌else◌, List, length, Option, Some, None}
 use Rattle.bg_text.specs.Tokens.{Tok}
 use Rattle.bg_text.specs.Trees.{Decl}
 use Rattle.bg_ast.specs.Resolved as r
-use Rattle.bg_names.specs.Faults as n
-use Rattle.bg_resolve.specs.Program.{plain_faults}
-use Rattle.bg_resolve.specs.Resolves.{Recursion}
+use Rattle.bg_resolve.specs.Resolves.{IsToldFault}
 use Rattle.bg_size.specs.Counts.{most_places, most_expanded, place_counts, expanded_counts, first_above, is_any_above}
-use Rattle.bg_numbers.specs.Declared.{MeansProgram}
-use Rattle.bg_types.specs.Verdicts.{IsWellTyped, IsFault}
+use Rattle.bg_meant.specs.Declared.{MeansProgram}
+use Rattle.bg_types.specs.Verdicts.{IsFault}
+use Rattle.bg_typed.specs.Rules.{KeepsTypes}
 use Rattle.bg_front.specs.Later.{AreJudged, IsUnjudged}
 use Rattle.bg_front.specs.Limits.{most_bytes, most_implementations}
 use Rattle.bg_front.specs.Refusals as f
@@ -16,10 +15,6 @@ use Rattle.bg_front.specs.Refusals.{refusal_of}
 use Rattle.bg_front.specs.Trees.{IsTreeOf, HasNoTree}
 use Rattle.bg_front.specs.declared.refusal.ReadError.{ReadError}
 use Rattle.bg_front.specs.declared.refusal.ReadError.TheVariants as errors
-
--- their first fault of names
-abbrev pub IsNameFault : List Decl → n.Fault → Type 0
-IsNameFault ds fault = (rs : List n.Fault) × Recursion ds rs × n.IsFirst fault (plain_faults ds ++ rs)
 
 -- the bytes, few enough, hold these tokens, which spell declarations that mean this program
 pub record IsMeaningOf (bytes : List ℕ) (ts : List Tok) (program : r.Program) : Type 0 where
@@ -41,34 +36,29 @@ limit_of p =
     then Some (f.Implementations (length p.implementations))
     else size_limit (first_above most_places (place_counts p)) (is_any_above most_expanded (expanded_counts p))
 
--- the bytes spell the program: it has a type everywhere, each of its tokens is judged, and it exceeds no limit
+-- the bytes spell the program: it keeps the rules of types, each of its tokens is judged, and it exceeds no limit
 pub record IsProgramOf (bytes : List ℕ) (program : r.Program) : Type 0 where
   pub tokens : List Tok
   pub spelled : IsMeaningOf bytes tokens program
-  pub typed : IsWellTyped program
+  pub typed : KeepsTypes program
   pub judged : AreJudged tokens
   pub within : limit_of program ≡ None
 
 -- the bytes spell a program that is typed and judged, and exceeds this limit first
 abbrev pub ExceedsLimit : List ℕ → f.Refusal → Type 0
 ExceedsLimit bytes limit =
-    (ts : List Tok) × (p : r.Program) × IsMeaningOf bytes ts p × IsWellTyped p × AreJudged ts × (limit_of p ≡ Some limit)
+    (ts : List Tok) × (p : r.Program) × IsMeaningOf bytes ts p × KeepsTypes p × AreJudged ts × (limit_of p ≡ Some limit)
 
 -- why a text has no program; each reason stands only where none before it does
 abbrev pub IsRefusedBy : List ℕ → f.Refusal → Type 0
 IsRefusedBy bytes f.TooLong = most_bytes < length bytes
-IsRefusedBy bytes (f.Names fault) = (length bytes ≤ most_bytes) × (ts : List Tok) × (ds : List Decl) × IsTreeOf bytes ts ds × IsNameFault ds fault
+IsRefusedBy bytes (f.Names fault) = (length bytes ≤ most_bytes) × (ts : List Tok) × (ds : List Decl) × IsTreeOf bytes ts ds × IsToldFault ds fault
 IsRefusedBy bytes (f.Types ds fault) = (ts : List Tok) × (p : r.Program) × IsMeaningOf bytes ts p × IsFault p fault × (ds ≡ p.types)
-IsRefusedBy bytes (f.Later pos word) = (ts : List Tok) × (p : r.Program) × IsMeaningOf bytes ts p × IsWellTyped p × IsUnjudged ts pos word
+IsRefusedBy bytes (f.Later pos word) = (ts : List Tok) × (p : r.Program) × IsMeaningOf bytes ts p × KeepsTypes p × IsUnjudged ts pos word
 IsRefusedBy bytes (f.Implementations n) = ExceedsLimit bytes (f.Implementations n)
 IsRefusedBy bytes (f.Places n) = ExceedsLimit bytes (f.Places n)
 IsRefusedBy bytes f.Expanded = ExceedsLimit bytes f.Expanded
 IsRefusedBy bytes reason = (length bytes ≤ most_bytes) × HasNoTree bytes reason
-
--- a refusal, the name of a fault of names apart
-abbrev pub without_name : f.Refusal → f.Refusal
-without_name (f.Names fault) = f.Names (record fault { name = [] })
-without_name reason = reason
 
 -- what is said of an answer, unless memory ran out
 abbrev pub IsRefused : List ℕ → ReadError → Type 0

@@ -7,8 +7,9 @@ ghost use Rattle.bg_ast.specs.Resolved.{Program};
 ghost use Rattle.bg_ast.specs.Meaning.{meaning_of};
 ghost use Rattle.bg_sense.specs.Typed.{IsTyped};
 ghost use Rattle.bg_sense.specs.Recursion.{HasNoRecursion};
+ghost use Rattle.bg_sense.specs.Resolved.{IsResolved};
 ghost use Rattle.bg_front.specs.Later.{AreJudged, IsUnjudged};
-ghost use Rattle.bg_front.specs.Programs.{IsProgramOf, IsRefusedBy, without_name};
+ghost use Rattle.bg_front.specs.Programs.{IsProgramOf, IsRefusedBy};
 ghost use Rattle.bg_front.specs.Refusals.{Refusal};
 ghost use Rattle.bg_front.specs.Trees.{IsTreeOf, HasNoTree};
 
@@ -32,12 +33,11 @@ pub fn a_text_has_one_tree_or_one_refusal()
     bg_parse::there_is_one_refusal();
 }
 
-/// A text has one program, or it is refused for one reason, and never both. Of a fault of names the reason is its kind and
-/// its position: no rule says which of several names is named at one position.
+/// A text has one program, or it is refused for one reason, and never both.
 pub fn a_text_has_one_program_or_one_refusal()
     ensures program { (bytes : List ℕ) (p q : Program) → IsProgramOf bytes p → IsProgramOf bytes q → p ≡ q }
     ensures both { (bytes : List ℕ) (p : Program) (r : Refusal) → IsProgramOf bytes p → IsRefusedBy bytes r → ⊥ }
-    ensures refusal { (bytes : List ℕ) (r s : Refusal) → IsRefusedBy bytes r → IsRefusedBy bytes s → without_name r ≡ without_name s }
+    ensures refusal { (bytes : List ℕ) (r s : Refusal) → IsRefusedBy bytes r → IsRefusedBy bytes s → r ≡ s }
 {
     bg_lex::laws::a_text_holds_one_list_of_tokens();
     bg_lex::laws::a_text_has_one_refusal();
@@ -45,13 +45,18 @@ pub fn a_text_has_one_program_or_one_refusal()
     bg_parse::tokens_spell_one_program();
     bg_parse::answers_exclude_one_another();
     bg_parse::there_is_one_refusal();
+    bg_typed::laws::programs_that_keep_the_rules_have_no_fault();
 }
 
 /// The program of a text is typed in the sense of its meaning, and no function of it reaches itself.
 pub fn programs_are_typed()
     ensures { (bytes : List ℕ) (p : Program) → IsProgramOf bytes p → IsTyped (meaning_of p) × HasNoRecursion (meaning_of p) }
+{}
+
+/// In the program of a text clauses, calls, loops, conditionals and labels have numbers of their own, and procedures and candidates that
+/// are named are there.
+pub fn programs_are_resolved()
+    ensures { (bytes : List ℕ) (p : Program) → IsProgramOf bytes p → IsResolved (meaning_of p) }
 {
-    bg_named::laws::resolved_programs_are_named();
-    bg_named::laws::functions_do_not_recur();
-    bg_typed::laws::well_typed_programs_are_typed();
+    bg_meant::laws::programs_are_resolved();
 }

@@ -3,7 +3,7 @@ ghost use Rattle.std.specs.Prelude.{◌≤◌, length, IfOk, IfErr};
 ghost use Rattle.bg_text.specs.Tokens.{views};
 ghost use Rattle.bg_text.specs.Views.{decls_of};
 ghost use Rattle.bg_ast.specs.Views.{program_of};
-ghost use Rattle.bg_types.specs.Verdicts.{IsWellTyped};
+ghost use Rattle.bg_typed.specs.Rules.{KeepsTypes};
 ghost use Rattle.bg_front.specs.Later.{AreJudged};
 ghost use Rattle.bg_front.specs.Limits.{most_bytes};
 ghost use Rattle.bg_front.specs.Programs.{IsMeaningOf, IsProgramOf, IsRefused};
@@ -15,9 +15,11 @@ use crate::refusal::{ReadError, Refusal};
 use crate::sizes::limit_of;
 use crate::tree::{Read, tree_of};
 use bg_ast::resolved::Resolved;
-use bg_numbers::laws::names_mean_a_program;
+use bg_meant::laws::names_mean_a_program;
+use bg_named::laws::resolved_programs_are_named;
 use bg_resolve::{ResolveError, resolve};
 use bg_text::{Decl, Token};
+use bg_typed::laws::faultless_programs_keep_the_rules;
 use bg_types::{TypeFault, Typed, check_types};
 use std::alloc::Global;
 
@@ -53,7 +55,7 @@ fn meaning<'a>(
     }
 }
 
-/// The same, where it has a type everywhere.
+/// The same, where it keeps the rules of types.
 fn typed<'a>(
     alloc: Global,
     bytes: &'a [u8],
@@ -62,9 +64,11 @@ fn typed<'a>(
 ) -> Result<Typed, ReadError<'a>>
     requires meant { IsMeaningOf bytes.now (views tokens.now) (program_of program) }
     ensures meant { IfOk result (λ t. IsMeaningOf bytes.now (views tokens.now) (program_of t.program)) }
-    ensures typed { IfOk result (λ t. IsWellTyped (program_of t.program)) }
+    ensures typed { IfOk result (λ t. KeepsTypes (program_of t.program)) }
     ensures refused { IfErr result (λ e. IsRefused bytes.now e) }
 {
+    resolved_programs_are_named();
+    faultless_programs_keep_the_rules();
     match check_types(alloc, program) {
         Ok(typed) => Ok(typed),
         Err(TypeFault::Refused(refusal)) => Err(ReadError::Refused(Refusal::Types(refusal))),
@@ -80,7 +84,7 @@ fn counted<'a>(
     typed: Typed,
 ) -> Result<Typed, ReadError<'a>>
     requires meant { IsMeaningOf bytes.now (views tokens.now) (program_of typed.program) }
-    requires typed { IsWellTyped (program_of typed.program) }
+    requires typed { KeepsTypes (program_of typed.program) }
     requires judged { AreJudged (views tokens.now) }
     ensures program { IfOk result (λ t. IsProgramOf bytes.now (program_of t.program)) }
     ensures refused { IfErr result (λ e. IsRefused bytes.now e) }
@@ -100,7 +104,7 @@ fn judged<'a>(
     typed: Typed,
 ) -> Result<Typed, ReadError<'a>>
     requires meant { IsMeaningOf bytes.now (views tokens.now) (program_of typed.program) }
-    requires typed { IsWellTyped (program_of typed.program) }
+    requires typed { KeepsTypes (program_of typed.program) }
     ensures program { IfOk result (λ t. IsProgramOf bytes.now (program_of t.program)) }
     ensures refused { IfErr result (λ e. IsRefused bytes.now e) }
 {

@@ -1,18 +1,12 @@
 -- From tokens to what is judged.
-use Rattle.std.proofs.Common.{◌≡◌, ℕ, Bool, true, false, List, [], refl, sym, ◌∙◌, subst}
+use Rattle.std.proofs.Common.{◌≡◌, ℕ, Bool, true, false, List, refl, sym, subst}
 use Rattle.std.specs.Prelude.{◌&&◌, not}
 use Rattle.bg_text.specs.declared.token.Kind.{Kind}
 use Rattle.bg_text.specs.declared.token.Kind.TheVariants as kinds
 use Rattle.bg_text.specs.Tokens.{Tok}
-use Rattle.bg_text.specs.Trees.{Decl}
-use Rattle.bg_text.specs.Types.{All}
-use Rattle.bg_text.specs.Declarations.{IsDecl}
 use Rattle.bg_ast.specs.Resolved as r
 use Rattle.bg_ast.specs.Meaning.{meaning_of}
-use Rattle.bg_resolve.specs.Program.{plain_faults, named}
-use Rattle.bg_types.specs.Verdicts.{IsWellTyped}
-use Rattle.bg_sense.specs.Typed.{IsTyped}
-use Rattle.bg_typed.specs.Programs.{IsNamedProgram}
+use Rattle.bg_typed.specs.Rules.{KeepsTypes}
 use Rattle.bg_front.specs.Later.{is_unjudged, outside, spot_from}
 use Rattle.bg_front.specs.Programs.{IsMeaningOf, IsProgramOf}
 use Rattle.bg_front.proofs.Named.{are_named_in, is_named_in}
@@ -89,17 +83,12 @@ judged_here : (inside : Bool) (k : Kind) → inside ≡ false → (not inside &&
 judged_here true k out h = never out
 judged_here false k out h = h
 
-module _ (are_named : (ds : List Decl) → All IsDecl ds → plain_faults ds ≡ [] → IsNamedProgram (named ds)) (are_typed : (p : r.Program) → IsNamedProgram p → IsWellTyped p → IsTyped (meaning_of p)) where
-  meaning_typed : (bytes : List ℕ) (ts : List Tok) (p : r.Program) → IsMeaningOf bytes ts p → IsWellTyped p → IsTyped (meaning_of p)
-  meaning_typed bytes ts p h typed =
-      are_typed p (subst IsNamedProgram (sym (is_named_in bytes ts p h)) (are_named h.decls h.tree.1.places.0 (are_named_in bytes ts p h).0)) typed
+pub within_scalars : (numbers : Bool) (bytes : List ℕ) (ts : List Tok) (p : r.Program) → IsMeaningOf bytes ts p → KeepsTypes p → AreWithin numbers ts → is_over_scalars numbers (meaning_of p) ≡ true
+within_scalars numbers bytes ts p h typed within =
+    let good = subst (λ q. passes (is_scalar_type numbers) (few numbers) (meaning_of q) ≡ true) (sym (is_named_in bytes ts p h)) (tokens_good numbers ts h.decls within h.tree.1.spells.1 (are_named_in bytes ts p h).0) in
+    program_turn numbers (few numbers) (is_scalar numbers) (scalar_turn numbers) (meaning_of p) typed.typed good
 
-  pub within_scalars : (numbers : Bool) (bytes : List ℕ) (ts : List Tok) (p : r.Program) → IsMeaningOf bytes ts p → IsWellTyped p → AreWithin numbers ts → is_over_scalars numbers (meaning_of p) ≡ true
-  within_scalars numbers bytes ts p h typed within =
-      let good = subst (λ q. passes (is_scalar_type numbers) (few numbers) (meaning_of q) ≡ true) (sym (is_named_in bytes ts p h)) (tokens_good numbers ts h.decls within h.tree.1.spells.1 (are_named_in bytes ts p h).0) in
-      program_turn numbers (few numbers) (is_scalar numbers) (scalar_turn numbers) (meaning_of p) (meaning_typed bytes ts p h typed) good
-
-  pub judged_scalars : (bytes : List ℕ) (p : r.Program) → IsProgramOf bytes p → is_over_scalars true (meaning_of p) ≡ true
-  judged_scalars bytes p h =
-      let within : AreWithin true h.tokens = λ front t rest cut out. beyond_unjudged t.kind (judged_here (spot_from outside front).inside t.kind out (h.judged front t rest cut)) in
-      within_scalars true bytes h.tokens p h.spelled h.typed within
+pub judged_scalars : (bytes : List ℕ) (p : r.Program) → IsProgramOf bytes p → is_over_scalars true (meaning_of p) ≡ true
+judged_scalars bytes p h =
+    let within : AreWithin true h.tokens = λ front t rest cut out. beyond_unjudged t.kind (judged_here (spot_from outside front).inside t.kind out (h.judged front t rest cut)) in
+    within_scalars true bytes h.tokens p h.spelled h.typed within

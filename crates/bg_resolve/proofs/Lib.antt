@@ -3,3 +3,4 @@ pub mod Programs
 pub mod CallForms
 pub mod Recursions
 pub mod Resolved
+pub mod Told

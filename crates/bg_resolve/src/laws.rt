@@ -1,10 +1,12 @@
 //! What holds of faults.
-ghost use Rattle.std.specs.Prelude.{◌≡◌, List, [], Some, None, ◌∷◌};
+ghost use Rattle.std.specs.Prelude.{◌≡◌, List, [], Some, None, ◌∷◌, ◌++◌};
 ghost use Rattle.bg_text.specs.Trees as t;
 ghost use Rattle.bg_graph.specs.Graphs.{IsGraph};
 ghost use Rattle.bg_names.specs.Spaces.{names_of};
 ghost use Rattle.bg_spaces.specs.Declarations.{function_ids};
 ghost use Rattle.bg_resolve.specs.Calls.{calls_in};
+ghost use Rattle.bg_resolve.specs.Program.{plain_faults};
+ghost use Rattle.bg_resolve.specs.Resolves.{Recursion, IsToldFault};
 ghost use Rattle.bg_names.specs.Faults.{Fault, better, fault, IsFirst};
 ghost use Rattle.bg_names.specs.declared.error.FaultKind.TheVariants.{UnknownName, Duplicate, AssignsInput, NotModified, BadTarget, BadOld, UnnamedArgument};
 ghost use Rattle.bg_bodies.specs.Bodies.{break_word};
@@ -14,6 +16,12 @@ ghost use Rattle.bg_resolve.specs.Examples.{at, first_fault, unknown_x, input_x,
 pub fn the_best_is_first()
     ensures some { (fs : List Fault) (f : Fault) → better None fs ≡ Some f → IsFirst f fs }
     ensures none { (fs : List Fault) → better None fs ≡ None → fs ≡ [] }
+{}
+
+/// The fault of names that is answered is one alone, with its name, and none of the others comes before it.
+pub fn told_faults_are_one()
+    ensures one { (ds : List t.Decl) (f g : Fault) → IsToldFault ds f → IsToldFault ds g → f ≡ g }
+    ensures first { (ds : List t.Decl) (f : Fault) → IsToldFault ds f → (rs : List Fault) × Recursion ds rs × IsFirst f (plain_faults ds ++ rs) }
 {}
 
 #[tactic(auto, unfolding(bg_names::specs::Spaces::with_name, bg_names::specs::Spaces::place, bg_names::specs::Spaces::meaning, bg_names::specs::Faults::is_before))]

@@ -50,7 +50,7 @@ fn named<'a>(
 }
 
 /// The program with numbers for names. Errors: `Fault`, the first fault of names by position, of two at one position the
-/// first in the list of kinds; `Memory`.
+/// first in the list of kinds, of two of one kind there the first in the order in which declarations are judged; `Memory`.
 pub fn resolve(alloc: Global, decls: &[Decl]) -> Result<Resolved, ResolveError>
     ensures { Resolves (map v.decl_of decls.now) result }
 {

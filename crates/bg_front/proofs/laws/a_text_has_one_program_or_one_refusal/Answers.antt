@@ -26,6 +26,7 @@ returns-clause-both c =
       stop_deep = c.answers_exclude_one_another.ensures.refusals;
       stops = c.there_is_one_refusal.ensures.syntax;
     })
+    c.programs_that_keep_the_rules_have_no_fault.ensures
 
 pub returns-clause-refusal : goal.returns-clause-refusal
 returns-clause-refusal c =
@@ -39,3 +40,4 @@ returns-clause-refusal c =
       stop_deep = c.answers_exclude_one_another.ensures.refusals;
       stops = c.there_is_one_refusal.ensures.syntax;
     })
+    c.programs_that_keep_the_rules_have_no_fault.ensures

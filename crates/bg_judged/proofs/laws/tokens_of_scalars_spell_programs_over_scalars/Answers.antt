@@ -2,4 +2,4 @@ use Rattle.bg_judged.proofs.Judging.{within_scalars}
 use Rattle.bg_judged.proofs.laws.tokens_of_scalars_spell_programs_over_scalars.Goals as goal
 
 pub returns : goal.returns
-returns c = within_scalars c.resolved_programs_are_named.ensures c.well_typed_programs_are_typed.ensures
+returns c = within_scalars

@@ -1,0 +1,12 @@
+mod Times
+mod Statements
+mod Labels
+mod Bodies
+mod Programs
+mod Places
+mod Meanings
+mod Once
+mod StMeanings
+mod DeclMeanings
+mod Applied
+pub mod Meant

@@ -1,0 +1,4 @@
+pub mod Means
+pub mod Once
+pub mod Statements
+pub mod Declared

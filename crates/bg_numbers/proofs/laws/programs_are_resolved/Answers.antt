@@ -1,5 +1,0 @@
-use Rattle.bg_numbers.proofs.Programs.{resolved_program}
-use Rattle.bg_numbers.proofs.laws.programs_are_resolved.Goals as goal
-
-pub returns : goal.returns
-returns c = resolved_program

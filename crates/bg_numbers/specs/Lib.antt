@@ -1,5 +1,0 @@
-pub mod Told
-pub mod Means
-pub mod Once
-pub mod Statements
-pub mod Declared
