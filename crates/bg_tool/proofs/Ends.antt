@@ -4,7 +4,7 @@ use Rattle.std.specs.Prelude.{IsTrue, ◌≢◌}
 use Rattle.std.proofs.lemmas.List.{length-replicate}
 use Rattle.bg_io.specs.Causes.{joined_text, IsTextOf, IsTextOver}
 use Rattle.bg_ast.specs.Resolved.{Program}
-use Rattle.bg_front.specs.Programs.{IsProgramOf, IsRefusedBy, without_name}
+use Rattle.bg_front.specs.Programs.{IsProgramOf, IsRefusedBy}
 use Rattle.bg_front.specs.Refusals.{Refusal, TooLong, Bytes, Syntax, Nesting, Names, Types, Later, Implementations, Places, Expanded, is_limit}
 use Rattle.bg_tree.specs.declared.outcome.Budget.{Budget}
 use Rattle.bg_tool.specs.declared.status.Status.{Status}
@@ -36,26 +36,13 @@ with_is Expanded = refl
 pub status_refuses : (r : Refusal) → IsTrue (is_refused (refusal_status r))
 status_refuses r = subst (λ s. IsTrue (is_refused s)) (sym (with_is r)) (refuses (is_limit r))
 
--- the name of a fault of names says nothing of the status
-nameless : (r : Refusal) → refusal_status (without_name r) ≡ refusal_status r
-nameless TooLong = refl
-nameless (Bytes p f) = refl
-nameless (Syntax p) = refl
-nameless Nesting = refl
-nameless (Names f) = refl
-nameless (Types ds f) = refl
-nameless (Later p w) = refl
-nameless (Implementations n) = refl
-nameless (Places n) = refl
-nameless Expanded = refl
-
 -- what is known of texts
 pub record Known : Type 0 where
   pub both : (bytes : List ℕ) (p : Program) (r : Refusal) → IsProgramOf bytes p → IsRefusedBy bytes r → ⊥
-  pub refusal : (bytes : List ℕ) (r s : Refusal) → IsRefusedBy bytes r → IsRefusedBy bytes s → without_name r ≡ without_name s
+  pub refusal : (bytes : List ℕ) (r s : Refusal) → IsRefusedBy bytes r → IsRefusedBy bytes s → r ≡ s
 
 one_status : Known → (bytes : List ℕ) (r s : Refusal) → IsRefusedBy bytes r → IsRefusedBy bytes s → refusal_status r ≡ refusal_status s
-one_status k bytes r s a b = sym (nameless r) ∙ ap refusal_status (k.refusal bytes r s a b) ∙ nameless s
+one_status k bytes r s a b = ap refusal_status (k.refusal bytes r s a b)
 
 -- a text that is longer than n, where it is told; any one where it isn't
 pub long_text : (contents : Option (List ℕ → List ℕ)) (names : List (List ℕ)) (n : ℕ) → IsTextOver contents names n → (bytes : List ℕ) × (IsTextOf contents names bytes × (n < length bytes))
