@@ -1,7 +1,7 @@
 #!/usr/bin/env python3
 """Times of programs of doubling size, as ratios: bodies of assignments, of checks and of conditionals, lists of procedures, chains of
 calls, loops, all over truth values; chains of relations between numbers, nests of loops that count, small procedures over numbers; and
-reading alone. And the least numbers of inner nodes (`--nodes`) and of rows (`--rows`) with which some are judged as with many."""
+reading alone. And the least numbers of nodes that count (`--nodes`) and of rows (`--rows`) with which some are judged as with many."""
 import argparse
 import os
 import subprocess

@@ -1,5 +1,5 @@
 #!/usr/bin/env python3
-"""Writes a table of the least numbers of inner nodes (`--nodes`) and of rows (`--rows`) with which each program of examples/ is judged
+"""Writes a table of the least numbers of nodes that count (`--nodes`) and of rows (`--rows`) with which each program of examples/ is judged
 as with 1,000,000 of both.
 
 usage: needs.py --bg COMMAND
