@@ -1,17 +1,13 @@
-use Rattle.std.proofs.Common.{◌≡◌, ◌≢◌, ℕ, Bool, true, false, List, [], ◌∷◌, ◌++◌, codes, flat_map, map, sym, ap, ◌∙◌, append_assoc, if◌then◌else◌, arith, refl}
+use Rattle.std.proofs.Common.{◌≡◌, ◌≢◌, ℕ, List, [], ◌∷◌, ◌++◌, codes, flat_map, map, sym, ap, ◌∙◌, append_assoc, arith, refl}
 use Rattle.std.proofs.lemmas.List.{append_cancel_left}
-use Rattle.bg_check.specs.declared.verdict.Cause.{Cause}
-use Rattle.bg_told.specs.Kept.{kept_text}
-use Rattle.bg_places.specs.declared.place.Place.{Place}
-use Rattle.bg_scalar.specs.declared.scalar.Scalar.{Scalar}
-use Rattle.bg_scalar.specs.declared.choice.Choice.{Choice}
-use Rattle.bg_check.specs.declared.verdict.Verdict.{Verdict}
-use Rattle.bg_check.specs.declared.verdict.Verdict.TheVariants as verdict
-use Rattle.bg_check.specs.declared.verdict.Judged.{Judged}
-use Rattle.bg_told.specs.Words.{is_ordinary}
-use Rattle.bg_told.specs.Lines.{line, texts, scalar_text}
-use Rattle.bg_told.specs.Places.{place_text, value_text, chosen_text, choice_text, refuted_text, unknown_text, verdict_text, judged_text}
-use Rattle.bg_told.proofs.Cuts.{IsFlat, is_flat, cut, place_is_flat, scalar_is_flat, chosen_is_flat, behind_is_flat, cause_parts}
+use Rattle.bg_ast.specs.Values.{Val}
+use Rattle.bg_ast.specs.Execution.{Choice}
+use Rattle.bg_places.specs.Placed.{Placed}
+use Rattle.bg_sound.specs.Told.{Why, Verdict, Proved, Refuted, Unknown, Judged}
+use Rattle.bg_told.specs.Kept.{why_text, kept_text}
+use Rattle.bg_told.specs.Lines.{line, texts, value_text}
+use Rattle.bg_told.specs.Places.{place_text, variable_text, chosen_text, choice_text, refuted_text, unknown_text, verdict_text, judged_text}
+use Rattle.bg_told.proofs.Cuts.{IsFlat, append_is_flat, word_is_flat, cut, place_is_flat, value_is_flat, chosen_is_flat, why_is_flat, kept_is_flat}
 
 abbrev pub first : List ℕ → ℕ
 first [] = 0
@@ -35,23 +31,23 @@ pub record IsHead (text : List ℕ) : Type 0 where
   pub no_place : first text ≢ 32
   pub past : IsPast text
 
-value_cells : (name : List ℕ) (v : Scalar) (x : List ℕ) → value_text name v ++ x ≡ (codes "    var " ++ name ++ codes " = ") ++ (scalar_text v ++ (10 ∷ x))
+value_cells : (name : List ℕ) (v : Val) (x : List ℕ) → variable_text name v ++ x ≡ (codes "    var " ++ name ++ codes " = ") ++ (value_text v ++ (10 ∷ x))
 value_cells name v x = simp append_assoc
 
-value_apart : (name : List ℕ) (v w : Scalar) (x y : List ℕ) → value_text name v ++ x ≡ value_text name w ++ y → x ≡ y
+value_apart : (name : List ℕ) (v w : Val) (x y : List ℕ) → variable_text name v ++ x ≡ variable_text name w ++ y → x ≡ y
 value_apart name v w x y h =
-    cut (scalar_text v) (scalar_text w) x y (scalar_is_flat v) (scalar_is_flat w)
+    cut (value_text v) (value_text w) x y (value_is_flat v) (value_is_flat w)
     (append_cancel_left (codes "    var " ++ name ++ codes " = ") _ _ (sym (value_cells name v x) ∙ h ∙ value_cells name w y))
 
 -- the values of one row of names end where no value's line follows
-values_apart : (names : List (List ℕ)) (vs ws : List Scalar) (x y : List ℕ) → fifth x ≢ 118 → fifth y ≢ 118 → texts value_text names vs ++ x ≡ texts value_text names ws ++ y → x ≡ y
+values_apart : (names : List (List ℕ)) (vs ws : List Val) (x y : List ℕ) → fifth x ≢ 118 → fifth y ≢ 118 → texts variable_text names vs ++ x ≡ texts variable_text names ws ++ y → x ≡ y
 values_apart [] vs ws x y hx hy h = h
 values_apart (n ∷ ns) [] [] x y hx hy h = h
 values_apart (n ∷ ns) (v ∷ vs) [] x y hx hy h = absurd (hy (sym (ap fifth h)))
 values_apart (n ∷ ns) [] (w ∷ ws) x y hx hy h = absurd (hx (ap fifth h))
 values_apart (n ∷ ns) (v ∷ vs) (w ∷ ws) x y hx hy h =
     values_apart ns vs ws x y hx hy
-    (value_apart n v w _ _ (sym (append_assoc (value_text n v) (texts value_text ns vs) x) ∙ h ∙ append_assoc (value_text n w) (texts value_text ns ws) y))
+    (value_apart n v w _ _ (sym (append_assoc (variable_text n v) (texts variable_text ns vs) x) ∙ h ∙ append_assoc (variable_text n w) (texts variable_text ns ws) y))
 
 choice_cells : (c : Choice) (x : List ℕ) → choice_text c ++ x ≡ codes "    choice " ++ (chosen_text c ++ (10 ∷ x))
 choice_cells c x = append_assoc (codes "    choice " ++ chosen_text c) (10 ∷ []) x
@@ -78,60 +74,54 @@ no_value_behind (c ∷ cs) x h = λ e. let f : 99 ≡ 118 = e in omega (arith, f
 refuted_cells : (a t u x : List ℕ) → (line (codes "  refuted " ++ a) ++ (t ++ u)) ++ x ≡ codes "  refuted " ++ (a ++ (10 ∷ (t ++ (u ++ x))))
 refuted_cells a t u x = append_assoc (line (codes "  refuted " ++ a)) (t ++ u) x ∙ append_assoc (codes "  refuted " ++ a) (10 ∷ []) ((t ++ u) ++ x) ∙ ap (λ z. codes "  refuted " ++ (a ++ (10 ∷ z))) (append_assoc t u x)
 
-unknown_cells : (a w d x : List ℕ) → ((codes "  unknown " ++ a) ++ kept_text w d) ++ x ≡ codes "  unknown " ++ ((a ++ (codes " " ++ w)) ++ (10 ∷ (codes "    kept " ++ (d ++ (10 ∷ x)))))
+unknown_cells : (a w d x : List ℕ) → ((codes "  unknown " ++ a) ++ (line (codes " " ++ w) ++ line (codes "    kept " ++ d))) ++ x ≡ codes "  unknown " ++ ((a ++ (codes " " ++ w)) ++ (10 ∷ (codes "    kept " ++ (d ++ (10 ∷ x)))))
 unknown_cells a w d x = two_lines (codes "  unknown ") a (codes " " ++ w) (codes "    kept ") d x
   where
     two_lines : (c a m k d x : List ℕ) → ((c ++ a) ++ (line m ++ line (k ++ d))) ++ x ≡ c ++ ((a ++ m) ++ (10 ∷ (k ++ (d ++ (10 ∷ x)))))
     two_lines c a m k d x = simp append_assoc
 
-refuted_apart : (names : List (List ℕ)) (p q : Place) (vs ws : List Scalar) (cs ds : List Choice) (x y : List ℕ) → IsPast x → IsPast y → refuted_text names p vs cs ++ x ≡ refuted_text names q ws ds ++ y → x ≡ y
+refuted_apart : (names : List (List ℕ)) (p q : Placed) (vs ws : List Val) (cs ds : List Choice) (x y : List ℕ) → IsPast x → IsPast y → refuted_text names p vs cs ++ x ≡ refuted_text names q ws ds ++ y → x ≡ y
 refuted_apart names p q vs ws cs ds x y hx hy h =
     choices_apart cs ds x y hx.no_choice hy.no_choice
     (values_apart names vs ws (flat_map choice_text cs ++ x) (flat_map choice_text ds ++ y) (no_value_behind cs x hx) (no_value_behind ds y hy)
     (cut (place_text p) (place_text q) _ _ (place_is_flat p) (place_is_flat q)
-    (append_cancel_left (codes "  refuted ") _ _ (sym (refuted_cells (place_text p) (texts value_text names vs) (flat_map choice_text cs) x) ∙ h ∙ refuted_cells (place_text q) (texts value_text names ws) (flat_map choice_text ds) y))))
+    (append_cancel_left (codes "  refuted ") _ _ (sym (refuted_cells (place_text p) (texts variable_text names vs) (flat_map choice_text cs) x) ∙ h ∙ refuted_cells (place_text q) (texts variable_text names ws) (flat_map choice_text ds) y))))
 
-unknown_apart : (p q : Place) (v w : Cause) (x y : List ℕ) → unknown_text p v ++ x ≡ unknown_text q w ++ y → x ≡ y
+unknown_apart : (p q : Placed) (v w : Why) (x y : List ℕ) → unknown_text p v ++ x ≡ unknown_text q w ++ y → x ≡ y
 unknown_apart p q v w x y h =
-    let a = cause_parts v in
-    let b = cause_parts w in
-    let left : unknown_text p v ++ x ≡ codes "  unknown " ++ ((place_text p ++ (codes " " ++ a.word)) ++ (10 ∷ (codes "    kept " ++ (a.kept ++ (10 ∷ x))))) = ap (λ (t : List ℕ). ((codes "  unknown " ++ place_text p) ++ t) ++ x) a.is ∙ unknown_cells (place_text p) a.word a.kept x in
-    let right : unknown_text q w ++ y ≡ codes "  unknown " ++ ((place_text q ++ (codes " " ++ b.word)) ++ (10 ∷ (codes "    kept " ++ (b.kept ++ (10 ∷ y))))) = ap (λ (t : List ℕ). ((codes "  unknown " ++ place_text q) ++ t) ++ y) b.is ∙ unknown_cells (place_text q) b.word b.kept y in
-    let flat_left = flat_front p a.word a.word_flat in
-    let flat_right = flat_front q b.word b.word_flat in
-    cut a.kept b.kept x y a.kept_flat b.kept_flat
+    cut (kept_text v) (kept_text w) x y (kept_is_flat v) (kept_is_flat w)
     (append_cancel_left (codes "    kept ") _ _
-    (cut (place_text p ++ (codes " " ++ a.word)) (place_text q ++ (codes " " ++ b.word)) _ _ flat_left flat_right
-    (append_cancel_left (codes "  unknown ") _ _ (sym left ∙ h ∙ right))))
+    (cut (place_text p ++ (codes " " ++ why_text v)) (place_text q ++ (codes " " ++ why_text w)) _ _ (flat_front p v) (flat_front q w)
+    (append_cancel_left (codes "  unknown ") _ _
+    (sym (unknown_cells (place_text p) (why_text v) (kept_text v) x) ∙ h ∙ unknown_cells (place_text q) (why_text w) (kept_text w) y))))
   where
-    flat_front : (p : Place) (w : List ℕ) → is_flat (codes " " ++ w) ≡ true → IsFlat (place_text p ++ (codes " " ++ w))
-    flat_front p w e = behind_is_flat (place_text p) (codes " " ++ w) (place_is_flat p) e
+    flat_front : (a : Placed) (why : Why) → IsFlat (place_text a ++ (codes " " ++ why_text why))
+    flat_front a why =
+        append_is_flat (place_text a) (codes " " ++ why_text why) (place_is_flat a) (append_is_flat (codes " ") (why_text why) (word_is_flat (codes " ") refl) (why_is_flat why))
 
 -- a place's part of a report: nothing, or that of a refuted or an unknown place
 data Shape : Type 0 where
   Nothing : Shape
-  Shown : Place → List Scalar → List Choice → Shape
-  Spent : Place → Cause → Shape
+  Shown : Placed → List Val → List Choice → Shape
+  Spent : Placed → Why → Shape
 
 abbrev shape_text : List (List ℕ) → Shape → List ℕ
 shape_text names Nothing = []
 shape_text names (Shown p vs cs) = refuted_text names p vs cs
 shape_text names (Spent p ns) = unknown_text p ns
 
-abbrev shape_if : Bool → Place → Verdict → Shape
-shape_if false p v = Nothing
-shape_if true p (verdict.Proved nodes) = Nothing
-shape_if true p (verdict.Refuted cex) = Shown p (cex.globals.items ++ cex.frame.items) cex.choices.items
-shape_if true p (verdict.Unknown why) = Spent p why
+abbrev shape_by : Placed → Verdict → Shape
+shape_by p Proved = Nothing
+shape_by p (Refuted i s choices) = Shown p (s.globals ++ s.frame) choices
+shape_by p (Unknown why) = Spent p why
 
 abbrev shape_of : Judged → Shape
-shape_of j = shape_if (is_ordinary j.place) j.place j.verdict
+shape_of j = shape_by j.placed j.verdict
 
-shaped : (names : List (List ℕ)) (o : Bool) (p : Place) (v : Verdict) → (if o then verdict_text names p v else []) ≡ shape_text names (shape_if o p v)
-shaped names false p v = refl
-shaped names true p (verdict.Proved nodes) = refl
-shaped names true p (verdict.Refuted cex) = refl
-shaped names true p (verdict.Unknown why) = refl
+shaped : (names : List (List ℕ)) (p : Placed) (v : Verdict) → verdict_text names p v ≡ shape_text names (shape_by p v)
+shaped names p Proved = refl
+shaped names p (Refuted i s choices) = refl
+shaped names p (Unknown why) = refl
 
 abbrev shapes_text : List (List ℕ) → List Shape → List ℕ
 shapes_text names = flat_map (shape_text names)
@@ -139,7 +129,7 @@ shapes_text names = flat_map (shape_text names)
 all_shaped : (names : List (List ℕ)) (js : List Judged) → flat_map (judged_text names) js ≡ shapes_text names (map shape_of js)
 all_shaped names [] = refl
 all_shaped names (j ∷ js) =
-    ap (λ (t : List ℕ). t ++ flat_map (judged_text names) js) (shaped names (is_ordinary j.place) j.place j.verdict)
+    ap (λ (t : List ℕ). t ++ flat_map (judged_text names) js) (shaped names j.placed j.verdict)
     ∙ ap (λ (t : List ℕ). shape_text names (shape_of j) ++ t) (all_shaped names js)
 
 past_shapes : (names : List (List ℕ)) (ss : List Shape) (x : List ℕ) → IsPast x → IsPast (shapes_text names ss ++ x)
@@ -156,7 +146,7 @@ none_apart names (Shown p vs cs ∷ ss) x y hx h = absurd (hx.no_place (ap first
 none_apart names (Spent p ns ∷ ss) x y hx h = absurd (hx.no_place (ap first h))
 
 -- a refuted place, and then a text t that is read in one way
-refuted_first : (names : List (List ℕ)) (q : Place) (ws : List Scalar) (ds : List Choice) (ss : List Shape) (t x y : List ℕ) → IsPast t → IsHead y → ((rest : List Shape) → t ≡ shapes_text names rest ++ y → x ≡ y) → refuted_text names q ws ds ++ t ≡ shapes_text names ss ++ y → x ≡ y
+refuted_first : (names : List (List ℕ)) (q : Placed) (ws : List Val) (ds : List Choice) (ss : List Shape) (t x y : List ℕ) → IsPast t → IsHead y → ((rest : List Shape) → t ≡ shapes_text names rest ++ y → x ≡ y) → refuted_text names q ws ds ++ t ≡ shapes_text names ss ++ y → x ≡ y
 refuted_first names q ws ds [] t x y ht hy ih h = absurd (hy.no_place (sym (ap first h)))
 refuted_first names q ws ds (Nothing ∷ ss) t x y ht hy ih h = refuted_first names q ws ds ss t x y ht hy ih h
 refuted_first names q ws ds (Shown p vs cs ∷ ss) t x y ht hy ih h =
@@ -164,7 +154,7 @@ refuted_first names q ws ds (Shown p vs cs ∷ ss) t x y ht hy ih h =
 refuted_first names q ws ds (Spent p ns ∷ ss) t x y ht hy ih h = let e : 114 ≡ 117 = ap third h in absurd (omega (arith, e))
 
 -- an unknown place, and then a text t that is read in one way
-unknown_first : (names : List (List ℕ)) (q : Place) (ms : Cause) (ss : List Shape) (t x y : List ℕ) → IsHead y → ((rest : List Shape) → t ≡ shapes_text names rest ++ y → x ≡ y) → unknown_text q ms ++ t ≡ shapes_text names ss ++ y → x ≡ y
+unknown_first : (names : List (List ℕ)) (q : Placed) (ms : Why) (ss : List Shape) (t x y : List ℕ) → IsHead y → ((rest : List Shape) → t ≡ shapes_text names rest ++ y → x ≡ y) → unknown_text q ms ++ t ≡ shapes_text names ss ++ y → x ≡ y
 unknown_first names q ms [] t x y hy ih h = absurd (hy.no_place (sym (ap first h)))
 unknown_first names q ms (Nothing ∷ ss) t x y hy ih h = unknown_first names q ms ss t x y hy ih h
 unknown_first names q ms (Shown p vs cs ∷ ss) t x y hy ih h = let e : 117 ≡ 114 = ap third h in absurd (omega (arith, e))

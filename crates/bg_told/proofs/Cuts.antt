@@ -4,22 +4,13 @@ use Rattle.std.specs.Fmt.{decimal, signed_decimal, digits, digits_onto, digit_gl
 use Rattle.bg_base.specs.declared.exact.Op.{Op}
 use Rattle.bg_base.specs.declared.exact.Op.TheVariants.{Plus, Minus, Times, Negate}
 use Rattle.bg_base.specs.declared.exact.OutOfRange.{OutOfRange}
-use Rattle.bg_tree.specs.declared.outcome.Beyond.{Beyond}
-use Rattle.bg_tree.specs.declared.outcome.Beyond.TheVariants.{Elimination, Value}
-use Rattle.bg_tree.specs.declared.outcome.Why.{Why}
-use Rattle.bg_tree.specs.declared.outcome.Why.TheVariants.{Nodes, Rows, Range}
-use Rattle.bg_told.specs.Kept.{operator_text, operation_text, beyond_text, kept_text, why_text, cause_text}
 use Rattle.bg_base.specs.declared.pos.Pos.{Pos}
-use Rattle.bg_places.specs.declared.place.Spot.{Spot}
-use Rattle.bg_places.specs.declared.place.Spot.TheVariants.{Assert, Entry, Turn, Call, Return}
-use Rattle.bg_places.specs.declared.place.Place.{Place}
-use Rattle.bg_scalar.specs.declared.scalar.Scalar.{Scalar}
-use Rattle.bg_scalar.specs.declared.scalar.Scalar.TheVariants.{Truth, Number}
-use Rattle.bg_scalar.specs.declared.choice.Choice.{Choice}
-use Rattle.bg_scalar.specs.declared.choice.Choice.TheVariants.{Branch, Chosen}
-use Rattle.bg_check.specs.declared.verdict.Cause.{Cause}
-use Rattle.bg_check.specs.declared.verdict.Cause.TheVariants.{Search, Form, Replay}
-use Rattle.bg_told.specs.Lines.{position_text, scalar_text}
+use Rattle.bg_ast.specs.Values.{Val, Num, Truth, Element, Default, Entry}
+use Rattle.bg_ast.specs.Execution.{Spot, AtAssert, AtEntry, AfterTurn, AtCall, AtReturn, Choice, Branch, Chosen}
+use Rattle.bg_places.specs.Placed.{Placed}
+use Rattle.bg_sound.specs.Told.{Why, Nodes, Rows, Range}
+use Rattle.bg_told.specs.Kept.{operator_text, operation_text, why_text, kept_text}
+use Rattle.bg_told.specs.Lines.{position_text, value_text}
 use Rattle.bg_told.specs.Places.{kind_text, call_text, place_text, chosen_text}
 
 -- no byte is below a space: none is a newline
@@ -76,44 +67,47 @@ is_flat (b ∷ bs) = nat_le 32 b && is_flat bs
 flat_byte : (b : ℕ) (r : Bool) → (nat_le 32 b && r) ≡ true → (32 ≤ b) × (r ≡ true)
 flat_byte b r h = let e = and_parts (nat_le 32 b) r h in (leb-true 32 b e.0, e.1)
 
-word_is_flat : (w : List ℕ) → is_flat w ≡ true → IsFlat w
+pub word_is_flat : (w : List ℕ) → is_flat w ≡ true → IsFlat w
 word_is_flat [] h = no_byte
 word_is_flat (b ∷ bs) h = with_byte b bs (flat_byte b (is_flat bs) h).0 (word_is_flat bs (flat_byte b (is_flat bs) h).1)
 
 kind_is_flat : (s : Spot) → IsFlat (kind_text s)
-kind_is_flat (Assert k) = word_is_flat (codes "assert ") refl
-kind_is_flat (Entry k) = word_is_flat (codes "invariant entry ") refl
-kind_is_flat (Turn k) = word_is_flat (codes "invariant turn ") refl
-kind_is_flat (Call s k) = word_is_flat (codes "precondition ") refl
-kind_is_flat (Return m k) = word_is_flat (codes "postcondition ") refl
+kind_is_flat (AtAssert k) = word_is_flat (codes "assert ") refl
+kind_is_flat (AtEntry k) = word_is_flat (codes "invariant entry ") refl
+kind_is_flat (AfterTurn k) = word_is_flat (codes "invariant turn ") refl
+kind_is_flat (AtCall s k) = word_is_flat (codes "precondition ") refl
+kind_is_flat (AtReturn m k) = word_is_flat (codes "postcondition ") refl
 
 call_is_flat : (c : Option Pos) → IsFlat (call_text c)
 call_is_flat None = no_byte
 call_is_flat (Some p) = append_is_flat (position_text p) (codes " of ") (position_is_flat p) (word_is_flat (codes " of ") refl)
 
-pub place_is_flat : (p : Place) → IsFlat (place_text p)
-place_is_flat p =
-    append_is_flat (kind_text p.spot ++ call_text p.call) (position_text p.pos)
-    (append_is_flat (kind_text p.spot) (call_text p.call) (kind_is_flat p.spot) (call_is_flat p.call)) (position_is_flat p.pos)
+pub place_is_flat : (a : Placed) → IsFlat (place_text a)
+place_is_flat a =
+    append_is_flat (kind_text a.place.spot ++ call_text a.call) (position_text a.pos)
+    (append_is_flat (kind_text a.place.spot) (call_text a.call) (kind_is_flat a.place.spot) (call_is_flat a.call)) (position_is_flat a.pos)
 
 signed_is_flat : (z : ℤ) → IsFlat (signed_decimal z)
 signed_is_flat (pos n) = decimal_is_flat n
 signed_is_flat (negsuc n) = with_byte 45 (decimal (suc n)) (omega arith) (decimal_is_flat (suc n))
 
-pub scalar_is_flat : (x : Scalar) → IsFlat (scalar_text x)
-scalar_is_flat (Truth true) = word_is_flat (codes "true") refl
-scalar_is_flat (Truth false) = word_is_flat (codes "false") refl
-scalar_is_flat (Number z) = signed_is_flat z
+pub value_is_flat : (v : Val) → IsFlat (value_text v)
+value_is_flat (Truth true) = word_is_flat (codes "true") refl
+value_is_flat (Truth false) = word_is_flat (codes "false") refl
+value_is_flat (Num z) = signed_is_flat z
+value_is_flat (Element t z) = no_byte
+value_is_flat (Default d) = no_byte
+value_is_flat (Entry k v m) = no_byte
 
 pub chosen_is_flat : (c : Choice) → IsFlat (chosen_text c)
 chosen_is_flat (Branch k) = append_is_flat (codes "branch ") (decimal k) (word_is_flat (codes "branch ") refl) (decimal_is_flat k)
-chosen_is_flat (Chosen x) = scalar_is_flat x
+chosen_is_flat (Chosen v) = value_is_flat v
 
 -- a word behind a text
 pub behind_is_flat : (a w : List ℕ) → IsFlat a → is_flat w ≡ true → IsFlat (a ++ w)
 behind_is_flat a w h e = append_is_flat a w h (word_is_flat w e)
 
--- ---- what is kept of an unknown place
+-- ---- causes, and what is kept
 
 operator_is_flat : (o : Op) → IsFlat (operator_text o)
 operator_is_flat Plus = word_is_flat (codes "+") refl
@@ -128,43 +122,12 @@ operation_is_flat o =
     (append_is_flat (operator_text o.op ++ codes " ") (signed_decimal o.a) (behind_is_flat (operator_text o.op) (codes " ") (operator_is_flat o.op) refl) (signed_is_flat o.a)) refl)
     (signed_is_flat o.b)
 
-beyond_is_flat : (b : Beyond) → IsFlat (beyond_text b)
-beyond_is_flat (Elimination o further) = operation_is_flat further.operation
-beyond_is_flat (Value o spots far) = operation_is_flat far.operation
+pub why_is_flat : (why : Why) → IsFlat (why_text why)
+why_is_flat (Nodes n) = word_is_flat (codes "nodes") refl
+why_is_flat (Rows n) = word_is_flat (codes "rows") refl
+why_is_flat (Range o) = word_is_flat (codes "range") refl
 
--- a cause's word, and what is kept, each without a newline
-pub record IsCauseText (text : List ℕ) : Type 0 where
-  pub word : List ℕ
-  pub kept : List ℕ
-  pub is : text ≡ kept_text word kept
-  pub word_flat : is_flat (codes " " ++ word) ≡ true
-  pub kept_flat : IsFlat kept
-
-why_parts : (why : Why) → IsCauseText (why_text why)
-why_parts (Nodes parts budget) =
-    record {
-      word = codes "nodes";
-      kept = decimal budget;
-      is = refl;
-      word_flat = refl;
-      kept_flat = decimal_is_flat budget;
-    }
-why_parts (Rows path o) =
-    record {
-      word = codes "rows";
-      kept = decimal (length o.reasons.items);
-      is = refl;
-      word_flat = refl;
-      kept_flat = decimal_is_flat (length o.reasons.items);
-    }
-why_parts (Range path beyond) =
-    record { word = codes "range"; kept = beyond_text beyond; is = refl; word_flat = refl; kept_flat = beyond_is_flat beyond }
-
-outside_parts : (o : OutOfRange) → IsCauseText (kept_text (codes "range") (operation_text o))
-outside_parts o =
-    record { word = codes "range"; kept = operation_text o; is = refl; word_flat = refl; kept_flat = operation_is_flat o }
-
-pub cause_parts : (c : Cause) → IsCauseText (cause_text c)
-cause_parts (Search why) = why_parts why
-cause_parts (Form o) = outside_parts o
-cause_parts (Replay cex o) = outside_parts o
+pub kept_is_flat : (why : Why) → IsFlat (kept_text why)
+kept_is_flat (Nodes n) = decimal_is_flat n
+kept_is_flat (Rows n) = decimal_is_flat n
+kept_is_flat (Range o) = operation_is_flat o

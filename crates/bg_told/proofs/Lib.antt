@@ -1,4 +1,5 @@
 pub mod Texts
+pub mod Told
 pub mod Cuts
 pub mod Apart
 pub mod Decided

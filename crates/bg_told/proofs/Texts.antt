@@ -6,9 +6,8 @@ use Rattle.bg_ast.specs.declared.resolved.Declared.{Declared}
 use Rattle.bg_ast.specs.Views.{declared_of}
 use Rattle.bg_scalar.specs.declared.scalar.Scalar.{Scalar}
 use Rattle.bg_told.specs.Lines.{texts}
-use Rattle.bg_told.specs.Places.{value_text}
 use Rattle.bg_told.specs.Report.{name_in}
-use Rattle.bg_told.specs.Entries.{names_in}
+use Rattle.bg_told.specs.Entries.{names_in, entry_text}
 
 pub texts_nil : {A B : Type 0} (text : A → B → List ℕ) (xs : List A) → texts text xs [] ≡ []
 texts_nil text [] = refl
@@ -24,10 +23,10 @@ many : (ds : List Declared) → length (names_in ds) ≡ length ds
 many ds = length-map (map declared_of ds) name_in ∙ length-map ds declared_of
 
 -- the values of the first variables, and of those behind them
-pub entry_parts : (ds : List Declared) (names : List (List ℕ)) (vs : List Scalar) → texts value_text (names_in ds ++ names) vs ≡ texts value_text (names_in ds) vs ++ texts value_text names (drop (length ds) vs)
+pub entry_parts : (ds : List Declared) (names : List (List ℕ)) (vs : List Scalar) → texts entry_text (names_in ds ++ names) vs ≡ texts entry_text (names_in ds) vs ++ texts entry_text names (drop (length ds) vs)
 entry_parts ds names vs =
-    texts_of_parts value_text (names_in ds) names vs
-    ∙ ap (λ (n : ℕ). texts value_text (names_in ds) vs ++ texts value_text names (drop n vs)) (many ds)
+    texts_of_parts entry_text (names_in ds) names vs
+    ∙ ap (λ (n : ℕ). texts entry_text (names_in ds) vs ++ texts entry_text names (drop n vs)) (many ds)
 
 -- no value has this number: none is left behind it
 none_left : {A : Type 0} (xs : List A) (i : ℕ) → slice_get xs i ≡ None → drop i xs ≡ []
@@ -44,23 +43,23 @@ next_from (y ∷ xs) zero x h = cc
 next_from (y ∷ xs) (suc i) x h = next_from xs i x h
 
 -- where no value is left, the text is at its end
-pub values_end : (ds : List Declared) (vs : List Scalar) (i : ℕ) (o w : List ℕ) → None ≡ slice_get vs i → o ++ texts value_text (names_in (drop i ds)) (drop i vs) ≡ w → o ≡ w
+pub values_end : (ds : List Declared) (vs : List Scalar) (i : ℕ) (o w : List ℕ) → None ≡ slice_get vs i → o ++ texts entry_text (names_in (drop i ds)) (drop i vs) ≡ w → o ≡ w
 values_end ds vs i o w h k =
     let e : drop i vs ≡ [] = none_left vs i (sym h) in
     sym (append-nil o)
-    ∙ ap (λ (t : List ℕ). o ++ t) (sym (texts_nil value_text (names_in (drop i ds))))
-    ∙ ap (λ (l : List Scalar). o ++ texts value_text (names_in (drop i ds)) l) (sym e)
+    ∙ ap (λ (t : List ℕ). o ++ t) (sym (texts_nil entry_text (names_in (drop i ds))))
+    ∙ ap (λ (l : List Scalar). o ++ texts entry_text (names_in (drop i ds)) l) (sym e)
     ∙ k
 
 -- one variable with its value
-pub values_step : (ds : List Declared) (vs : List Scalar) (i : ℕ) (d : Declared) (v : Scalar) (o w : List ℕ) → i < length ds → d ≡ get_or ds i d → Some v ≡ slice_get vs i → o ++ texts value_text (names_in (drop i ds)) (drop i vs) ≡ w → (o ++ value_text (name_in (declared_of d)) v) ++ texts value_text (names_in (drop (i + 1) ds)) (drop (i + 1) vs) ≡ w
+pub values_step : (ds : List Declared) (vs : List Scalar) (i : ℕ) (d : Declared) (v : Scalar) (o w : List ℕ) → i < length ds → d ≡ get_or ds i d → Some v ≡ slice_get vs i → o ++ texts entry_text (names_in (drop i ds)) (drop i vs) ≡ w → (o ++ entry_text (name_in (declared_of d)) v) ++ texts entry_text (names_in (drop (i + 1) ds)) (drop (i + 1) vs) ≡ w
 values_step ds vs i d v o w l e h k =
     let a : drop i ds ≡ d ∷ drop (suc i) ds = drop-cons ds i d l ∙ ap (λ (x : Declared). x ∷ drop (suc i) ds) (sym e) in
     let b : drop i vs ≡ v ∷ drop (suc i) vs = next_from vs i v (sym h) in
     rw add-one
-    (append_assoc o (value_text (name_in (declared_of d)) v) (texts value_text (names_in (drop (suc i) ds)) (drop (suc i) vs))
-    ∙ ap (λ (x : List Declared). o ++ texts value_text (names_in x) (v ∷ drop (suc i) vs)) (sym a)
-    ∙ ap (λ (l : List Scalar). o ++ texts value_text (names_in (drop i ds)) l) (sym b)
+    (append_assoc o (entry_text (name_in (declared_of d)) v) (texts entry_text (names_in (drop (suc i) ds)) (drop (suc i) vs))
+    ∙ ap (λ (x : List Declared). o ++ texts entry_text (names_in x) (v ∷ drop (suc i) vs)) (sym a)
+    ∙ ap (λ (l : List Scalar). o ++ texts entry_text (names_in (drop i ds)) l) (sym b)
     ∙ k)
 
 -- past the first of two rows

@@ -1,81 +1,104 @@
-use Rattle.std.proofs.Common.{◌≡◌, ◌<◌, ℕ, zero, suc, Bool, true, false, ◌||◌, ◌&&◌, List, [], ◌∷◌, refl, if◌then◌else◌, cond, length, slice_index_or, arith}
+use Rattle.std.proofs.Common.{◌≡◌, ◌<◌, ℕ, zero, suc, Bool, true, false, ◌||◌, ◌&&◌, List, [], ◌∷◌, refl, ap, ◌∙◌, if◌then◌else◌, length, slice_index_or, arith}
 use Rattle.std.specs.Prelude.{◌↔◌, All}
-use Rattle.std.specs.List.{list_any}
+use Rattle.std.specs.List.{list_any, list_all}
 use Rattle.std.specs.Cmp.Derive.{both_true}
 use Rattle.std.proofs.lemmas.Bool.{and_parts}
-use Rattle.bg_check.specs.declared.verdict.Verdict.{Verdict}
-use Rattle.bg_check.specs.declared.verdict.Verdict.TheVariants as verdict
-use Rattle.bg_check.specs.Verdicts.{is_proved, are_proved}
-use Rattle.bg_check.specs.declared.verdict.Judged.{Judged}
-use Rattle.bg_told.specs.declared.word.Word.{Word}
-use Rattle.bg_told.specs.declared.word.Word.TheVariants.{Verified, Refuted, Unknown}
-use Rattle.bg_told.specs.Words.{is_ordinary, ordinary, is_word, word_in, has, word_of, word_for}
+use Rattle.bg_sound.specs.Told.{Axioms, Consistent, Contradictory, Undecided, Verdict, Proved, Refuted, Unknown, Judged, Outcome, is_proved, is_refuted, is_unknown, is_contradictory, is_undecided, has_refuted, has_unknown, Word, AllProved, SomeRefuted, SomeUnknown, word_of, status_of}
 
 -- the word by whether a place is refuted, and whether one is unknown
 abbrev pub word_by : Bool → Bool → Word
-word_by r u = if r then Refuted else (if u then Unknown else Verified)
+word_by r u = if r then SomeRefuted else if u then SomeUnknown else AllProved
 
-both_from : (a b c d : Bool) → word_by (a || c) (b || d) ≡ Verified → (word_by a b ≡ Verified) × (word_by c d ≡ Verified)
-both_from true b c d h = absurd (let e : Refuted ≡ Verified = h in cc)
-both_from false b true d h = absurd (let e : Refuted ≡ Verified = h in cc)
-both_from false true false d h = absurd (let e : Unknown ≡ Verified = h in cc)
-both_from false false false d h = (refl, h)
+neither : (a b : Bool) → word_by a b ≡ AllProved → (a ≡ false) × (b ≡ false)
+neither true b h = absurd (let e : SomeRefuted ≡ AllProved = h in cc)
+neither false true h = absurd (let e : SomeUnknown ≡ AllProved = h in cc)
+neither false false h = (refl, refl)
 
-both_to : (a b c d : Bool) → word_by a b ≡ Verified → word_by c d ≡ Verified → word_by (a || c) (b || d) ≡ Verified
-both_to true b c d h k = absurd (let e : Refuted ≡ Verified = h in cc)
-both_to false true c d h k = absurd (let e : Unknown ≡ Verified = h in cc)
-both_to false false c d h k = k
+word_is : (a b : Bool) → a ≡ false → b ≡ false → word_by a b ≡ AllProved
+word_is a b e f = ap (λ (c : Bool). word_by c b) e ∙ ap (word_by false) f
 
-known_from : (v : Verdict) → word_by (is_word Refuted (word_in v)) (is_word Unknown (word_in v)) ≡ Verified → is_proved v ≡ true
-known_from (verdict.Proved nodes) h = refl
-known_from (verdict.Refuted cex) h = cc
-known_from (verdict.Unknown nodes) h = cc
+or_none : (a b : Bool) → (a || b) ≡ false → (a ≡ false) × (b ≡ false)
+or_none true b h = absurd (let e : true ≡ false = h in cc)
+or_none false b h = (refl, h)
 
-known_to : (v : Verdict) → is_proved v ≡ true → word_by (is_word Refuted (word_in v)) (is_word Unknown (word_in v)) ≡ Verified
-known_to (verdict.Proved nodes) h = refl
-known_to (verdict.Refuted cex) h = cc
-known_to (verdict.Unknown nodes) h = cc
+or_is : (a b : Bool) → a ≡ false → b ≡ false → (a || b) ≡ false
+or_is a b e f = ap (λ (c : Bool). c || b) e ∙ f
 
--- what a place does to the word, by whether it is ordinary, and what is known of it
-one_from : (o : Bool) (j : Judged) (js : List Judged) → word_by (o && is_word Refuted (word_in j.verdict)) (o && is_word Unknown (word_in j.verdict)) ≡ Verified → are_proved js ≡ true → are_proved (cond o (j ∷ js) js) ≡ true
-one_from false j js h k = k
-one_from true j js h k = both_true (known_from j.verdict h) k
+-- ---- an implementation
 
-one_to : (o : Bool) (j : Judged) (js : List Judged) → are_proved (cond o (j ∷ js) js) ≡ true → (word_by (o && is_word Refuted (word_in j.verdict)) (o && is_word Unknown (word_in j.verdict)) ≡ Verified) × (are_proved js ≡ true)
-one_to false j js h = (refl, h)
-one_to true j js h =
-    let both = and_parts (is_proved j.verdict) (are_proved js) h in
-    (known_to j.verdict both.0, both.1)
+known_from : (v : Verdict) → is_refuted v ≡ false → is_unknown v ≡ false → is_proved v ≡ true
+known_from Proved a b = refl
+known_from (Refuted i s choices) a b = cc
+known_from (Unknown why) a b = cc
 
-proved_from : (js : List Judged) → word_of js ≡ Verified → are_proved (ordinary js) ≡ true
-proved_from [] h = refl
-proved_from (j ∷ js) h =
-    let o = is_ordinary j.place in
-    let w = word_in j.verdict in
-    let both = both_from (o && is_word Refuted w) (o && is_word Unknown w) (has Refuted js) (has Unknown js) h in
-    one_from o j (ordinary js) both.0 (proved_from js both.1)
+known_to : (v : Verdict) → is_proved v ≡ true → (is_refuted v ≡ false) × (is_unknown v ≡ false)
+known_to Proved h = (refl, refl)
+known_to (Refuted i s choices) h = cc
+known_to (Unknown why) h = cc
 
-verified_from : (js : List Judged) → are_proved (ordinary js) ≡ true → word_of js ≡ Verified
-verified_from [] h = refl
+proved_from : (js : List Judged) → has_refuted js ≡ false → has_unknown js ≡ false → list_all (λ (j : Judged). is_proved j.verdict) js ≡ true
+proved_from [] a b = refl
+proved_from (j ∷ js) a b =
+    let r = or_none (is_refuted j.verdict) (has_refuted js) a in
+    let u = or_none (is_unknown j.verdict) (has_unknown js) b in
+    both_true (known_from j.verdict r.0 u.0) (proved_from js r.1 u.1)
+
+verified_from : (js : List Judged) → list_all (λ (j : Judged). is_proved j.verdict) js ≡ true → (has_refuted js ≡ false) × (has_unknown js ≡ false)
+verified_from [] h = (refl, refl)
 verified_from (j ∷ js) h =
-    let o = is_ordinary j.place in
-    let w = word_in j.verdict in
-    let both = one_to o j (ordinary js) h in
-    both_to (o && is_word Refuted w) (o && is_word Unknown w) (has Refuted js) (has Unknown js) both.0 (verified_from js both.1)
+    let both = and_parts (is_proved j.verdict) (list_all (λ (k : Judged). is_proved k.verdict) js) h in
+    let here = known_to j.verdict both.0 in
+    let rest = verified_from js both.1 in
+    (or_is (is_refuted j.verdict) (has_refuted js) here.0 rest.0, or_is (is_unknown j.verdict) (has_unknown js) here.1 rest.1)
 
-pub verified_exactly : (js : List Judged) → (word_of js ≡ Verified) ↔ (are_proved (ordinary js) ≡ true)
-verified_exactly js = (proved_from js, verified_from js)
+pub verified_exactly : (js : List Judged) → (word_of js ≡ AllProved) ↔ (list_all (λ (j : Judged). is_proved j.verdict) js ≡ true)
+verified_exactly js = (
+  λ h. (let n = neither (has_refuted js) (has_unknown js) h in proved_from js n.0 n.1),
+  λ h. (let n = verified_from js h in word_is (has_refuted js) (has_unknown js) n.0 n.1),
+)
 
-each_at : (outcome : List (List Judged)) → word_for outcome ≡ Verified → (k : ℕ) (d : List Judged) → k < length outcome → word_of (slice_index_or outcome k d) ≡ Verified
-each_at [] h k d l = absurd (omega (arith, l))
-each_at (js ∷ outcome) h zero d l = (both_from (has Refuted js) (has Unknown js) (list_any (has Refuted) outcome) (list_any (has Unknown) outcome) h).0
-each_at (js ∷ outcome) h (suc k) d l = each_at outcome (both_from (has Refuted js) (has Unknown js) (list_any (has Refuted) outcome) (list_any (has Unknown) outcome) h).1 k d (omega (arith, l))
+-- ---- a program
 
-each_to : (outcome : List (List Judged)) → All (λ js. word_of js ≡ Verified) outcome → word_for outcome ≡ Verified
-each_to [] h = refl
-each_to (js ∷ outcome) h =
-    both_to (has Refuted js) (has Unknown js) (list_any (has Refuted) outcome) (list_any (has Unknown) outcome) (h 0 js (omega arith))
-    (each_to outcome (λ (k : ℕ) (d : List Judged) (l : k < length outcome). h (suc k) d (omega (arith, l))))
+each_at : (os : List (List Judged)) → list_any has_refuted os ≡ false → list_any has_unknown os ≡ false → (k : ℕ) (d : List Judged) → k < length os → word_of (slice_index_or os k d) ≡ AllProved
+each_at [] a b k d l = absurd (omega (arith, l))
+each_at (js ∷ os) a b zero d l =
+    word_is (has_refuted js) (has_unknown js) (or_none (has_refuted js) (list_any has_refuted os) a).0 (or_none (has_unknown js) (list_any has_unknown os) b).0
+each_at (js ∷ os) a b (suc k) d l =
+    each_at os (or_none (has_refuted js) (list_any has_refuted os) a).1 (or_none (has_unknown js) (list_any has_unknown os) b).1 k d (omega (arith, l))
 
-pub program_exactly : (outcome : List (List Judged)) → (word_for outcome ≡ Verified) ↔ All (λ js. word_of js ≡ Verified) outcome
-program_exactly outcome = (each_at outcome, each_to outcome)
+each_to : (os : List (List Judged)) → All (λ (js : List Judged). word_of js ≡ AllProved) os → (list_any has_refuted os ≡ false) × (list_any has_unknown os ≡ false)
+each_to [] h = (refl, refl)
+each_to (js ∷ os) h =
+    let here = neither (has_refuted js) (has_unknown js) (h 0 js (omega arith)) in
+    let rest = each_to os (λ (k : ℕ) (d : List Judged) (l : k < length os). h (suc k) d (omega (arith, l))) in
+    (or_is (has_refuted js) (list_any has_refuted os) here.0 rest.0, or_is (has_unknown js) (list_any has_unknown os) here.1 rest.1)
+
+settled_from : (a : Axioms) → is_contradictory a ≡ false → is_undecided a ≡ false → a ≡ Consistent
+settled_from Consistent c u = refl
+settled_from Contradictory c u = cc
+settled_from (Undecided why) c u = cc
+
+abbrev status_by : Bool → Bool → ℕ
+status_by a b = if a then 1 else if b then 2 else 0
+
+both_false : (a b : Bool) → status_by a b ≡ 0 → (a ≡ false) × (b ≡ false)
+both_false true b h = absurd (let no : ⊥ = omega (arith, h) in no)
+both_false false true h = absurd (let no : ⊥ = omega (arith, h) in no)
+both_false false false h = (refl, refl)
+
+zero_from : (o : Outcome) → status_of o ≡ 0 → (o.axioms ≡ Consistent) × All (λ (js : List Judged). word_of js ≡ AllProved) o.implementations
+zero_from o h =
+    let w = both_false (is_contradictory o.axioms || list_any has_refuted o.implementations) (is_undecided o.axioms || list_any has_unknown o.implementations) h in
+    let a = or_none (is_contradictory o.axioms) (list_any has_refuted o.implementations) w.0 in
+    let b = or_none (is_undecided o.axioms) (list_any has_unknown o.implementations) w.1 in
+    (settled_from o.axioms a.0 b.0, each_at o.implementations a.1 b.1)
+
+zero_to : (o : Outcome) → (o.axioms ≡ Consistent) × All (λ (js : List Judged). word_of js ≡ AllProved) o.implementations → status_of o ≡ 0
+zero_to o h =
+    let n = each_to o.implementations h.1 in
+    ap (λ (a : Axioms). status_by (is_contradictory a || list_any has_refuted o.implementations) (is_undecided a || list_any has_unknown o.implementations)) h.0
+    ∙ ap (λ (r : Bool). status_by r (list_any has_unknown o.implementations)) n.0
+    ∙ ap (status_by false) n.1
+
+pub program_exactly : (o : Outcome) → (status_of o ≡ 0) ↔ ((o.axioms ≡ Consistent) × All (λ (js : List Judged). word_of js ≡ AllProved) o.implementations)
+program_exactly o = (zero_from o, zero_to o)

@@ -2,10 +2,8 @@
 use Rattle.std.specs.Prelude.{ℕ, Bool, true, false, List, [], ◌∷◌, ◌++◌, codes}
 use Rattle.std.specs.Fmt.{decimal, signed_decimal}
 use Rattle.bg_base.specs.declared.pos.Pos.{Pos}
-use Rattle.bg_scalar.specs.declared.scalar.Scalar.{Scalar}
-use Rattle.bg_scalar.specs.declared.scalar.Scalar.TheVariants.{Truth, Number}
-use Rattle.bg_told.specs.declared.word.Word.{Word}
-use Rattle.bg_told.specs.declared.word.Word.TheVariants.{Verified, Refuted, Unknown}
+use Rattle.bg_ast.specs.Values.{Val, Num, Truth}
+use Rattle.bg_sound.specs.Told.{Word, AllProved, SomeRefuted, SomeUnknown}
 
 -- a line is ended by one newline byte
 abbrev pub line : List ℕ → List ℕ
@@ -24,12 +22,13 @@ abbrev pub truth_text : Bool → List ℕ
 truth_text true = codes "true"
 truth_text false = codes "false"
 
--- a value
-abbrev pub scalar_text : Scalar → List ℕ
-scalar_text (Truth b) = truth_text b
-scalar_text (Number z) = signed_decimal z
+-- a truth value or a whole number; no variable of a program that is judged has another value
+abbrev pub value_text : Val → List ℕ
+value_text (Truth b) = truth_text b
+value_text (Num z) = signed_decimal z
+value_text _ = []
 
 abbrev pub word_text : Word → List ℕ
-word_text Verified = codes "verified"
-word_text Refuted = codes "refuted"
-word_text Unknown = codes "unknown"
+word_text AllProved = codes "verified"
+word_text SomeRefuted = codes "refuted"
+word_text SomeUnknown = codes "unknown"

@@ -1,13 +1,35 @@
 -- The text of a report.
-use Rattle.std.specs.Prelude.{ℕ, List, ◌++◌, codes, flat_map, map}
+use Rattle.std.specs.Prelude.{ℕ, Bool, true, false, not, List, ◌++◌, codes, count_by, flat_map, map}
 use Rattle.std.specs.Fmt.{decimal}
+use Rattle.bg_text.specs.Trees.{Id}
 use Rattle.bg_ast.specs.Resolved.{Declared, Impl, Program}
-use Rattle.bg_check.specs.declared.verdict.Judged.{Judged}
-use Rattle.bg_told.specs.declared.word.Word.{Word}
-use Rattle.bg_told.specs.declared.word.Word.TheVariants.{Verified, Refuted, Unknown}
-use Rattle.bg_told.specs.Words.{word_of, count_of}
+use Rattle.bg_sound.specs.Told.{Axioms, Consistent, Contradictory, Undecided, Fate, Retained, Unchecked, Dropped, DroppedFor, Judged, Outcome, is_kept_by, Word, AllProved, SomeRefuted, SomeUnknown, word_of}
+use Rattle.bg_told.specs.Kept.{why_text}
 use Rattle.bg_told.specs.Lines.{line, texts, position_text, word_text}
 use Rattle.bg_told.specs.Places.{judged_text}
+
+abbrev pub axioms_text : Axioms → List ℕ
+axioms_text Consistent = codes "consistent"
+axioms_text Contradictory = codes "contradictory"
+axioms_text (Undecided why) = codes "unknown " ++ why_text why
+
+-- ---- candidates
+
+abbrev pub fate_text : Fate → List ℕ
+fate_text Retained = codes "retained"
+fate_text Unchecked = codes "retained unchecked"
+fate_text Dropped = codes "dropped"
+fate_text (DroppedFor why) = codes "dropped unknown " ++ why_text why
+
+abbrev pub candidate_text : Id → Fate → List ℕ
+candidate_text name fate = line (codes "candidate " ++ name.text ++ codes " " ++ fate_text fate)
+
+-- the retained set by whether it is called greatest
+abbrev pub set_text : Bool → List ℕ
+set_text true = codes "greatest"
+set_text false = codes "inductive"
+
+-- ---- implementations
 
 abbrev pub name_in : Declared → List ℕ
 name_in d = d.name.text
@@ -19,21 +41,36 @@ names_of globals m = map name_in globals ++ (map name_in m.params ++ (map name_i
 abbrev pub head_text : Impl → Word → List ℕ
 head_text m word = line (codes "implementation " ++ m.name.text ++ codes " " ++ position_text m.pos ++ codes " " ++ word_text word)
 
--- an implementation, and its ordinary places that aren't proved
+-- an implementation, and its places that aren't proved
 abbrev pub implementation_text : List Declared → Impl → List Judged → List ℕ
 implementation_text globals m js = head_text m (word_of js) ++ flat_map (judged_text (names_of globals m)) js
 
-abbrev pub count_text : ℕ → Word → List ℕ
-count_text n word = decimal n ++ codes " " ++ word_text word
+-- ---- the whole
 
-abbrev pub summary_text : ℕ → ℕ → ℕ → List ℕ
-summary_text verified refuted unknown =
-    line (codes "summary: 0 retained, 0 dropped; " ++ count_text verified Verified ++ codes ", " ++ count_text refuted Refuted ++ codes ", " ++ count_text unknown Unknown)
+abbrev pub is_word : Word → Word → Bool
+is_word AllProved AllProved = true
+is_word SomeRefuted SomeRefuted = true
+is_word SomeUnknown SomeUnknown = true
+is_word _ _ = false
 
--- the report of a program without axioms, under the empty set of candidates
-abbrev pub result_text : Program → List (List Judged) → List ℕ
-result_text p outcome =
-    line (codes "axioms: consistent")
-    ++ line (codes "retained set: greatest")
-    ++ texts (implementation_text p.globals) p.implementations outcome
-    ++ summary_text (count_of Verified outcome) (count_of Refuted outcome) (count_of Unknown outcome)
+-- how many of these implementations have the word, and the word
+abbrev pub count_text : Word → List (List Judged) → List ℕ
+count_text word os = decimal (count_by (λ js. is_word word (word_of js)) os) ++ codes " " ++ word_text word
+
+-- how many candidates are retained and dropped
+abbrev pub fates_text : List Fate → List ℕ
+fates_text fates =
+    decimal (count_by is_kept_by fates) ++ codes " retained, " ++ decimal (count_by (λ f. not (is_kept_by f)) fates) ++ codes " dropped; "
+
+abbrev pub summary_text : Outcome → List ℕ
+summary_text o =
+    line (codes "summary: " ++ fates_text o.fates ++ count_text AllProved o.implementations ++ codes ", " ++ count_text SomeRefuted o.implementations ++ codes ", " ++ count_text SomeUnknown o.implementations)
+
+-- what is told of a program: its axioms, its candidates, its implementations, and how many there are of each word
+abbrev pub result_text : Program → Outcome → List ℕ
+result_text p o =
+    line (codes "axioms: " ++ axioms_text o.axioms)
+    ++ texts candidate_text p.candidates o.fates
+    ++ line (codes "retained set: " ++ set_text o.is_greatest)
+    ++ texts (implementation_text p.globals) p.implementations o.implementations
+    ++ summary_text o

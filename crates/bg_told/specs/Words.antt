@@ -1,5 +1,5 @@
--- The word for an implementation, and for a program.
-use Rattle.std.specs.Prelude.{ℕ, Bool, true, false, ◌&&◌, List, filter, is_none, if◌then◌else◌, count_by}
+-- How the code finds the word for an implementation, and for a program.
+use Rattle.std.specs.Prelude.{ℕ, Bool, true, false, ◌&&◌, List, is_none, if◌then◌else◌, count_by}
 use Rattle.std.specs.List.{list_any}
 use Rattle.bg_places.specs.declared.place.Place.{Place}
 use Rattle.bg_check.specs.declared.verdict.Verdict.{Verdict}
@@ -11,10 +11,6 @@ use Rattle.bg_told.specs.declared.word.Word.TheVariants.{Verified, Refuted, Unkn
 -- a place is ordinary where no candidate guards its clause
 abbrev pub is_ordinary : Place → Bool
 is_ordinary p = is_none p.candidate
-
--- the ordinary ones of these places
-abbrev pub ordinary : List Judged → List Judged
-ordinary = filter (λ j. is_ordinary j.place)
 
 -- what is known of a place, in a word
 abbrev pub word_in : Verdict → Word

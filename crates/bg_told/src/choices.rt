@@ -1,6 +1,7 @@
 //! The choices of a counterexample.
-ghost use Rattle.std.specs.Prelude.{◌≡◌, ◌++◌, OnOk, flat_map};
-ghost use Rattle.bg_scalar.specs.declared.choice.Choice.TheVariants.{Branch};
+ghost use Rattle.std.specs.Prelude.{◌≡◌, ◌++◌, OnOk, flat_map, map};
+ghost use Rattle.bg_ast.specs.Execution.{Branch};
+ghost use Rattle.bg_scalar.specs.Choices.{choice_of};
 ghost use Rattle.bg_told.specs.Places.{chosen_text, choice_text};
 
 use crate::put::{put_number, put_scalar};
@@ -15,7 +16,7 @@ fn put_branch(out: &mut Vec<u8>, branch: u32) -> Result<(), AllocError>
 }
 
 fn put_chosen(out: &mut Vec<u8>, choice: Choice) -> Result<(), AllocError>
-    ensures { OnOk result (out.new.items ≡ out.old.items ++ chosen_text choice) }
+    ensures { OnOk result (out.new.items ≡ out.old.items ++ chosen_text (choice_of choice)) }
 {
     match choice {
         Choice::Branch(branch) => put_branch(out, branch),
@@ -24,7 +25,7 @@ fn put_chosen(out: &mut Vec<u8>, choice: Choice) -> Result<(), AllocError>
 }
 
 fn put_choice(out: &mut Vec<u8>, choice: Choice) -> Result<(), AllocError>
-    ensures { OnOk result (out.new.items ≡ out.old.items ++ choice_text choice) }
+    ensures { OnOk result (out.new.items ≡ out.old.items ++ choice_text (choice_of choice)) }
 {
     out.extend_from_slice(b"    choice ")?;
     put_chosen(out, choice)?;
@@ -34,7 +35,7 @@ fn put_choice(out: &mut Vec<u8>, choice: Choice) -> Result<(), AllocError>
 
 /// The choices, in order.
 pub fn put_choices(out: &mut Vec<u8>, choices: &[Choice]) -> Result<(), AllocError>
-    ensures { OnOk result (out.new.items ≡ out.old.items ++ flat_map choice_text choices.now) }
+    ensures { OnOk result (out.new.items ≡ out.old.items ++ flat_map choice_text (map choice_of choices.now)) }
 {
     for choice in choices {
         put_choice(out, *choice)?;

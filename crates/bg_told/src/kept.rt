@@ -1,7 +1,8 @@
 //! What is kept of a place that is left unknown.
-ghost use Rattle.std.specs.Prelude.{◌≡◌, ◌++◌, OnOk, codes, length};
-ghost use Rattle.std.specs.Fmt.{decimal};
-ghost use Rattle.bg_told.specs.Kept.{operator_text, operation_text, beyond_text, kept_text, why_text, cause_text};
+ghost use Rattle.std.specs.Prelude.{◌≡◌, ◌++◌, OnOk, length};
+ghost use Rattle.bg_sound.specs.Told.{Nodes, Rows, Range};
+ghost use Rattle.bg_told.specs.Kept.{operator_text, operation_text, cause_text};
+ghost use Rattle.bg_told.specs.Views.{operation_of, end_of, why_of};
 
 use crate::put::{put_integer, put_number};
 use bg_base::{Op, OutOfRange};
@@ -33,7 +34,7 @@ fn put_operation(out: &mut Vec<u8>, operation: &OutOfRange) -> Result<(), AllocE
 }
 
 fn put_beyond(out: &mut Vec<u8>, beyond: &Beyond) -> Result<(), AllocError>
-    ensures { OnOk result (out.new.items ≡ out.old.items ++ beyond_text beyond.now) }
+    ensures { OnOk result (out.new.items ≡ out.old.items ++ operation_text (operation_of beyond.now)) }
 {
     match beyond {
         Beyond::Elimination(_, further) => put_operation(out, &further.operation),
@@ -42,7 +43,7 @@ fn put_beyond(out: &mut Vec<u8>, beyond: &Beyond) -> Result<(), AllocError>
 }
 
 fn put_nodes(out: &mut Vec<u8>, budget: u32) -> Result<(), AllocError>
-    ensures { OnOk result (out.new.items ≡ out.old.items ++ kept_text (codes "nodes") (decimal budget)) }
+    ensures { OnOk result (out.new.items ≡ out.old.items ++ cause_text (Nodes budget)) }
 {
     out.extend_from_slice(b" nodes\n    kept ")?;
     put_number(out, budget as usize)?;
@@ -58,7 +59,7 @@ fn count(order: &Order) -> usize
 }
 
 fn put_rows(out: &mut Vec<u8>, order: &Order) -> Result<(), AllocError>
-    ensures { OnOk result (out.new.items ≡ out.old.items ++ kept_text (codes "rows") (decimal (length order.now.reasons.items))) }
+    ensures { OnOk result (out.new.items ≡ out.old.items ++ cause_text (Rows (length order.now.reasons.items))) }
 {
     out.extend_from_slice(b" rows\n    kept ")?;
     put_number(out, count(order))?;
@@ -68,7 +69,7 @@ fn put_rows(out: &mut Vec<u8>, order: &Order) -> Result<(), AllocError>
 
 /// The word for an operation that leaves 128 bits, and in the next line the operation.
 fn put_outside(out: &mut Vec<u8>, operation: &OutOfRange) -> Result<(), AllocError>
-    ensures { OnOk result (out.new.items ≡ out.old.items ++ kept_text (codes "range") (operation_text operation.now)) }
+    ensures { OnOk result (out.new.items ≡ out.old.items ++ cause_text (Range operation.now)) }
 {
     out.extend_from_slice(b" range\n    kept ")?;
     put_operation(out, operation)?;
@@ -77,7 +78,7 @@ fn put_outside(out: &mut Vec<u8>, operation: &OutOfRange) -> Result<(), AllocErr
 }
 
 fn put_range(out: &mut Vec<u8>, beyond: &Beyond) -> Result<(), AllocError>
-    ensures { OnOk result (out.new.items ≡ out.old.items ++ kept_text (codes "range") (beyond_text beyond.now)) }
+    ensures { OnOk result (out.new.items ≡ out.old.items ++ cause_text (Range (operation_of beyond.now))) }
 {
     out.extend_from_slice(b" range\n    kept ")?;
     put_beyond(out, beyond)?;
@@ -87,7 +88,7 @@ fn put_range(out: &mut Vec<u8>, beyond: &Beyond) -> Result<(), AllocError>
 
 /// Where the search ends.
 fn put_why(out: &mut Vec<u8>, why: &Why) -> Result<(), AllocError>
-    ensures { OnOk result (out.new.items ≡ out.old.items ++ why_text why.now) }
+    ensures { OnOk result (out.new.items ≡ out.old.items ++ cause_text (end_of why.now)) }
 {
     match why {
         Why::Nodes(_, budget) => put_nodes(out, *budget),
@@ -98,7 +99,7 @@ fn put_why(out: &mut Vec<u8>, why: &Why) -> Result<(), AllocError>
 
 /// The cause's word, and in the next line what is kept.
 pub fn put_cause(out: &mut Vec<u8>, cause: &Cause) -> Result<(), AllocError>
-    ensures { OnOk result (out.new.items ≡ out.old.items ++ cause_text cause.now) }
+    ensures { OnOk result (out.new.items ≡ out.old.items ++ cause_text (why_of cause.now)) }
 {
     match cause {
         Cause::Search(why) => put_why(out, why),

@@ -1,6 +1,8 @@
 //! A place in words.
 ghost use Rattle.std.specs.Prelude.{◌≡◌, ◌++◌, OnOk};
+ghost use Rattle.bg_places.specs.Views.{spot_of, placed_of};
 ghost use Rattle.bg_told.specs.Places.{kind_text, call_text, place_text, told_text};
+ghost use Rattle.bg_told.specs.Views.{told_word};
 
 use crate::put::{put_position, put_word};
 use crate::word::Word;
@@ -10,7 +12,7 @@ use std::alloc::AllocError;
 
 /// What is checked.
 fn put_kind(out: &mut Vec<u8>, spot: Spot) -> Result<(), AllocError>
-    ensures { OnOk result (out.new.items ≡ out.old.items ++ kind_text spot) }
+    ensures { OnOk result (out.new.items ≡ out.old.items ++ kind_text (spot_of spot)) }
 {
     match spot {
         Spot::Assert(_) => out.extend_from_slice(b"assert "),
@@ -36,7 +38,7 @@ fn put_call(out: &mut Vec<u8>, call: Option<Pos>) -> Result<(), AllocError>
 
 /// What is checked, and where.
 fn put_place(out: &mut Vec<u8>, place: &Place) -> Result<(), AllocError>
-    ensures { OnOk result (out.new.items ≡ out.old.items ++ place_text place.now) }
+    ensures { OnOk result (out.new.items ≡ out.old.items ++ place_text (placed_of place.now)) }
 {
     put_kind(out, place.spot)?;
     put_call(out, place.call)?;
@@ -45,7 +47,7 @@ fn put_place(out: &mut Vec<u8>, place: &Place) -> Result<(), AllocError>
 
 /// A place and its word.
 pub fn put_told(out: &mut Vec<u8>, word: Word, place: &Place) -> Result<(), AllocError>
-    ensures { OnOk result (out.new.items ≡ out.old.items ++ told_text word place.now) }
+    ensures { OnOk result (out.new.items ≡ out.old.items ++ told_text (told_word word) (placed_of place.now)) }
 {
     out.extend_from_slice(b"  ")?;
     put_word(out, word)?;

@@ -1,8 +1,14 @@
 //! The ordinary places of an implementation that aren't proved.
 ghost use Rattle.std.specs.Prelude.{◌≡◌, ◌++◌, OnOk, map, flat_map};
 ghost use Rattle.bg_ast.specs.Views.{declared_of, impl_of};
-ghost use Rattle.bg_told.specs.Places.{refuted_text, unknown_text, verdict_text, judged_text};
+ghost use Rattle.bg_places.specs.Views.{placed_of};
+ghost use Rattle.bg_scalar.specs.Choices.{choice_of};
+ghost use Rattle.bg_scalar.specs.Values.{val_of};
+ghost use Rattle.bg_check.specs.Outcomes.{verdict_of};
+ghost use Rattle.bg_told.specs.Places.{refuted_text, unknown_text, verdict_text};
 ghost use Rattle.bg_told.specs.Report.{names_of};
+ghost use Rattle.bg_told.specs.Views.{why_of};
+ghost use Rattle.bg_told.specs.Entries.{shown_text};
 
 use crate::choices::put_choices;
 use crate::kept::put_cause;
@@ -23,7 +29,7 @@ fn put_refuted(
     place: &Place,
     cex: &Counterexample,
 ) -> Result<(), AllocError>
-    ensures { OnOk result (out.new.items ≡ out.old.items ++ refuted_text (names_of (map declared_of globals.now) (impl_of implementation.now)) place.now (cex.now.globals.items ++ cex.now.frame.items) cex.now.choices.items) }
+    ensures { OnOk result (out.new.items ≡ out.old.items ++ refuted_text (names_of (map declared_of globals.now) (impl_of implementation.now)) (placed_of place.now) (map val_of cex.now.globals.items ++ map val_of cex.now.frame.items) (map choice_of cex.now.choices.items)) }
 {
     put_told(out, Word::Refuted, place)?;
     out.push(b'\n')?;
@@ -38,7 +44,7 @@ fn put_refuted(
 
 /// An unknown place.
 fn put_unknown(out: &mut Vec<u8>, place: &Place, cause: &Cause) -> Result<(), AllocError>
-    ensures { OnOk result (out.new.items ≡ out.old.items ++ unknown_text place.now cause.now) }
+    ensures { OnOk result (out.new.items ≡ out.old.items ++ unknown_text (placed_of place.now) (why_of cause.now)) }
 {
     put_told(out, Word::Unknown, place)?;
     put_cause(out, cause)
@@ -51,7 +57,7 @@ fn put_verdict(
     place: &Place,
     verdict: &Verdict,
 ) -> Result<(), AllocError>
-    ensures { OnOk result (out.new.items ≡ out.old.items ++ verdict_text (names_of (map declared_of globals.now) (impl_of implementation.now)) place.now verdict.now) }
+    ensures { OnOk result (out.new.items ≡ out.old.items ++ verdict_text (names_of (map declared_of globals.now) (impl_of implementation.now)) (placed_of place.now) (verdict_of why_of verdict.now)) }
 {
     match verdict {
         Verdict::Proved(_) => Ok(()),
@@ -67,7 +73,7 @@ fn put_judged(
     implementation: &Implementation,
     of: &Judged,
 ) -> Result<(), AllocError>
-    ensures { OnOk result (out.new.items ≡ out.old.items ++ judged_text (names_of (map declared_of globals.now) (impl_of implementation.now)) of.now) }
+    ensures { OnOk result (out.new.items ≡ out.old.items ++ shown_text (names_of (map declared_of globals.now) (impl_of implementation.now)) of.now) }
 {
     if is_ordinary(&of.place) {
         put_verdict(out, globals, implementation, &of.place, &of.verdict)
@@ -83,7 +89,7 @@ pub fn put_places(
     implementation: &Implementation,
     judged: &[Judged],
 ) -> Result<(), AllocError>
-    ensures { OnOk result (out.new.items ≡ out.old.items ++ flat_map (judged_text (names_of (map declared_of globals.now) (impl_of implementation.now))) judged.now) }
+    ensures { OnOk result (out.new.items ≡ out.old.items ++ flat_map (shown_text (names_of (map declared_of globals.now) (impl_of implementation.now))) judged.now) }
 {
     for of in judged {
         put_judged(out, globals, implementation, of)?;

@@ -1,7 +1,9 @@
 //! Parts of a line.
 ghost use Rattle.std.specs.Prelude.{◌≡◌, ◌++◌, OnOk};
 ghost use Rattle.std.specs.Fmt.{decimal, signed_decimal};
-ghost use Rattle.bg_told.specs.Lines.{position_text, truth_text, scalar_text, word_text};
+ghost use Rattle.bg_scalar.specs.Values.{val_of};
+ghost use Rattle.bg_told.specs.Lines.{position_text, truth_text, value_text, word_text};
+ghost use Rattle.bg_told.specs.Views.{told_word};
 
 use crate::word::Word;
 use bg_base::Pos;
@@ -43,7 +45,7 @@ fn put_truth(out: &mut Vec<u8>, value: bool) -> Result<(), AllocError>
 }
 
 pub fn put_scalar(out: &mut Vec<u8>, value: Scalar) -> Result<(), AllocError>
-    ensures { OnOk result (out.new.items ≡ out.old.items ++ scalar_text value) }
+    ensures { OnOk result (out.new.items ≡ out.old.items ++ value_text (val_of value)) }
 {
     match value {
         Scalar::Truth(b) => put_truth(out, b),
@@ -52,7 +54,7 @@ pub fn put_scalar(out: &mut Vec<u8>, value: Scalar) -> Result<(), AllocError>
 }
 
 pub fn put_word(out: &mut Vec<u8>, word: Word) -> Result<(), AllocError>
-    ensures { OnOk result (out.new.items ≡ out.old.items ++ word_text word) }
+    ensures { OnOk result (out.new.items ≡ out.old.items ++ word_text (told_word word)) }
 {
     match word {
         Word::Verified => out.extend_from_slice(b"verified"),

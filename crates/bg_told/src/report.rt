@@ -2,8 +2,10 @@
 ghost use Rattle.std.specs.Prelude.{◌≡◌, ◌++◌, OnOk, IfOk, map};
 ghost use Rattle.bg_ast.specs.Views.{declared_of, impl_of, program_of};
 ghost use Rattle.bg_check.specs.Verdicts.{judged};
+ghost use Rattle.bg_check.specs.Outcomes.{told, outcome_of};
 ghost use Rattle.bg_told.specs.Lines.{texts};
 ghost use Rattle.bg_told.specs.Report.{head_text, implementation_text, count_text, summary_text, result_text};
+ghost use Rattle.bg_told.specs.Views.{why_of, told_word};
 
 use crate::places::put_places;
 use crate::put::{put_number, put_position, put_word};
@@ -17,7 +19,7 @@ fn put_head(
     implementation: &Implementation,
     word: Word,
 ) -> Result<(), AllocError>
-    ensures { OnOk result (out.new.items ≡ out.old.items ++ head_text (impl_of implementation.now) word) }
+    ensures { OnOk result (out.new.items ≡ out.old.items ++ head_text (impl_of implementation.now) (told_word word)) }
 {
     out.extend_from_slice(b"implementation ")?;
     out.extend_from_slice(&implementation.name.text)?;
@@ -30,13 +32,14 @@ fn put_head(
 }
 
 /// An implementation, and its ordinary places that aren't proved.
+#[tactic(auto, using(crate::proofs::Told::word_told, crate::proofs::Told::shown_is))]
 fn put_implementation(
     out: &mut Vec<u8>,
     globals: &[Declared],
     implementation: &Implementation,
     judged: &[Judged],
 ) -> Result<(), AllocError>
-    ensures { OnOk result (out.new.items ≡ out.old.items ++ implementation_text (map declared_of globals.now) (impl_of implementation.now) judged.now) }
+    ensures { OnOk result (out.new.items ≡ out.old.items ++ implementation_text (map declared_of globals.now) (impl_of implementation.now) (told why_of judged.now)) }
 {
     put_head(out, implementation, implementation_word(judged))?;
     put_places(out, globals, implementation, judged)?;
@@ -49,7 +52,7 @@ fn put_implementations(
     implementations: &[Implementation],
     outcome: &[Vec<Judged>],
 ) -> Result<(), AllocError>
-    ensures { OnOk result (out.new.items ≡ out.old.items ++ texts (implementation_text (map declared_of globals.now)) (map impl_of implementations.now) (judged outcome.now)) }
+    ensures { OnOk result (out.new.items ≡ out.old.items ++ texts (implementation_text (map declared_of globals.now)) (map impl_of implementations.now) (map (told why_of) (judged outcome.now))) }
 {
     for (i, implementation) in implementations.iter().enumerate() {
         if i >= outcome.len() {
@@ -60,28 +63,25 @@ fn put_implementations(
     Ok(())
 }
 
-fn put_count(out: &mut Vec<u8>, n: usize, word: Word) -> Result<(), AllocError>
-    ensures { OnOk result (out.new.items ≡ out.old.items ++ count_text n word) }
+/// How many implementations have this word, and the word.
+#[tactic(auto, using(crate::proofs::Told::count_told))]
+fn put_count(out: &mut Vec<u8>, outcome: &[Vec<Judged>], word: Word) -> Result<(), AllocError>
+    ensures { OnOk result (out.new.items ≡ out.old.items ++ count_text (told_word word) (map (told why_of) (judged outcome.now))) }
 {
-    put_number(out, n)?;
+    put_number(out, count_of(outcome, word))?;
     out.push(b' ')?;
     put_word(out, word)
 }
 
-fn put_summary(
-    out: &mut Vec<u8>,
-    verified: usize,
-    refuted: usize,
-    unknown: usize,
-) -> Result<(), AllocError>
-    ensures { OnOk result (out.new.items ≡ out.old.items ++ summary_text verified refuted unknown) }
+fn put_summary(out: &mut Vec<u8>, outcome: &[Vec<Judged>]) -> Result<(), AllocError>
+    ensures { OnOk result (out.new.items ≡ out.old.items ++ summary_text (outcome_of why_of (judged outcome.now))) }
 {
     out.extend_from_slice(b"summary: 0 retained, 0 dropped; ")?;
-    put_count(out, verified, Word::Verified)?;
+    put_count(out, outcome, Word::Verified)?;
     out.extend_from_slice(b", ")?;
-    put_count(out, refuted, Word::Refuted)?;
+    put_count(out, outcome, Word::Refuted)?;
     out.extend_from_slice(b", ")?;
-    put_count(out, unknown, Word::Unknown)?;
+    put_count(out, outcome, Word::Unknown)?;
     out.push(b'\n')?;
     Ok(())
 }
@@ -94,7 +94,7 @@ pub fn result_text(
     program: &Resolved,
     outcome: &[Vec<Judged>],
 ) -> Result<Vec<u8>, AllocError>
-    ensures { IfOk result (λ text. text.items ≡ result_text (program_of program.now) (judged outcome.now)) }
+    ensures { IfOk result (λ text. text.items ≡ result_text (program_of program.now) (outcome_of why_of (judged outcome.now))) }
 {
     let mut out = Vec::new(alloc);
     out.extend_from_slice(b"axioms: consistent\nretained set: greatest\n")?;
@@ -104,11 +104,6 @@ pub fn result_text(
         &program.implementations,
         outcome,
     )?;
-    put_summary(
-        &mut out,
-        count_of(outcome, Word::Verified),
-        count_of(outcome, Word::Refuted),
-        count_of(outcome, Word::Unknown),
-    )?;
+    put_summary(&mut out, outcome)?;
     Ok(out)
 }

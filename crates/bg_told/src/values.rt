@@ -2,9 +2,8 @@
 ghost use Rattle.std.specs.Prelude.{◌≡◌, ◌++◌, OnOk, [], map, drop, slice_get};
 ghost use Rattle.bg_ast.specs.Views.{declared_of, impl_of};
 ghost use Rattle.bg_told.specs.Lines.{texts};
-ghost use Rattle.bg_told.specs.Places.{value_text};
 ghost use Rattle.bg_told.specs.Report.{name_in, names_of};
-ghost use Rattle.bg_told.specs.Entries.{values_of, names_in};
+ghost use Rattle.bg_told.specs.Entries.{values_of, names_in, entry_text};
 
 use crate::put::put_scalar;
 use bg_ast::resolved::{Declared, Implementation};
@@ -60,7 +59,7 @@ fn rest_of(values: Values<'_>, n: usize) -> Values<'_>
 }
 
 fn put_value(out: &mut Vec<u8>, variable: &Declared, value: Scalar) -> Result<(), AllocError>
-    ensures { OnOk result (out.new.items ≡ out.old.items ++ value_text (name_in (declared_of variable.now)) value) }
+    ensures { OnOk result (out.new.items ≡ out.old.items ++ entry_text (name_in (declared_of variable.now)) value) }
 {
     out.extend_from_slice(b"    var ")?;
     out.extend_from_slice(&variable.name.text)?;
@@ -76,7 +75,7 @@ fn put_values(
     variables: &[Declared],
     values: Values<'_>,
 ) -> Result<(), AllocError>
-    ensures { OnOk result (out.new.items ≡ out.old.items ++ texts value_text (names_in variables.now) (values_of values.entry)) }
+    ensures { OnOk result (out.new.items ≡ out.old.items ++ texts entry_text (names_in variables.now) (values_of values.entry)) }
 {
     for (i, variable) in variables.iter().enumerate() {
         match value_at(values, i) {
@@ -95,7 +94,7 @@ fn put_groups(
     locals: &[Declared],
     values: Values<'_>,
 ) -> Result<(), AllocError>
-    ensures { OnOk result (out.new.items ≡ out.old.items ++ texts value_text (names_in params.now ++ (names_in results.now ++ names_in locals.now)) (values_of values.entry)) }
+    ensures { OnOk result (out.new.items ≡ out.old.items ++ texts entry_text (names_in params.now ++ (names_in results.now ++ names_in locals.now)) (values_of values.entry)) }
 {
     let behind = rest_of(values, params.len());
     put_values(out, params, values)?;
@@ -110,7 +109,7 @@ fn put_frame(
     implementation: &Implementation,
     values: Values<'_>,
 ) -> Result<(), AllocError>
-    ensures { OnOk result (out.new.items ≡ out.old.items ++ texts value_text (names_of [] (impl_of implementation.now)) (values_of values.entry)) }
+    ensures { OnOk result (out.new.items ≡ out.old.items ++ texts entry_text (names_of [] (impl_of implementation.now)) (values_of values.entry)) }
 {
     put_groups(
         out,
@@ -129,7 +128,7 @@ pub fn put_entry(
     implementation: &Implementation,
     values: Values<'_>,
 ) -> Result<(), AllocError>
-    ensures { OnOk result (out.new.items ≡ out.old.items ++ texts value_text (names_of (map declared_of globals.now) (impl_of implementation.now)) (values_of values.entry)) }
+    ensures { OnOk result (out.new.items ≡ out.old.items ++ texts entry_text (names_of (map declared_of globals.now) (impl_of implementation.now)) (values_of values.entry)) }
 {
     put_values(out, globals, values)?;
     put_frame(out, implementation, rest_of(values, globals.len()))?;

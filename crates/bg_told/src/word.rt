@@ -1,7 +1,10 @@
 //! The word for an implementation, and for a program.
 ghost use Rattle.std.specs.Prelude.{◌≡◌};
 ghost use Rattle.std.specs.List.{list_any};
+ghost use Rattle.bg_sound.specs.Told.{status_of};
 ghost use Rattle.bg_check.specs.Verdicts.{judged};
+ghost use Rattle.bg_check.specs.Outcomes.{outcome_of};
+ghost use Rattle.bg_told.specs.Views.{why_of, status_in};
 ghost use Rattle.bg_told.specs.Words.{is_ordinary, word_in, has_word, has, word_of, word_for, count_of};
 
 use bg_check::{Judged, Verdict};
@@ -79,9 +82,10 @@ fn any_has(word: Word, outcome: &[Vec<Judged>]) -> bool
 }
 
 /// The word of a program, of whose places this is known by implementation: refuted where some ordinary place is refuted, else unknown
-/// where one is unknown, else verified.
+/// where one is unknown, else verified. It gives the status of what is told.
+#[tactic(auto, using(crate::proofs::Told::status_told))]
 pub fn word_of(outcome: &[Vec<Judged>]) -> Word
-    ensures { result ≡ word_for (judged outcome.now) }
+    ensures { status_in result ≡ status_of (outcome_of why_of (judged outcome.now)) }
 {
     if any_has(Word::Refuted, outcome) {
         Word::Refuted

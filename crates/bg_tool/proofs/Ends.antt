@@ -10,7 +10,8 @@ use Rattle.bg_tree.specs.declared.outcome.Budget.{Budget}
 use Rattle.bg_tool.specs.declared.status.Status.{Status}
 use Rattle.bg_tool.specs.declared.status.Status.TheVariants as status
 use Rattle.bg_tool.specs.Statuses.{refusal_status, is_report, is_refused}
-use Rattle.bg_tool.specs.Answers.{WroteSome, Reported, ReportedSome, RefusedFor, Judges}
+use Rattle.bg_tool.specs.Reports.{IsTrueText, Wrote}
+use Rattle.bg_tool.specs.Answers.{IsReport, WroteSome, Reported, ReportedSome, RefusedFor, Judges}
 
 -- the status of a refusal is one of refusals
 abbrev status_with : Bool → Status
@@ -52,6 +53,15 @@ long_text None names n h =
     (replicate (suc n) byte, (tt, omega (arith, e)))
 long_text (Some held) names n h = (joined_text held names, (refl, h))
 
+-- a report is true of the bytes
+pub wrote_true : (budget : Budget) (contents : Option (List ℕ → List ℕ)) (names : List (List ℕ)) (ends : Status) (before now : Option (List ℕ)) → Wrote (IsReport budget) contents names ends before now → Wrote IsTrueText contents names ends before now
+wrote_true budget contents names ends before now w =
+    record {
+      text = w.text;
+      may = record { bytes = w.may.bytes; read = w.may.read; report = w.may.report.sound };
+      written = w.written;
+    }
+
 pub wrote_some : (budget : Budget) (contents : Option (List ℕ → List ℕ)) (names : List (List ℕ)) (bytes : List ℕ) (before now : Option (List ℕ)) → IsTextOf contents names bytes → ReportedSome budget bytes before now → WroteSome budget contents names before now
 wrote_some budget contents names bytes before now r (inl e) = inl e
 wrote_some budget contents names bytes before now r (inr f) =
@@ -91,9 +101,9 @@ judges k contents names bytes ends read s = record {
 module _ {A B : Type 0} (budget : Budget) (bytes : List ℕ) (before now lines line : Option (List ℕ)) where
   -- what the answer over a text within the limit says of it
   pub said : (ends : Status) → (IsTrue (is_report ends) → Reported budget bytes ends before now) → (IsTrue (is_refused ends) → RefusedFor bytes ends lines line) → (ends ≡ status.Write → A ⊎ B) → (A → ⊥) → (B → ⊥) → (ends ≢ status.Usage) × (ends ≢ status.Read) → Said bytes ends
-  said status.Verified r f w a b o = let q = r refl in Spelled q.report.program q.report.spelled refl
-  said status.Refuted r f w a b o = let q = r refl in Spelled q.report.program q.report.spelled refl
-  said status.Unknown r f w a b o = let q = r refl in Spelled q.report.program q.report.spelled refl
+  said status.Verified r f w a b o = let q = r refl in Spelled q.report.sound.program q.report.sound.spelled refl
+  said status.Refuted r f w a b o = let q = r refl in Spelled q.report.sound.program q.report.sound.spelled refl
+  said status.Unknown r f w a b o = let q = r refl in Spelled q.report.sound.program q.report.sound.spelled refl
   said status.Text r f w a b o = let q = f refl in Denied q.reason q.refused q.gives
   said status.Limit r f w a b o = let q = f refl in Denied q.reason q.refused q.gives
   said status.Usage r f w a b o = absurd (o.0 refl)

@@ -7,12 +7,13 @@ use Rattle.bg_front.specs.Refusals.{Refusal}
 use Rattle.bg_front.specs.Lines.{line_of}
 use Rattle.bg_check.specs.declared.verdict.Judged.{Judged}
 use Rattle.bg_check.specs.Verdicts.{AreRight}
-use Rattle.bg_told.specs.Report.{result_text}
-use Rattle.bg_told.specs.Words.{word_for}
-use Rattle.bg_tool.specs.Safety.{VerifiedAreSafe}
+use Rattle.bg_check.specs.Outcomes.{outcome_of}
+use Rattle.bg_sound.specs.Told.{Outcome}
+use Rattle.bg_told.specs.Views.{why_of}
 use Rattle.bg_tool.specs.declared.status.Status.{Status}
 use Rattle.bg_tool.specs.declared.status.Status.TheVariants as status
-use Rattle.bg_tool.specs.Statuses.{status_for, refusal_status, is_report, is_refused}
+use Rattle.bg_tool.specs.Statuses.{refusal_status, is_report, is_refused}
+use Rattle.bg_tool.specs.Reports.{IsTrueText, MayWrite}
 use Rattle.bg_cli.specs.Cli.{IsTaken, files_in, nodes_in, most_rows_in}
 use Rattle.bg_tree.specs.declared.outcome.Budget.{Budget}
 
@@ -20,16 +21,17 @@ use Rattle.bg_tree.specs.declared.outcome.Budget.{Budget}
 abbrev pub budget_in : List (List ℕ) → Budget
 budget_in words = record { nodes = nodes_in words; rows = most_rows_in words }
 
--- the text is the report of the program that the bytes spell, with verdicts that are right; each implementation that it
--- calls verified is safe; and the status is the one that the verdicts give
+-- what is told of a program is accounted for: it is told of verdicts that are right, one for each place: a certificate where it says
+-- proved, a counterexample where it says refuted, and where it says unknown a cause within the budget, whose words it has
+pub record IsAccounted (budget : Budget) (p : Program) (o : Outcome) : Type 0 where
+  pub verdicts : List (List Judged)
+  pub right : AreRight budget p verdicts
+  pub told : o ≡ outcome_of why_of verdicts
+
+-- the text is true of the program that the bytes spell, and what it tells is accounted for
 pub record IsReport (budget : Budget) (bytes : List ℕ) (ends : Status) (text : List ℕ) : Type 0 where
-  pub program : Program
-  pub spelled : IsProgramOf bytes program
-  pub outcome : List (List Judged)
-  pub right : AreRight budget program outcome
-  pub safe : VerifiedAreSafe program 0 outcome
-  pub is : text ≡ result_text program outcome
-  pub gives : ends ≡ status_for (word_for outcome)
+  pub sound : IsTrueText bytes ends text
+  pub accounted : IsAccounted budget sound.program sound.outcome
 
 -- a report was written, whole
 pub record Reported (budget : Budget) (bytes : List ℕ) (ends : Status) (before now : Option (List ℕ)) : Type 0 where
@@ -55,23 +57,11 @@ pub record RefusedFor (bytes : List ℕ) (ends : Status) (before now : Option (L
   pub gives : ends ≡ refusal_status reason
   pub written : now ≡ joined before (line_of reason)
 
--- a text that the call may write when it ends so
-pub record MayWrite (budget : Budget) (contents : Option (List ℕ → List ℕ)) (names : List (List ℕ)) (ends : Status) (text : List ℕ) : Type 0 where
-  pub bytes : List ℕ
-  pub read : IsTextOf contents names bytes
-  pub report : IsReport budget bytes ends text
-
--- such a text was written, whole
-pub record Wrote (budget : Budget) (contents : Option (List ℕ → List ℕ)) (names : List (List ℕ)) (ends : Status) (before now : Option (List ℕ)) : Type 0 where
-  pub text : List ℕ
-  pub may : MayWrite budget contents names ends text
-  pub written : now ≡ joined before text
-
 -- nothing was written, or the first bytes of a text that the call may write when it ends with a report
 pub record WroteFrontOf (budget : Budget) (contents : Option (List ℕ → List ℕ)) (names : List (List ℕ)) (before now : Option (List ℕ)) : Type 0 where
   pub ends : Status
   pub text : List ℕ
-  pub may : MayWrite budget contents names ends text
+  pub may : MayWrite (IsReport budget) contents names ends text
   pub count : ℕ
   pub written : now ≡ joined before (take count text)
 

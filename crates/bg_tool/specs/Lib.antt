@@ -1,3 +1,3 @@
 pub mod Statuses
-pub mod Safety
+pub mod Reports
 pub mod Answers

@@ -1,8 +1,6 @@
 -- What the statuses stand for.
 use Rattle.std.specs.Prelude.{ℕ, Bool, true, false, if◌then◌else◌}
 use Rattle.bg_front.specs.Refusals.{Refusal, is_limit}
-use Rattle.bg_told.specs.declared.word.Word.{Word}
-use Rattle.bg_told.specs.declared.word.Word.TheVariants as word
 use Rattle.bg_tool.specs.declared.status.Status.{Status}
 use Rattle.bg_tool.specs.declared.status.Status.TheVariants as status
 
@@ -17,12 +15,6 @@ number_of status.Read = 5
 number_of status.Write = 6
 number_of status.Memory = 7
 number_of status.Limit = 8
-
--- the status that verdicts give
-abbrev pub status_for : Word → Status
-status_for word.Verified = status.Verified
-status_for word.Refuted = status.Refuted
-status_for word.Unknown = status.Unknown
 
 -- the status that a refusal of a text gives
 abbrev pub refusal_status : Refusal → Status

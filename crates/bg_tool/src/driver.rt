@@ -9,26 +9,28 @@ ghost use Rattle.bg_fits.specs.Scalars.{is_over_scalars};
 ghost use Rattle.bg_front.specs.Programs.{IsProgramOf, IsRefusedBy};
 ghost use Rattle.bg_front.specs.Refusals.{refusal_of};
 ghost use Rattle.bg_front.specs.Lines.{line_of};
-ghost use Rattle.bg_tool.specs.Statuses.{status_for, refusal_status, is_report, is_refused, is_refusal};
-ghost use Rattle.bg_tool.specs.Answers.{budget_in, Reported, ReportedSome, RefusedFor, IsReport, Wrote, WroteSome, Refuses, usage_line, NamesFile, Judges, Completes};
+ghost use Rattle.bg_told.specs.Views.{status_in};
+ghost use Rattle.bg_tool.specs.Statuses.{number_of, refusal_status, is_report, is_refused, is_refusal};
+ghost use Rattle.bg_tool.specs.Reports.{IsTrueText, Wrote};
+ghost use Rattle.bg_tool.specs.Answers.{budget_in, Reported, ReportedSome, RefusedFor, IsReport, WroteSome, Refuses, usage_line, NamesFile, Judges, Completes};
 
 use crate::status::Status;
 use bg_ast::resolved::Resolved;
 use bg_check::check_program;
-use bg_check::laws::proved_is_safe;
+use bg_check::laws::right_verdicts_are_sound;
 use bg_claims::Gate;
 use bg_cli::{Line, LineError, read_line};
 use bg_front::laws::{a_text_has_one_program_or_one_refusal, programs_are_typed};
 use bg_front::{MOST_BYTES, ReadError as TextError, Refusal, read_program};
 use bg_io::{Files, ReadError, Sink, read_all, write_all};
 use bg_judged::laws::judged_programs_are_over_scalars;
-use bg_told::{Word, result_text, verified_is_all_proved, word_of};
+use bg_told::{Word, result_text, word_of};
 use bg_tree::Budget;
 use std::alloc::{AllocError, Global};
 
 /// The status that verdicts give.
 fn status_of(word: Word) -> Status
-    ensures gives { result ≡ status_for word }
+    ensures gives { number_of result ≡ status_in word }
     ensures ends { IsTrue (is_report result) }
 {
     match word {
@@ -50,8 +52,7 @@ fn report_of(
     ensures ends { IfOk result (λ r. IsTrue (is_report r.0)) }
 {
     let outcome = check_program(alloc, program, budget)?;
-    proved_is_safe();
-    verified_is_all_proved();
+    right_verdicts_are_sound();
     let text = result_text(alloc, program, &outcome)?;
     Ok((status_of(word_of(&outcome)), text))
 }
@@ -163,7 +164,7 @@ fn judge<F: Files, S: Sink, E: Sink>(
     out: &mut S,
     err: &mut E,
 ) -> Status
-    ensures report { IsTrue (is_report result) → Wrote budget (F.contents files.old) (map string_bytes names.now) result (S.written out.old) (S.written out.new) }
+    ensures report { IsTrue (is_report result) → Wrote (IsReport budget) (F.contents files.old) (map string_bytes names.now) result (S.written out.old) (S.written out.new) }
     ensures quiet { (IsTrue (is_report result) ⊎ (result ≡ Status.Memory)) → E.written err.new ≡ E.written err.old }
     ensures refused { IsTrue (is_refused result) → Refuses (F.contents files.old) (map string_bytes names.now) result (E.written err.old) (E.written err.new) }
     ensures read { result ≡ Status.Read → Rose (F.faults files.old) (F.faults files.new) }
@@ -215,7 +216,8 @@ pub fn run<R: AllocGlobal, F: Files, S: Sink, E: Sink, G: Gate>(
     _gate: &G,
 ) -> Status
     ensures taken { (IsTrue (is_report result) ⊎ (IsTrue (is_refused result) ⊎ (result ≡ Status.Read))) → IsTaken (texts_of words.now) }
-    ensures report { IsTrue (is_report result) → Wrote (budget_in (texts_of words.now)) (F.contents files.old) (files_in (texts_of words.now)) result (S.written out.old) (S.written out.new) }
+    ensures sound { IsTrue (is_report result) → Wrote IsTrueText (F.contents files.old) (files_in (texts_of words.now)) result (S.written out.old) (S.written out.new) }
+    ensures report { IsTrue (is_report result) → Wrote (IsReport (budget_in (texts_of words.now))) (F.contents files.old) (files_in (texts_of words.now)) result (S.written out.old) (S.written out.new) }
     ensures quiet { (IsTrue (is_report result) ⊎ (result ≡ Status.Memory)) → E.written err.new ≡ E.written err.old }
     ensures text { IsTrue (is_refused result) → Refuses (F.contents files.old) (files_in (texts_of words.now)) result (E.written err.old) (E.written err.new) }
     ensures usage { result ≡ Status.Usage → IsTaken (texts_of words.now) → ⊥ }

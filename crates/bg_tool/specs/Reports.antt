@@ -1,0 +1,24 @@
+-- A report that is true of what the files hold.
+use Rattle.std.specs.Prelude.{◌≡◌, ℕ, List, Option}
+use Rattle.bg_io.specs.Causes.{joined, IsTextOf}
+use Rattle.bg_front.specs.Programs.{IsProgramOf}
+use Rattle.bg_sound.specs.Report.{IsTrueReport}
+use Rattle.bg_told.specs.Report.{result_text}
+use Rattle.bg_tool.specs.declared.status.Status.{Status}
+use Rattle.bg_tool.specs.Statuses.{number_of}
+
+-- the text tells what is true of the program that the bytes spell, and the status is that of what it tells
+abbrev pub IsTrueText : List ℕ → Status → List ℕ → Type 0
+IsTrueText bytes ends text = IsTrueReport IsProgramOf result_text bytes text (number_of ends)
+
+-- a text that the call may write when it ends so, where it has to be such a text of the bytes
+pub record MayWrite (IsText : List ℕ → Status → List ℕ → Type 0) (contents : Option (List ℕ → List ℕ)) (names : List (List ℕ)) (ends : Status) (text : List ℕ) : Type 0 where
+  pub bytes : List ℕ
+  pub read : IsTextOf contents names bytes
+  pub report : IsText bytes ends text
+
+-- such a text was written, whole
+pub record Wrote (IsText : List ℕ → Status → List ℕ → Type 0) (contents : Option (List ℕ → List ℕ)) (names : List (List ℕ)) (ends : Status) (before now : Option (List ℕ)) : Type 0 where
+  pub text : List ℕ
+  pub may : MayWrite IsText contents names ends text
+  pub written : now ≡ joined before text
