@@ -5,6 +5,7 @@ usage: believed.py [--list] CRATE.MODULE.NAME.. [--without CRATE.MODULE.NAME..]
 
 A definition is counted with its comment, once, and with it each definition that it names, in `specs/` of the crates; those of
 the code's own types (`specs/declared`) and of the standard library aren't. What the names behind `--without` reach is left out.
+Each name has a line with what it adds to those before it; `--list` has a line for each definition.
 """
 import re
 import sys
@@ -124,23 +125,22 @@ def names(words):
 def main():
     words = [w for w in sys.argv[1:] if w != "--list"]
     cut = words.index("--without") if "--without" in words else len(words)
-    reader = Reader()
+    reader, whole = Reader(), 0
     for where, name in names(words[cut + 1:]):
         reader.reach(where, name)
-    before = set(reader.seen)
     for where, name in names(words[:cut]):
         if reader.find(where, name) is None:
             sys.exit(f"no definition {where}.{name}")
+        before = set(reader.seen)
         reader.reach(where, name)
-    counted = [v for k, v in reader.seen.items() if k not in before]
-    if "--list" in sys.argv:
-        for where, name, lines in counted:
-            print(f"{lines:5} {where}.{name}")
-    crates = {}
-    for where, _, lines in counted:
-        crates[where.split(".")[0]] = crates.get(where.split(".")[0], 0) + lines
-    print("  ".join(f"{crate} {lines}" for crate, lines in sorted(crates.items(), key=lambda c: -c[1])))
-    print(sum(crates.values()), "lines")
+        added = [v for k, v in reader.seen.items() if k not in before]
+        lines = sum(v[2] for v in added)
+        whole += lines
+        if "--list" in sys.argv:
+            for module, one, count in added:
+                print(f"      {count:5} {module}.{one}")
+        print(f"{lines:5} {where.replace('.specs', '')}.{name}")
+    print(f"{whole:5} lines")
 
 
 if __name__ == "__main__":

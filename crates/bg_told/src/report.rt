@@ -32,7 +32,6 @@ fn put_head(
 }
 
 /// An implementation, and its ordinary places that aren't proved.
-#[tactic(auto, using(crate::proofs::Told::word_told, crate::proofs::Told::shown_is))]
 fn put_implementation(
     out: &mut Vec<u8>,
     globals: &[Declared],
@@ -64,13 +63,13 @@ fn put_implementations(
 }
 
 /// How many implementations have this word, and the word.
-#[tactic(auto, using(crate::proofs::Told::count_told))]
 fn put_count(out: &mut Vec<u8>, outcome: &[Vec<Judged>], word: Word) -> Result<(), AllocError>
     ensures { OnOk result (out.new.items ≡ out.old.items ++ count_text (told_word word) (map (told why_of) (judged outcome.now))) }
 {
     put_number(out, count_of(outcome, word))?;
     out.push(b' ')?;
-    put_word(out, word)
+    put_word(out, word)?;
+    Ok(())
 }
 
 fn put_summary(out: &mut Vec<u8>, outcome: &[Vec<Judged>]) -> Result<(), AllocError>

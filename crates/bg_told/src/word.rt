@@ -81,11 +81,9 @@ fn any_has(word: Word, outcome: &[Vec<Judged>]) -> bool
     false
 }
 
-/// The word of a program, of whose places this is known by implementation: refuted where some ordinary place is refuted, else unknown
-/// where one is unknown, else verified. It gives the status of what is told.
-#[tactic(auto, using(crate::proofs::Told::status_told))]
-pub fn word_of(outcome: &[Vec<Judged>]) -> Word
-    ensures { status_in result ≡ status_of (outcome_of why_of (judged outcome.now)) }
+/// Refuted where some ordinary place is refuted, else unknown where one is unknown, else verified.
+fn program_word(outcome: &[Vec<Judged>]) -> Word
+    ensures { result ≡ word_for (judged outcome.now) }
 {
     if any_has(Word::Refuted, outcome) {
         Word::Refuted
@@ -94,6 +92,14 @@ pub fn word_of(outcome: &[Vec<Judged>]) -> Word
     } else {
         Word::Verified
     }
+}
+
+/// The word of a program, of whose places this is known by implementation: refuted where some ordinary place is refuted, else unknown
+/// where one is unknown, else verified. It gives the status of what is told.
+pub fn word_of(outcome: &[Vec<Judged>]) -> Word
+    ensures { status_in result ≡ status_of (outcome_of why_of (judged outcome.now)) }
+{
+    program_word(outcome)
 }
 
 /// How many implementations have the word.

@@ -206,6 +206,9 @@ fn names_of(alloc: Global, files: &[&str]) -> Result<Vec<String>, AllocError>
 }
 
 /// Judges the program of the files that the words name, and writes its report to `out`; a refusal is one line on `err`.
+/// What such a report tells is true of the program that the files spell (`sound`): with status 0 some interpretation meets it, and no
+/// execution of any implementation fails (`bg_sound`'s law `status_zero_is_safe`); two reports of one program agree where they should
+/// (`greatest_sets_agree`, `settled_words_agree`); and its bytes decide what it tells of sets and implementations (`bg_told`'s laws).
 /// The first word is the program's own name. Workers that check places of candidates pass the gate before each; there are none yet.
 pub fn run<R: AllocGlobal, F: Files, S: Sink, E: Sink, G: Gate>(
     rt: &R,
