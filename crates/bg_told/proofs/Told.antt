@@ -13,7 +13,6 @@ use Rattle.bg_sound.specs.Told as t
 use Rattle.bg_check.specs.declared.verdict.Verdict.{Verdict}
 use Rattle.bg_check.specs.declared.verdict.Verdict.TheVariants as verdict
 use Rattle.bg_check.specs.declared.verdict.Judged.{Judged}
-use Rattle.bg_check.specs.Verdicts.{placed_at}
 use Rattle.bg_check.specs.Outcomes as c
 use Rattle.bg_check.specs.Outcomes.{verdict_of, told_one, told, outcome_of}
 use Rattle.bg_told.specs.declared.word.Word.{Word}

@@ -11,7 +11,10 @@ mod report;
 mod values;
 mod word;
 
-pub use laws::{equal_reports_retain_equal_sets, equal_reports_say_equal_words, verified_is_all_proved, verified_is_each_verified};
+pub use laws::{
+    equal_reports_retain_equal_sets, equal_reports_say_equal_words, verified_is_all_proved,
+    verified_is_each_verified,
+};
 pub use report::result_text;
 pub use word::{Word, word_of};
 

@@ -1,4 +1,4 @@
-use Rattle.std.proofs.Common.{◌≡◌, ◌++◌, List, ℕ, codes, flat_map, map, ap, ◌∙◌, append_assoc}
+use Rattle.std.proofs.Common.{◌≡◌, ◌++◌, List, ℕ, flat_map, map, ap, ◌∙◌, append_assoc}
 use Rattle.bg_ast.specs.Views.{declared_of, impl_of}
 use Rattle.bg_places.specs.Views.{placed_of}
 use Rattle.bg_scalar.specs.Choices.{choice_of}
