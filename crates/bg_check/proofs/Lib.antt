@@ -15,3 +15,4 @@ pub mod Replaying
 pub mod Judging
 pub mod Trimming
 pub mod Sounds
+pub mod Fewer

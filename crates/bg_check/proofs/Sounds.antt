@@ -1,27 +1,25 @@
 -- Right verdicts are sound.
-use Rattle.std.proofs.Common.{◌≡◌, ℕ, suc, Bool, true, false, ◌&&◌, ◌||◌, List, [], ◌∷◌, map, cond, if◌then◌else◌, Option, Some, None, refl, sym, ap, ◌∙◌, subst}
+use Rattle.std.proofs.Common.{◌≡◌, ℕ, suc, Bool, true, false, ◌&&◌, ◌||◌, List, [], ◌∷◌, map, cond, if◌then◌else◌, Option, Some, None, refl, sym, ap, ◌∙◌}
 use Rattle.std.specs.Prelude.{filter, is_none}
 use Rattle.std.specs.List.{list_any}
 use Rattle.bg_ast.specs.Syntax.{Prog}
 use Rattle.bg_ast.specs.Resolved as r
 use Rattle.bg_ast.specs.Meaning.{meaning_of}
 use Rattle.bg_ast.specs.Execution.{Interp, State, Choice, Place}
-use Rattle.bg_sense.specs.Typed.{IsTyped}
 use Rattle.bg_sense.specs.Clauses.{is_kept}
-use Rattle.bg_sense.specs.Claims.{Safe, Fails}
+use Rattle.bg_sense.specs.Claims.{Fails}
 use Rattle.bg_cert.specs.declared.cert.Node.{Node}
 use Rattle.bg_fits.specs.Scalars.{is_over_scalars}
-use Rattle.bg_places.specs.Placed.{Placed, placed_impl}
 use Rattle.bg_tree.specs.declared.outcome.Budget.{Budget}
 use Rattle.bg_sound.specs.Told as t
-use Rattle.bg_sound.specs.Sound.{IsTrueAt, AreTrueAt, IsTrueOf, AreTrueFrom, IsSound}
+use Rattle.bg_sound.specs.Sound.{IsTrueAt, AreTrueAt, AreTrueFrom, IsSound}
 use Rattle.bg_sound.proofs.Plain.{plain, no_candidates}
 use Rattle.bg_check.specs.declared.verdict.Cause.{Cause}
 use Rattle.bg_check.specs.declared.verdict.Verdict.{Verdict}
 use Rattle.bg_check.specs.declared.verdict.Verdict.TheVariants.{Proved, Refuted, Unknown}
 use Rattle.bg_check.specs.declared.verdict.Judged.{Judged}
-use Rattle.bg_check.specs.Verdicts.{none, HasCertificate, IsRight, placed_at, AreRightAt, AreRightOf, AreRightFrom, AreRight, is_proved, are_proved, is_there, ProvedAreSafe}
-use Rattle.bg_check.specs.Outcomes.{verdict_of, told_one, is_ordinary, told, outcome_of, IsUsed, AreUsed, AllUsed}
+use Rattle.bg_check.specs.Verdicts.{none, HasCertificate, IsRight, placed_at, AreRightAt, AreRightFrom, AreRight, is_proved, are_proved, is_there, ProvedAreSafe}
+use Rattle.bg_check.specs.Outcomes.{verdict_of, told_one, is_ordinary, told, outcome_of}
 
 -- what certificates give, and what is safe
 abbrev pub NoFailures : Prog → Type 0
@@ -41,14 +39,14 @@ same_placed words [] = refl
 same_placed words (j ∷ js) = ap (λ ys. placed_at j ∷ ys) (same_placed words js)
 
 module _ (p : Prog) (budget : Budget) (words : Cause → t.Why) (none_fail : NoFailures p) where
-  true_at : (u : Place) (v : Verdict) → IsRight budget p none u v → IsUsed p u v → IsTrueAt p none u (verdict_of words v)
-  true_at u (Proved nodes) h e = none_fail u nodes.items h
-  true_at u (Refuted cex) h e = (h.0, e)
-  true_at u (Unknown cause) h e = tt
+  true_at : (u : Place) (v : Verdict) → IsRight budget p none u v → IsTrueAt p none u (verdict_of words v)
+  true_at u (Proved nodes) h = none_fail u nodes.items h
+  true_at u (Refuted cex) h = (h.0, h.1.1)
+  true_at u (Unknown cause) h = tt
 
-  all_true : (js : List Judged) → AreRightAt budget p none js → AreUsed p js → AreTrueAt p none (told words js)
-  all_true [] h e = tt
-  all_true (j ∷ js) h e = by (is_ordinary j) (true_at (placed_at j).place j.verdict h.0 e.0) (all_true js h.1 e.1)
+  all_true : (js : List Judged) → AreRightAt budget p none js → AreTrueAt p none (told words js)
+  all_true [] h = tt
+  all_true (j ∷ js) h = by (is_ordinary j) (true_at (placed_at j).place j.verdict h.0) (all_true js h.1)
     where
       by : (b : Bool) → IsTrueAt p none (placed_at j).place (verdict_of words j.verdict) → AreTrueAt p none (map (told_one words) (filter is_ordinary js)) → AreTrueAt p none (map (told_one words) (cond b (j ∷ filter is_ordinary js) (filter is_ordinary js)))
       by true a c = (a, c)
@@ -86,28 +84,28 @@ word_parts true b h = absurd (let bad : ⊥ = cc in bad)
 word_parts false true h = absurd (let bad : ⊥ = cc in bad)
 word_parts false false h = (refl, refl)
 
-true_from : (p : r.Program) (budget : Budget) (words : Cause → t.Why) → NoFailures (meaning_of p) → (k : ℕ) (ms : List r.Impl) (os : List (List Judged)) → AreRightFrom budget p none k ms os → AllUsed (meaning_of p) os → ProvedAreSafe p none k os → AreTrueFrom p none k ms (map (told words) os)
-true_from p budget words f k [] [] h e s = tt
-true_from p budget words f k [] (js ∷ os) h e s = absurd h
-true_from p budget words f k (m ∷ ms) [] h e s = absurd h
-true_from p budget words f k (m ∷ ms) (js ∷ os) h e s = (
+true_from : (p : r.Program) (budget : Budget) (words : Cause → t.Why) → NoFailures (meaning_of p) → (k : ℕ) (ms : List r.Impl) (os : List (List Judged)) → AreRightFrom budget p none k ms os → ProvedAreSafe p none k os → AreTrueFrom p none k ms (map (told words) os)
+true_from p budget words f k [] [] h s = tt
+true_from p budget words f k [] (js ∷ os) h s = absurd h
+true_from p budget words f k (m ∷ ms) [] h s = absurd h
+true_from p budget words f k (m ∷ ms) (js ∷ os) h s = (
   record {
     places = same_placed words (filter is_ordinary js) ∙ (filter_map placed_at t.is_ordinary js ∙ ap (filter t.is_ordinary) h.0.places);
-    right = all_true (meaning_of p) budget words f js h.0.right e.0;
+    right = all_true (meaning_of p) budget words f js h.0.right;
     safe = λ w.
         let a = word_parts (list_any (λ j. t.is_refuted j.verdict) (told words js)) (list_any (λ j. t.is_unknown j.verdict) (told words js)) w in
         s.0 (ap are_proved (there_is_ordinary js) ∙ proved_all words (filter is_ordinary js) a.0 a.1);
   },
-  true_from p budget words f (suc k) ms os h.1 e.1 s.1,
+  true_from p budget words f (suc k) ms os h.1 s.1,
 )
 
-pub sound : (p : r.Program) (budget : Budget) (os : List (List Judged)) (words : Cause → t.Why) → is_over_scalars true (meaning_of p) ≡ true → NoFailures (meaning_of p) → ProvedAreSafe p none 0 os → AreRight budget p os → AllUsed (meaning_of p) os → IsSound p (outcome_of words os)
-sound p budget os words over f s h e =
+pub sound : (p : r.Program) (budget : Budget) (os : List (List Judged)) (words : Cause → t.Why) → is_over_scalars true (meaning_of p) ≡ true → NoFailures (meaning_of p) → ProvedAreSafe p none 0 os → AreRight budget p os → IsSound p (outcome_of words os)
+sound p budget os words over f s h =
     let easy = plain (meaning_of p) true over in
     record {
       candidates = sym (no_candidates (meaning_of p) true over);
       axioms = easy.0;
       retained_set = easy.1;
       unchecked = λ b u i c d. absurd (let bad : ⊥ = cc in bad);
-      implementations = true_from p budget words f 0 p.implementations os h e s;
+      implementations = true_from p budget words f 0 p.implementations os h s;
     }

@@ -1,5 +1,5 @@
 -- The replay of a counterexample without its last choice.
-use Rattle.std.proofs.Common.{◌≡◌, ℕ, Bool, true, List, [], ◌∷◌, ◌++◌, map, Option, Some, refl, sym, ap, ◌∙◌, subst, inl, inr}
+use Rattle.std.proofs.Common.{◌≡◌, ℕ, Bool, List, [], ◌∷◌, ◌++◌, map, Some, refl, sym, ap, ◌∙◌, inl, inr}
 use Rattle.std.specs.Prelude.{◌⊎◌, slice_get, option_map}
 use Rattle.std.proofs.lemmas.Option.{slice_get-map}
 use Rattle.bg_ast.specs.Values.{Ty}
@@ -22,7 +22,7 @@ use Rattle.bg_scalar.specs.declared.scalar.Scalar.{Scalar}
 use Rattle.bg_replay.specs.Moments.{Around}
 use Rattle.bg_replay.specs.Said.{Said, Stops}
 use Rattle.bg_replay.specs.Ways.{runs}
-use Rattle.bg_replay.specs.Views.{set_of, said_by}
+use Rattle.bg_replay.specs.Views.{said_by}
 use Rattle.bg_replay.specs.Endings.{IsReplay, moment_in}
 use Rattle.bg_replay.specs.declared.ending.Ending.{Ending}
 use Rattle.bg_replay.proofs.More.{same_runs}

@@ -6,5 +6,6 @@ pub mod Prepared
 pub mod Slices
 pub mod Replays
 pub mod Verdicts
+pub mod Dropped
 pub mod Made
 pub mod Outcomes

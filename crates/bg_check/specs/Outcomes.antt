@@ -1,18 +1,13 @@
 -- Verdicts as what a report tells.
-use Rattle.std.specs.Prelude.{ℕ, Bool, true, List, [], ◌∷◌, map, filter}
-use Rattle.bg_ast.specs.Resolved as r
-use Rattle.bg_ast.specs.Syntax.{Prog}
-use Rattle.bg_ast.specs.Meaning.{meaning_of}
-use Rattle.bg_ast.specs.Execution.{Place}
+use Rattle.std.specs.Prelude.{Bool, true, List, [], map, filter}
 use Rattle.bg_faithful.specs.Interps.{no_interp}
 use Rattle.bg_scalar.specs.Choices.{choice_of, state_of}
 use Rattle.bg_sound.specs.Told as t
-use Rattle.bg_sound.specs.Used.{UsesAll}
 use Rattle.bg_check.specs.declared.verdict.Cause.{Cause}
 use Rattle.bg_check.specs.declared.verdict.Verdict.{Verdict}
 use Rattle.bg_check.specs.declared.verdict.Verdict.TheVariants.{Proved, Refuted, Unknown}
 use Rattle.bg_check.specs.declared.verdict.Judged.{Judged}
-use Rattle.bg_check.specs.Verdicts.{none, placed_at}
+use Rattle.bg_check.specs.Verdicts.{placed_at}
 
 abbrev pub verdict_of : (Cause → t.Why) → Verdict → t.Verdict
 verdict_of words (Proved nodes) = t.Proved
@@ -34,17 +29,3 @@ told words js = map (told_one words) (filter is_ordinary js)
 abbrev pub outcome_of : (Cause → t.Why) → List (List Judged) → t.Outcome
 outcome_of words os =
     record { axioms = t.Consistent; fates = []; is_greatest = true; implementations = map (told words) os }
-
--- a counterexample has no choice left over
-abbrev pub IsUsed : Prog → Place → Verdict → Type 0
-IsUsed p t (Refuted cex) =
-    UsesAll p none t no_interp (state_of cex.globals.items cex.frame.items) (map choice_of cex.choices.items)
-IsUsed p t _ = Unit {0}
-
-abbrev pub AreUsed : Prog → List Judged → Type 0
-AreUsed p [] = Unit {0}
-AreUsed p (j ∷ js) = IsUsed p (placed_at j).place j.verdict × AreUsed p js
-
-abbrev pub AllUsed : Prog → List (List Judged) → Type 0
-AllUsed p [] = Unit {0}
-AllUsed p (js ∷ os) = AreUsed p js × AllUsed p os

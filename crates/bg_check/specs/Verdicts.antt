@@ -25,6 +25,7 @@ use Rattle.bg_faithful.specs.Interps.{no_interp}
 use Rattle.bg_scalar.specs.Choices.{choice_of, state_of}
 use Rattle.bg_replay.specs.Said.{Stops, Leaves}
 use Rattle.bg_model.specs.declared.failure.Counterexample.{Counterexample}
+use Rattle.bg_sound.specs.Used.{UsesAll}
 use Rattle.bg_check.specs.Cuts.{IsOwn, HasOwnClauses}
 use Rattle.bg_check.specs.LeafRuns.{HasLeaf}
 use Rattle.bg_check.specs.declared.verdict.Cause.{Cause}
@@ -65,6 +66,11 @@ abbrev pub IsFailure : Prog → (ℕ → Bool) → Place → Counterexample → 
 IsFailure p set t cex =
     Fails p set t no_interp (state_of cex.globals.items cex.frame.items) (map choice_of cex.choices.items)
 
+-- no choice is left over: without the last one the run lacks a choice
+abbrev pub IsUsed : Prog → (ℕ → Bool) → Place → Counterexample → Type 0
+IsUsed p set t cex =
+    UsesAll p set t no_interp (state_of cex.globals.items cex.frame.items) (map choice_of cex.choices.items)
+
 -- why a place is left unknown, under a set of candidates
 abbrev pub IsUnknown : Budget → Prog → (ℕ → Bool) → Place → Cause → Type 0
 IsUnknown budget p set t (Search why) = HasWhy p set t budget why
@@ -74,7 +80,8 @@ IsUnknown budget p set t (Replay cex o) = HasLeaf p set t cex × (IsFailure p se
 -- a verdict on a place, under a set of candidates
 abbrev pub IsRight : Budget → Prog → (ℕ → Bool) → Place → Verdict → Type 0
 IsRight budget p set t (Proved nodes) = HasCertificate p set t nodes.items
-IsRight budget p set t (Refuted cex) = IsFailure p set t cex × RunsTo p set t cex (Stops (Failed t.spot))
+IsRight budget p set t (Refuted cex) =
+    IsFailure p set t cex × (RunsTo p set t cex (Stops (Failed t.spot)) × IsUsed p set t cex)
 IsRight budget p set t (Unknown cause) = IsUnknown budget p set t cause
 
 abbrev pub placed_at : Judged → Placed

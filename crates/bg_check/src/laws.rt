@@ -28,7 +28,7 @@ ghost use Rattle.bg_check.specs.declared.verdict.Verdict.TheVariants.{Refuted};
 ghost use Rattle.bg_sound.specs.Told.{Why};
 ghost use Rattle.bg_sound.specs.Sound.{IsSound};
 ghost use Rattle.bg_check.specs.declared.verdict.Cause.{Cause};
-ghost use Rattle.bg_check.specs.Outcomes.{outcome_of, AllUsed};
+ghost use Rattle.bg_check.specs.Outcomes.{outcome_of};
 ghost use Rattle.bg_check.specs.Replays.{RunsTo};
 ghost use Rattle.bg_check.specs.Verdicts.{none, HasCertificate, IsFailure, IsRight, AreRightUnder, AreRight, ProvedAreSafe};
 
@@ -121,11 +121,11 @@ pub fn shorter_replays_lack_a_choice_or_fail()
         (said_by ending ≡ Stops BadChoice) ⊎ (said_by ending ≡ Stops (Failed t.spot)) }
 {}
 
-/// Right verdicts on a typed program over truth values and whole numbers are sound, where no counterexample has a choice left over: what a
-/// report tells of them is true, whatever words it has for causes.
+/// Right verdicts on a typed program over truth values and whole numbers are sound: what a report tells of them is true, whatever words it
+/// has for causes.
 pub fn right_verdicts_are_sound()
     ensures { (p : Program) (budget : Budget) (outcome : List (List Judged)) (words : Cause → Why) → IsTyped (meaning_of p) → is_over_scalars true (meaning_of p) ≡ true →
-        AreRight budget p outcome → AllUsed (meaning_of p) outcome → IsSound p (outcome_of words outcome) }
+        AreRight budget p outcome → IsSound p (outcome_of words outcome) }
 {
     proved_places_do_not_fail();
     proved_is_safe();

@@ -2,6 +2,7 @@
 //! counterexample, or unknown with what is kept of a budget, or an operation that leaves 128 bits.
 #![tactic(auto)]
 
+mod dropping;
 pub mod laws;
 mod leaf;
 mod place;

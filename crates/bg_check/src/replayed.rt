@@ -11,6 +11,7 @@ ghost use Rattle.bg_check.specs.LeafRuns.{HasLeaf};
 ghost use Rattle.bg_check.specs.Prepared.{IsPrepared};
 ghost use Rattle.bg_check.specs.Verdicts.{IsFailure, IsRight};
 
+use crate::dropping::used_up;
 use crate::prepared::Prepared;
 use crate::verdict::{Cause, Verdict};
 use bg_ast::resolved::Resolved;
@@ -21,7 +22,8 @@ use bg_replay::laws::replays_are_induction_runs;
 use bg_replay::{Ending, replay};
 use std::alloc::{AllocError, Global};
 
-/// A place is refuted by a run that fails there, that of a complete leaf of its clauses, unless an operation on its way leaves 128 bits.
+/// A place is refuted by a run that fails there, that of a complete leaf of its clauses, unless an operation on its way leaves 128 bits;
+/// choices that the run doesn't take are dropped.
 pub fn replayed(
     alloc: Global,
     program: &Resolved,
@@ -51,7 +53,10 @@ pub fn replayed(
     )?;
     match ending {
         Ending::OutOfRange(o) => Ok(Verdict::Unknown(Cause::Replay(cex, o))),
-        Ending::Failed(_) => Ok(Verdict::Refuted(cex)),
+        Ending::Failed(_) => {
+            let left = used_up(alloc, program, prepared, place, set, cex)?;
+            Ok(Verdict::Refuted(left))
+        }
         Ending::Ended => unreachable!(),
         Ending::Blocked => unreachable!(),
         Ending::BadChoice => unreachable!(),

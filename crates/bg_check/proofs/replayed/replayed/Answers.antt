@@ -42,8 +42,8 @@ returns-in-OutOfRange c budget =
     (arm_here c.replays_are_induction_runs.ensures c.blocks_are_typed.ensures p c.args.set.now t c.args.cex c.args.prepared.now c.requires.prepared c.deref.result.now c.deref-2.result.now c.deref-3.result.now c.deref-4.result.now c.in_ok-ending.ending c.requires.typed c.requires.scalars c.deref.ensures.value c.deref-2.ensures.value c.deref-3.ensures.value c.deref-4.ensures.value c.requires.fails c.in_ok-ending.ensures) in
     (c.requires.leaf, (c.requires.fails, arm))
 
-pub returns-in-Failed : goal.returns-in-Failed
-returns-in-Failed c budget =
+pub used_up-requires-clause-fails : goal.used_up-requires-clause-fails
+used_up-requires-clause-fails c =
     let p = program_of c.args.program.now in
     let t = (placed_of c.args.place.now).place in
     let arm = subst (Arm (meaning_of p) (has c.args.set.now) t c.args.cex) c.in-Failed.is
