@@ -16,3 +16,4 @@ pub mod Judging
 pub mod Trimming
 pub mod Sounds
 pub mod Fewer
+pub mod Onways

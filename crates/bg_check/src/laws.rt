@@ -12,6 +12,8 @@ ghost use Rattle.bg_cert.specs.declared.cert.Node.{Node};
 ghost use Rattle.bg_cert.specs.Certs.{node_of, uses};
 ghost use Rattle.bg_cert.specs.Walks.{has};
 ghost use Rattle.bg_fits.specs.Scalars.{is_over_scalars};
+ghost use Rattle.bg_block_types.specs.Typed.{passives_in};
+ghost use Rattle.bg_faithful.specs.Sorted.{sorts_in};
 ghost use Rattle.bg_blocks.specs.Whole.{AreBlocks};
 ghost use Rattle.bg_blocks.specs.declared.block.Block.{Block};
 ghost use Rattle.bg_replay.specs.Said.{Stops, Leaves};
@@ -30,7 +32,8 @@ ghost use Rattle.bg_sound.specs.Sound.{IsSound};
 ghost use Rattle.bg_check.specs.declared.verdict.Cause.{Cause};
 ghost use Rattle.bg_check.specs.Outcomes.{outcome_of};
 ghost use Rattle.bg_check.specs.Replays.{RunsTo};
-ghost use Rattle.bg_check.specs.Verdicts.{none, HasCertificate, IsFailure, IsRight, AreRightUnder, AreRight, ProvedAreSafe};
+ghost use Rattle.bg_check.specs.Ways.{LiesOnWay};
+ghost use Rattle.bg_check.specs.Verdicts.{none, HasCertificate, HasOutside, IsFailure, IsRight, AreRightUnder, AreRight, ProvedAreSafe};
 
 use bg_block_types::laws::blocks_are_typed;
 use bg_cert::laws::{accepted_has_no_valuation, accepted_where_used};
@@ -119,6 +122,14 @@ pub fn shorter_replays_lack_a_choice_or_fail()
         cex.choices.items ≡ front ++ (last ∷ []) → RunsTo (meaning_of p) (has set) t cex (Stops (Failed t.spot)) →
         IsReplay p bs set t.implementation m q cex.globals.items cex.frame.items front ending →
         (said_by ending ≡ Stops BadChoice) ⊎ (said_by ending ≡ Stops (Failed t.spot)) }
+{}
+
+/// An operation for which a place has no clauses lies on a way to the place: from the entry along some edges of the implementation's
+/// passive blocks comes a command with a relation in whose linear forms it leaves 128 bits, and this command or one behind it is the
+/// place's check.
+pub fn operations_of_forms_lie_on_ways()
+    ensures { (p : Prog) (t : Place) (o : OutOfRange) (h : HasOutside p t o) →
+        LiesOnWay (sorts_in p t.implementation h.implementation h.procedure) (passives_in p t.implementation h.implementation h.procedure) t.spot o }
 {}
 
 /// Right verdicts on a typed program over truth values and whole numbers are sound: what a report tells of them is true, whatever words it
