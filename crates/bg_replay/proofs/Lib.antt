@@ -12,3 +12,4 @@ pub mod Typed
 pub mod Tracks
 pub mod Replays
 pub mod More
+pub mod First

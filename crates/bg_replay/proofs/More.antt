@@ -1,9 +1,9 @@
 -- A run over scalars that doesn't lack a choice is the same with more choices behind.
 use Rattle.std.proofs.Common.{◌≡◌, ℕ, zero, suc, ◌⊎◌, inl, inr, Bool, true, false, if◌then◌else◌, List, [], ◌∷◌, ◌++◌, length, drop, Option, Some, None, slice_get, refl, sym, ap, ◌∙◌, subst}
-use Rattle.bg_ast.specs.Syntax.{Var, Global, Local, Exs, Guard, Star, Test}
+use Rattle.bg_ast.specs.Syntax.{Var, Global, Local, Star, Test}
 use Rattle.bg_fits.specs.Holdings.{holdings_of}
 use Rattle.bg_fits.specs.declared.types.Holding.{Holding}
-use Rattle.bg_sense.specs.Flow.{Answer, Ended, BadChoice}
+use Rattle.bg_sense.specs.Flow.{BadChoice}
 use Rattle.bg_calls.specs.Core.{Demand, Saying, Cmd, Check, Suppose, Forget, Put, Perform, Finish}
 use Rattle.bg_flow.specs.Blocks.{Exit, Leap, Either, Block}
 use Rattle.bg_scalar.specs.Lists.{Listed, Are, Leave, NoScalars, worths}
@@ -17,8 +17,8 @@ use Rattle.bg_scalar.specs.declared.scalar.Worth.TheVariants as w
 use Rattle.bg_replay.specs.Holds.{holds, holds_scalars, hold_scalars, held_at}
 use Rattle.bg_replay.specs.Moments.{Moment, Around, Out, Goes, Over, Outside, Unknown, and_so, seen_at}
 use Rattle.bg_replay.specs.Said.{Said, Fine, Stops, Leaves, Unsaid, on_said, checks, supposes}
-use Rattle.bg_replay.specs.Acts.{taken, behind_one, moved, choose_by, choose_for, put, put_each, forgotten, assigned, cons_o, chosen, skipped, given_back, called_with, called, acts}
-use Rattle.bg_replay.specs.Ways.{Way, On, Off, Beyond, Nowhere, branched, go_to, branch_to, test_to, decided, leaves, acts_each, enters, ran, runs}
+use Rattle.bg_replay.specs.Acts.{taken, behind_one, choose_by, put, put_each, forgotten, assigned, cons_o, chosen, skipped, given_back, called_with, acts}
+use Rattle.bg_replay.specs.Ways.{Way, On, Off, Beyond, Nowhere, branched, go_to, branch_to, test_to, leaves, acts_each, enters, ran, runs}
 
 module _ (extra : List Choice) where
   -- the same moment with these choices behind those that are left

@@ -4,6 +4,7 @@ pub mod Views
 pub mod Said
 pub mod Acts
 pub mod Ways
+pub mod Operations
 pub mod Kept
 pub mod Endings
 pub mod Over

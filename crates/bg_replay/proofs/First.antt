@@ -1,0 +1,388 @@
+-- Where a run over scalars meets an operation that leaves the range, it is the first that does.
+use Rattle.std.proofs.Common.{◌≡◌, ℕ, zero, suc, ℤ, Bool, true, false, List, [], ◌∷◌, ◌++◌, Option, Some, None, refl, sym, ap, ◌∙◌, subst, append_assoc}
+use Rattle.std.specs.Prelude.{if◌then◌else◌, slice_get, ◌+ℤ◌, ◌-ℤ◌, ◌*ℤ◌, neg_ℤ, pos, Ok, Err}
+use Rattle.bg_base.specs.Exact.{fits, exactly}
+use Rattle.bg_base.specs.declared.exact.Op as exact
+use Rattle.bg_base.specs.declared.exact.Op.TheVariants as arith
+use Rattle.bg_base.specs.declared.exact.OutOfRange.{OutOfRange}
+use Rattle.bg_ast.specs.Values.{Val, number_of, truth_of}
+use Rattle.bg_ast.specs.Syntax as s
+use Rattle.bg_ast.specs.Syntax.{Var, Ex, Exs, NoMore, More, Guard, Star, Test}
+use Rattle.bg_fits.specs.Holdings.{holdings_of}
+use Rattle.bg_sense.specs.Eval.{Scope, ev}
+use Rattle.bg_sense.specs.Flow.{Answer, Blocked, Failed}
+use Rattle.bg_sense.specs.Clauses.{is_kept}
+use Rattle.bg_calls.specs.Core.{Demand, Saying, Plan, Cmd, Check, Suppose, Forget, Put, Perform, Finish}
+use Rattle.bg_flow.specs.Blocks.{Exit, Leap, Either, Block}
+use Rattle.bg_scalar.specs.Worths.{Seen, and_then, exact, takes, on_truths, on_numbers, operate, joined, not_on, minus_on, known, at_entry, worth}
+use Rattle.bg_scalar.specs.Lists as lists
+use Rattle.bg_scalar.specs.Lists.{Listed, Are, Leave, NoScalars, worths}
+use Rattle.bg_scalar.specs.Values.{val_of, scope_in}
+use Rattle.bg_scalar.specs.declared.scalar.Scalar.{Scalar}
+use Rattle.bg_scalar.specs.declared.scalar.Scalar.TheVariants.{Truth, Number}
+use Rattle.bg_scalar.specs.declared.scalar.Worth.{Worth}
+use Rattle.bg_scalar.specs.declared.scalar.Worth.TheVariants as w
+use Rattle.bg_scalar.proofs.Agreeing.{worth_is}
+use Rattle.bg_replay.specs.Holds.{holds_scalars, hold_scalars, held_at}
+use Rattle.bg_replay.specs.Moments.{Moment, Around, Out, Goes, Over, Outside, Unknown, and_so, seen_at}
+use Rattle.bg_replay.specs.Said.{Said, Fine, Stops, Leaves, Unsaid, then_said, on_said, or_stops, checks, supposes}
+use Rattle.bg_replay.specs.Acts.{taken, moved, choose_by, put, put_each, forgotten, assigned, chosen, skipped, given_back, called_with, acts}
+use Rattle.bg_replay.specs.Ways.{Way, On, Off, Beyond, Nowhere, branched, go_to, branch_to, test_to, leaves, acts_each, enters, ran, runs}
+use Rattle.bg_replay.specs.Operations.{Operation, result, first_outside, operation, operations, operations_of, of_checks, of_supposes, behind, behind_way, of_results, of_call, of_act, of_acts, of_exit, of_run}
+
+-- ---- lists of operations
+
+none_then : (xs ys : List Operation) → first_outside xs ≡ None → first_outside (xs ++ ys) ≡ first_outside ys
+none_then [] ys h = refl
+none_then (o ∷ xs) ys h = by (fits (result o.op o.a o.b)) refl (none_then xs ys)
+  where
+    by : (b : Bool) → fits (result o.op o.a o.b) ≡ b → (first_outside xs ≡ None → first_outside (xs ++ ys) ≡ first_outside ys) → first_outside (o ∷ (xs ++ ys)) ≡ first_outside ys
+    by true e more = rw e (more (rw e at h))
+    by false e more = absurd (let bad = rw e at h in let worse : ⊥ = cc in worse)
+
+some_then : (xs ys : List Operation) (x : Operation) → first_outside xs ≡ Some x → first_outside (xs ++ ys) ≡ Some x
+some_then [] ys x h = absurd (let bad : ⊥ = cc in bad)
+some_then (o ∷ xs) ys x h = by (fits (result o.op o.a o.b)) refl (some_then xs ys x)
+  where
+    by : (b : Bool) → fits (result o.op o.a o.b) ≡ b → (first_outside xs ≡ Some x → first_outside (xs ++ ys) ≡ Some x) → first_outside (o ∷ (xs ++ ys)) ≡ Some x
+    by true e more = rw e (more (rw e at h))
+    by false e more = rw e (rw e at h)
+
+-- ---- expressions
+
+-- all operations are within the range, or this is the first that leaves it
+abbrev Worthy : Worth → List Operation → Type 0
+Worthy (w.Is x) os = first_outside os ≡ None
+Worthy (w.Leaves o) os = first_outside os ≡ Some o
+Worthy w.NoScalar os = Unit {0}
+
+-- one operation more
+last_one : (op : exact.Op) (a b z : ℤ) (xs : List Operation) → result op a b ≡ z → first_outside xs ≡ None → Worthy (exact (exactly op a b z)) (xs ++ (record { op = op; a = a; b = b } ∷ []))
+last_one op a b z xs r h = by (fits z) refl
+  where
+    by : (f : Bool) → fits z ≡ f → Worthy (exact (if f then Ok z else Err (record { op = op; a = a; b = b }))) (xs ++ (record { op = op; a = a; b = b } ∷ []))
+    by true e =
+        none_then xs (record { op = op; a = a; b = b } ∷ []) h ∙ (let k : fits (result op a b) ≡ true = ap fits r ∙ e in rw k refl)
+    by false e =
+        none_then xs (record { op = op; a = a; b = b } ∷ []) h ∙ (let k : fits (result op a b) ≡ false = ap fits r ∙ e in rw k refl)
+
+no_more : (xs : List Operation) → first_outside xs ≡ None → first_outside (xs ++ []) ≡ None
+no_more xs h = none_then xs [] h
+
+truths_fine : (o : s.Op) (a b : Bool) (x y : ℤ) (xs : List Operation) → first_outside xs ≡ None → Worthy (on_truths o a b) (xs ++ operation o x y)
+truths_fine s.And a b x y xs h = no_more xs h
+truths_fine s.Or a b x y xs h = no_more xs h
+truths_fine s.Implies a b x y xs h = no_more xs h
+truths_fine s.Iff a b x y xs h = no_more xs h
+truths_fine s.Equal a b x y xs h = no_more xs h
+truths_fine s.Unequal a b x y xs h = no_more xs h
+truths_fine s.Less a b x y xs h = tt
+truths_fine s.AtMost a b x y xs h = tt
+truths_fine s.Greater a b x y xs h = tt
+truths_fine s.AtLeast a b x y xs h = tt
+truths_fine s.Plus a b x y xs h = tt
+truths_fine s.Minus a b x y xs h = tt
+truths_fine s.Times a b x y xs h = tt
+
+numbers_fine : (o : s.Op) (x y : ℤ) (xs : List Operation) → first_outside xs ≡ None → Worthy (on_numbers o x y) (xs ++ operation o x y)
+numbers_fine s.And x y xs h = tt
+numbers_fine s.Or x y xs h = tt
+numbers_fine s.Implies x y xs h = tt
+numbers_fine s.Iff x y xs h = tt
+numbers_fine s.Equal x y xs h = no_more xs h
+numbers_fine s.Unequal x y xs h = no_more xs h
+numbers_fine s.Less x y xs h = no_more xs h
+numbers_fine s.AtMost x y xs h = no_more xs h
+numbers_fine s.Greater x y xs h = no_more xs h
+numbers_fine s.AtLeast x y xs h = no_more xs h
+numbers_fine s.Plus x y xs h = last_one arith.Plus x y (x +ℤ y) xs refl h
+numbers_fine s.Minus x y xs h = last_one arith.Minus x y (x -ℤ y) xs refl h
+numbers_fine s.Times x y xs h = last_one arith.Times x y (x *ℤ y) xs refl h
+
+operates : (o : s.Op) (x y : Scalar) (xs : List Operation) → first_outside xs ≡ None → Worthy (operate o x y) (xs ++ operation o (number_of (val_of x)) (number_of (val_of y)))
+operates o (Truth a) (Truth b) xs h = truths_fine o a b _ _ xs h
+operates o (Truth a) (Number y) xs h = tt
+operates o (Number x) (Truth b) xs h = tt
+operates o (Number x) (Number y) xs h = numbers_fine o x y xs h
+
+module _ (fs : ℕ → List Val → Val) (cs : List Val) where
+  abbrev sees : Seen → Scope
+  sees = scope_in fs cs
+
+  value : (e : Ex) (c : Seen) (x : Scalar) → worth e c ≡ w.Is x → ev e (sees c) ≡ val_of x
+  value = worth_is fs cs
+
+  module _ (o : s.Op) (a b : Ex) (c : Seen) where
+    abbrev A : List Operation
+    A = operations a (sees c)
+
+    abbrev B : List Operation
+    B = operations b (sees c)
+
+    abbrev last : List Operation
+    last = operation o (number_of (ev a (sees c))) (number_of (ev b (sees c)))
+
+    both : (x y : Scalar) → worth a c ≡ w.Is x → worth b c ≡ w.Is y → first_outside A ≡ None → first_outside B ≡ None → Worthy (operate o x y) (A ++ (B ++ last))
+    both x y ea eb f g =
+        subst (λ z. Worthy (operate o x y) (A ++ (B ++ operation o (number_of z) (number_of (ev b (sees c)))))) (sym (value a c x ea))
+        (subst (λ z. Worthy (operate o x y) (A ++ (B ++ operation o (number_of (val_of x)) (number_of z)))) (sym (value b c y eb))
+        (subst (Worthy (operate o x y)) (append_assoc A B (operation o (number_of (val_of x)) (number_of (val_of y)))) (operates o x y (A ++ B) (none_then A B f ∙ g))))
+
+    taken_by : (t : Bool) (x : Scalar) (wb : Worth) → worth a c ≡ w.Is x → worth b c ≡ wb → first_outside A ≡ None → Worthy wb B → Worthy (if t then and_then wb (operate o x) else w.NoScalar) (A ++ (B ++ last))
+    taken_by false x wb ea eb f g = tt
+    taken_by true x (w.Is y) ea eb f g = both x y ea eb f g
+    taken_by true x (w.Leaves z) ea eb f g = none_then A (B ++ last) f ∙ some_then B last z g
+    taken_by true x w.NoScalar ea eb f g = tt
+
+    joins_by : (wa wb : Worth) → worth a c ≡ wa → worth b c ≡ wb → Worthy wa A → Worthy wb B → Worthy (joined o wa wb) (A ++ (B ++ last))
+    joins_by (w.Is x) wb ea eb f g = taken_by (takes o x) x wb ea eb f g
+    joins_by (w.Leaves z) wb ea eb f g = some_then A (B ++ last) z f
+    joins_by w.NoScalar wb ea eb f g = tt
+
+  denies : (x : Worth) (os : List Operation) → Worthy x os → Worthy (and_then x not_on) os
+  denies (w.Is (Truth b)) os h = h
+  denies (w.Is (Number z)) os h = tt
+  denies (w.Leaves o) os h = h
+  denies w.NoScalar os h = tt
+
+  negates : (e : Ex) (c : Seen) (x : Worth) → worth e c ≡ x → Worthy x (operations e (sees c)) → Worthy (and_then x minus_on) (operations (s.Negative e) (sees c))
+  negates e c (w.Is (Truth b)) k h = tt
+  negates e c (w.Is (Number z)) k h =
+      subst (λ y. Worthy (minus_on (Number z)) (operations e (sees c) ++ (record { op = arith.Negate; a = number_of y; b = pos 0 } ∷ []))) (sym (value e c (Number z) k))
+      (last_one arith.Negate z (pos 0) (neg_ℤ z) (operations e (sees c)) refl h)
+  negates e c (w.Leaves o) k h =
+      some_then (operations e (sees c)) (record { op = arith.Negate; a = number_of (ev e (sees c)); b = pos 0 } ∷ []) o h
+  negates e c w.NoScalar k h = tt
+
+  reads : (x : Option Scalar) → Worthy (known x) []
+  reads None = tt
+  reads (Some x) = refl
+
+  first_of_ex : (e : Ex) (c : Seen) → Worthy (worth e c) (operations e (sees c))
+  first_of_ex (s.Number z) c = refl
+  first_of_ex (s.Fact b) c = refl
+  first_of_ex (s.Read (s.Global x)) c = reads (slice_get c.globals x)
+  first_of_ex (s.Read (s.Local x)) c = reads (slice_get c.frame x)
+  first_of_ex (s.Not e) c = denies (worth e c) (operations e (sees c)) (first_of_ex e c)
+  first_of_ex (s.Negative e) c = negates e c (worth e c) refl (first_of_ex e c)
+  first_of_ex (s.Binary o a b) c =
+      joins_by o a b c (worth a c) (worth b c) refl refl (first_of_ex a c) (first_of_ex b c)
+  first_of_ex (s.Old e) c = first_of_ex e (at_entry c)
+  first_of_ex (s.Constant k) c = tt
+  first_of_ex (s.Apply f es) c = tt
+  first_of_ex (s.Select m es) c = tt
+  first_of_ex (s.Update m es e) c = tt
+
+  -- ---- lists of expressions
+
+  abbrev Listing : Listed → List Operation → Type 0
+  Listing (Are xs) os = first_outside os ≡ None
+  Listing (Leave o) os = first_outside os ≡ Some o
+  Listing NoScalars os = Unit {0}
+
+  one_more : (x : Worth) (l : Listed) (xs ys : List Operation) → Worthy x xs → Listing l ys → Listing (lists.cons x l) (xs ++ ys)
+  one_more (w.Is x) (Are zs) xs ys h k = none_then xs ys h ∙ k
+  one_more (w.Is x) (Leave o) xs ys h k = none_then xs ys h ∙ k
+  one_more (w.Is x) NoScalars xs ys h k = tt
+  one_more (w.Leaves o) l xs ys h k = some_then xs ys o h
+  one_more w.NoScalar l xs ys h k = tt
+
+  first_of_exs : (es : Exs) (c : Seen) → Listing (worths es c) (operations_of es (sees c))
+  first_of_exs NoMore c = refl
+  first_of_exs (More e es) c =
+      one_more (worth e c) (worths es c) (operations e (sees c)) (operations_of es (sees c)) (first_of_ex e c) (first_of_exs es c)
+
+  -- ---- clauses
+
+  abbrev Saying_so : Said → List Operation → Type 0
+  Saying_so Fine os = first_outside os ≡ None
+  Saying_so (Stops a) os = first_outside os ≡ None
+  Saying_so (Leaves o) os = first_outside os ≡ Some o
+  Saying_so Unsaid os = Unit {0}
+
+  behind_it : (y : Said) (xs os : List Operation) → Saying_so y os → first_outside xs ≡ None → Saying_so y (xs ++ os)
+  behind_it Fine xs os k f = none_then xs os f ∙ k
+  behind_it (Stops b) xs os k f = none_then xs os f ∙ k
+  behind_it (Leaves o) xs os k f = none_then xs os f ∙ k
+  behind_it Unsaid xs os k f = tt
+
+  -- a clause, and those behind it where it is true
+  one_clause : (a : Answer) (e : Ex) (c : Seen) (x : Said) (os : List Operation) → Saying_so x os → Saying_so (then_said (or_stops a (worth e c)) x) (operations e (sees c) ++ (if truth_of (ev e (sees c)) then os else []))
+  one_clause a e c x os h = by (worth e c) refl (first_of_ex e c)
+    where
+      by : (y : Worth) → worth e c ≡ y → Worthy y (operations e (sees c)) → Saying_so (then_said (or_stops a y) x) (operations e (sees c) ++ (if truth_of (ev e (sees c)) then os else []))
+      by (w.Is (Truth true)) k f =
+          subst (λ z. Saying_so x (operations e (sees c) ++ (if truth_of z then os else []))) (sym (value e c (Truth true) k)) (behind_it x (operations e (sees c)) os h f)
+      by (w.Is (Truth false)) k f =
+          subst (λ z. first_outside (operations e (sees c) ++ (if truth_of z then os else [])) ≡ None) (sym (value e c (Truth false) k)) (no_more (operations e (sees c)) f)
+      by (w.Is (Number z)) k f = tt
+      by (w.Leaves o) k f = some_then (operations e (sees c)) (if truth_of (ev e (sees c)) then os else []) o f
+      by w.NoScalar k f = tt
+
+  first_of_checks : (set : ℕ → Bool) (c : Seen) (ds : List Demand) → Saying_so (checks set c ds) (of_checks set (sees c) ds)
+  first_of_checks set c [] = refl
+  first_of_checks set c (d ∷ ds) = by (is_kept set d.candidate) (first_of_checks set c ds)
+    where
+      by : (b : Bool) → Saying_so (checks set c ds) (of_checks set (sees c) ds) → Saying_so (then_said (if b then or_stops (Failed d.spot) (worth d.says c) else Fine) (checks set c ds)) (if b then operations d.says (sees c) ++ (if truth_of (ev d.says (sees c)) then of_checks set (sees c) ds else []) else of_checks set (sees c) ds)
+      by true h = one_clause (Failed d.spot) d.says c (checks set c ds) (of_checks set (sees c) ds) h
+      by false h = h
+
+  first_of_supposes : (set : ℕ → Bool) (c : Seen) (ds : List Saying) → Saying_so (supposes set c ds) (of_supposes set (sees c) ds)
+  first_of_supposes set c [] = refl
+  first_of_supposes set c (d ∷ ds) = by (is_kept set d.candidate) (first_of_supposes set c ds)
+    where
+      by : (b : Bool) → Saying_so (supposes set c ds) (of_supposes set (sees c) ds) → Saying_so (then_said (if b then or_stops Blocked (worth d.says c) else Fine) (supposes set c ds)) (if b then operations d.says (sees c) ++ (if truth_of (ev d.says (sees c)) then of_supposes set (sees c) ds else []) else of_supposes set (sees c) ds)
+      by true h = one_clause Blocked d.says c (supposes set c ds) (of_supposes set (sees c) ds) h
+      by false h = h
+
+  -- ---- commands
+
+  abbrev Leaving : Out → List Operation → Type 0
+  Leaving (Goes m) os = first_outside os ≡ None
+  Leaving (Over a) os = first_outside os ≡ None
+  Leaving (Outside o) os = first_outside os ≡ Some o
+  Leaving Unknown os = Unit {0}
+
+  on_leaving : (x : Said) (m : Moment) (os : List Operation) → Saying_so x os → Leaving (on_said x m) os
+  on_leaving Fine m os h = h
+  on_leaving (Stops a) m os h = h
+  on_leaving (Leaves o) m os h = h
+  on_leaving Unsaid m os h = tt
+
+  behind_none : (x : Out) (xs ys : List Operation) → first_outside xs ≡ None → Leaving x ys → Leaving x (xs ++ ys)
+  behind_none (Goes m) xs ys f h = none_then xs ys f ∙ h
+  behind_none (Over a) xs ys f h = none_then xs ys f ∙ h
+  behind_none (Outside o) xs ys f h = none_then xs ys f ∙ h
+  behind_none Unknown xs ys f h = tt
+
+  so_leaving : (x : Out) (xs : List Operation) (k : Moment → Out) (f : Moment → List Operation) → Leaving x xs → ((m : Moment) → Leaving (k m) (f m)) → Leaving (and_so x k) (xs ++ behind x f)
+  so_leaving (Goes m) xs k f h g = behind_none (k m) xs (f m) h (g m)
+  so_leaving (Over a) xs k f h g = no_more xs h
+  so_leaving (Outside o) xs k f h g = some_then xs [] o h
+  so_leaving Unknown xs k f h g = tt
+
+  chooses : (o : Option Scalar) (m : Moment) (k : Scalar → Moment → Out) → ((x : Scalar) (n : Moment) → Leaving (k x n) []) → Leaving (choose_by o m k) []
+  chooses None m k h = refl
+  chooses (Some x) m k h = h x m
+
+  choosing : (z : Bool) (o : Option Scalar) (m : Moment) (k : Scalar → Moment → Out) → ((x : Scalar) (n : Moment) → Leaving (k x n) []) → Leaving (if z then choose_by o m k else Unknown) []
+  choosing true o m k h = chooses o m k h
+  choosing false o m k h = tt
+
+  forgets : (a : Around) (xs : List Var) (m : Moment) → Leaving (forgotten a xs m) []
+  forgets a [] m = refl
+  forgets a (x ∷ xs) m =
+      choosing (holds_scalars (held_at a x)) (taken (held_at a x) m.choices) (moved m) (λ y n. forgotten a xs (put x y n)) (λ y n. forgets a xs (put x y n))
+
+  assigns : (l : Listed) (xs : List Var) (m : Moment) (os : List Operation) → Listing l os → Leaving (assigned l xs m) os
+  assigns (Are ys) xs m os h = h
+  assigns (Leave o) xs m os h = h
+  assigns NoScalars xs m os h = tt
+
+  -- what goes on without an operation
+  so_plain : (x : Out) (os : List Operation) (k : Moment → Out) → Leaving x os → ((m : Moment) → Leaving (k m) []) → Leaving (and_so x k) os
+  so_plain (Goes m) os k h g = by (k m) (g m)
+    where
+      by : (y : Out) → Leaving y [] → Leaving y os
+      by (Goes n) e = h
+      by (Over a) e = h
+      by (Outside o) e = absurd (let bad : ⊥ = cc in bad)
+      by Unknown e = tt
+  so_plain (Over a) os k h g = h
+  so_plain (Outside o) os k h g = h
+  so_plain Unknown os k h g = tt
+
+  gives : (a : Around) (k : Plan) (was args : List Scalar) (o : Option (List Scalar)) (m : Moment) → Leaving (given_back o a was args k.gives k.takes m) (of_results sees a k was args o m)
+  gives a k was args None m = refl
+  gives a k was args (Some xs) m =
+      let inside : Seen = record { globals = (skipped xs m).globals; before = was; frame = args ++ xs } in
+      so_plain (on_said (supposes a.set inside k.gives) (skipped xs m)) (of_supposes a.set (sees inside) k.gives) (λ n. Goes (put_each k.takes xs n)) (on_leaving (supposes a.set inside k.gives) (skipped xs m) (of_supposes a.set (sees inside) k.gives) (first_of_supposes a.set inside k.gives)) (λ n. refl)
+
+  calls : (a : Around) (k : Plan) (l : Listed) (m : Moment) (os : List Operation) → Listing l os → Leaving (called_with l a k.needs k.modifies (holdings_of k.results) k.gives k.takes m) (os ++ of_call sees a k l m)
+  calls a k (Are args) m os h =
+      let inside : Seen = record { globals = m.globals; before = m.globals; frame = args } in
+      let rest : Moment → Out = λ n. and_so (forgotten a k.modifies n) (λ u. given_back (chosen (holdings_of k.results) u.choices) a n.globals args k.gives k.takes u) in
+      let more : Moment → List Operation = λ n. behind (forgotten a k.modifies n) (λ u. of_results sees a k n.globals args (chosen (holdings_of k.results) u.choices) u) in
+      behind_none (and_so (on_said (checks a.set inside k.needs) m) rest) os (of_checks a.set (sees inside) k.needs ++ behind (on_said (checks a.set inside k.needs) m) more) h
+      (so_leaving (on_said (checks a.set inside k.needs) m) (of_checks a.set (sees inside) k.needs) rest more (on_leaving (checks a.set inside k.needs) m (of_checks a.set (sees inside) k.needs) (first_of_checks a.set inside k.needs)) (λ n. so_leaving (forgotten a k.modifies n) [] (λ u. given_back (chosen (holdings_of k.results) u.choices) a n.globals args k.gives k.takes u) (λ u. of_results sees a k n.globals args (chosen (holdings_of k.results) u.choices) u) (forgets a k.modifies n) (λ u. gives a k n.globals args (chosen (holdings_of k.results) u.choices) u)))
+  calls a k (Leave o) m os h = some_then os [] o h
+  calls a k NoScalars m os h = tt
+
+  performs : (z : Bool) (x : Out) (os : List Operation) → Leaving x os → Leaving (if z then x else Unknown) os
+  performs true x os h = h
+  performs false x os h = tt
+
+  first_of_act : (a : Around) (k : Cmd) (m : Moment) → Leaving (acts a k m) (of_act sees a k m)
+  first_of_act a (Check ds) m =
+      on_leaving (checks a.set (seen_at a m) ds) m (of_checks a.set (sees (seen_at a m)) ds) (first_of_checks a.set (seen_at a m) ds)
+  first_of_act a (Suppose ds) m =
+      on_leaving (supposes a.set (seen_at a m) ds) m (of_supposes a.set (sees (seen_at a m)) ds) (first_of_supposes a.set (seen_at a m) ds)
+  first_of_act a (Forget xs) m = forgets a xs m
+  first_of_act a (Put xs es) m =
+      assigns (worths es (seen_at a m)) xs m (operations_of es (sees (seen_at a m))) (first_of_exs es (seen_at a m))
+  first_of_act a (Perform k) m =
+      performs (hold_scalars (holdings_of k.results)) _ _ (calls a k (worths k.args (seen_at a m)) m (operations_of k.args (sees (seen_at a m))) (first_of_exs k.args (seen_at a m)))
+  first_of_act a Finish m = refl
+
+  first_of_acts : (a : Around) (ks : List Cmd) (m : Moment) → Leaving (acts_each a ks m) (of_acts sees a ks m)
+  first_of_acts a [] m = refl
+  first_of_acts a (k ∷ ks) m =
+      so_leaving (acts a k m) (of_act sees a k m) (acts_each a ks) (of_acts sees a ks) (first_of_act a k m) (first_of_acts a ks)
+
+  -- ---- blocks
+
+  abbrev Leading : Way → List Operation → Type 0
+  Leading (On k m) os = first_outside os ≡ None
+  Leading (Off x) os = first_outside os ≡ None
+  Leading (Beyond o) os = first_outside os ≡ Some o
+  Leading Nowhere os = Unit {0}
+
+  goes : (o : Option ℕ) (m : Moment) → Leading (go_to o m) []
+  goes None m = refl
+  goes (Some k) m = refl
+
+  branches : (o : Option ℕ) (ks : List ℕ) (m : Moment) → Leading (branch_to o ks m) []
+  branches None ks m = refl
+  branches (Some j) ks m = goes (slice_get ks j) m
+
+  tests : (x : Worth) (on off : ℕ) (m : Moment) (os : List Operation) → Worthy x os → Leading (test_to x on off m) os
+  tests (w.Is (Truth true)) on off m os h = h
+  tests (w.Is (Truth false)) on off m os h = h
+  tests (w.Is (Number z)) on off m os h = tt
+  tests (w.Leaves o) on off m os h = h
+  tests w.NoScalar on off m os h = tt
+
+  first_of_exit : (a : Around) (x : Exit) (m : Moment) → Leading (leaves a x m) (of_exit sees a x m)
+  first_of_exit a (Leap []) m = refl
+  first_of_exit a (Leap (k ∷ [])) m = refl
+  first_of_exit a (Leap (k ∷ l ∷ ks)) m = branches (branched m.choices) (k ∷ l ∷ ks) (moved m)
+  first_of_exit a (Either Star on off) m = branches (branched m.choices) (on ∷ off ∷ []) (moved m)
+  first_of_exit a (Either (Test e) on off) m =
+      tests (worth e (seen_at a m)) on off m (operations e (sees (seen_at a m))) (first_of_ex e (seen_at a m))
+
+  so_ran : (x : Out) (xs : List Operation) (k : Moment → Said) (f : Moment → List Operation) → Leaving x xs → ((m : Moment) → Saying_so (k m) (f m)) → Saying_so (ran x k) (xs ++ behind x f)
+  so_ran (Goes m) xs k f h g = behind_it (k m) xs (f m) (g m) h
+  so_ran (Over a) xs k f h g = no_more xs h
+  so_ran (Outside o) xs k f h g = some_then xs [] o h
+  so_ran Unknown xs k f h g = tt
+
+  so_enters : (x : Way) (xs : List Operation) (k : ℕ → Moment → Said) (f : ℕ → Moment → List Operation) → Leading x xs → ((j : ℕ) (m : Moment) → Saying_so (k j m) (f j m)) → Saying_so (enters x k) (xs ++ behind_way x f)
+  so_enters (On j m) xs k f h g = behind_it (k j m) xs (f j m) (g j m) h
+  so_enters (Off a) xs k f h g = no_more xs h
+  so_enters (Beyond o) xs k f h g = some_then xs [] o h
+  so_enters Nowhere xs k f h g = tt
+
+  first_of_run : (a : Around) (k : ℕ) (bs : List Block) (m : Moment) → Saying_so (runs a k bs m) (of_run sees a k bs m)
+  first_of_run a zero [] m = refl
+  first_of_run a (suc k) [] m = refl
+  first_of_run a (suc k) (b ∷ bs) m = first_of_run a k bs m
+  first_of_run a zero (b ∷ bs) m =
+      so_ran (acts_each a b.cmds m) (of_acts sees a b.cmds m) (λ n. enters (leaves a b.exit n) (λ k u. runs a k bs u)) (λ n. of_exit sees a b.exit n ++ behind_way (leaves a b.exit n) (λ k u. of_run sees a k bs u)) (first_of_acts a b.cmds m)
+      (λ n. so_enters (leaves a b.exit n) (of_exit sees a b.exit n) (λ k u. runs a k bs u) (λ k u. of_run sees a k bs u) (first_of_exit a b.exit n) (λ k u. first_of_run a k bs u))
+
+  -- what ends at an operation ends at the first that leaves the range; what ends with an answer has none
+  pub leaves_first : (a : Around) (k : ℕ) (bs : List Block) (m : Moment) (o : OutOfRange) → runs a k bs m ≡ Leaves o → first_outside (of_run sees a k bs m) ≡ Some o
+  leaves_first a k bs m o e = subst (λ x. Saying_so x (of_run sees a k bs m)) e (first_of_run a k bs m)
+
+  pub stops_within : (a : Around) (k : ℕ) (bs : List Block) (m : Moment) (x : Answer) → runs a k bs m ≡ Stops x → first_outside (of_run sees a k bs m) ≡ None
+  stops_within a k bs m x e = subst (λ y. Saying_so y (of_run sees a k bs m)) e (first_of_run a k bs m)
