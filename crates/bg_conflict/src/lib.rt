@@ -8,8 +8,6 @@ mod near;
 mod note;
 mod picked;
 mod renumber;
-#[cfg(test)]
-mod tests;
 
 pub use find::conflict;
 pub use ledger::{Ledger, new_ledger};

@@ -14,8 +14,6 @@ mod round;
 mod stand;
 mod start;
 mod take;
-#[cfg(test)]
-mod tests;
 mod variables;
 mod work;
 

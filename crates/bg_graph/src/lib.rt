@@ -10,6 +10,3 @@ mod visit;
 
 pub use graph::is_graph;
 pub use order::{Order, order_of};
-
-#[cfg(test)]
-mod tests;

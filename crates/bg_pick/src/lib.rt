@@ -11,8 +11,6 @@ mod mark;
 mod pick;
 mod probe;
 mod rows;
-#[cfg(test)]
-mod tests;
 
 pub use guide::{Guide, first_guide, go_on, split};
 pub use hint::Hint;

@@ -8,8 +8,6 @@ pub mod laws;
 mod limit;
 mod span;
 mod spot;
-#[cfg(test)]
-mod tests;
 
 pub use find::point;
 pub use spot::{Far, Gap, Placed, Spot};

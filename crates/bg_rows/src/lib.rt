@@ -9,8 +9,6 @@ mod refused;
 mod row;
 mod step;
 mod sums;
-#[cfg(test)]
-mod tests;
 mod tight;
 
 pub use derive::derives;

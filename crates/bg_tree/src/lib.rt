@@ -10,8 +10,6 @@ mod outcome;
 mod part;
 mod settle;
 mod step;
-#[cfg(test)]
-mod tests;
 mod whole;
 
 pub use book::{Book, Head};
