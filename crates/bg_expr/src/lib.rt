@@ -9,8 +9,6 @@ mod laws;
 mod parse;
 mod public;
 mod sign;
-#[cfg(test)]
-mod tests;
 
 pub use laws::{
     answers_exclude_one_another, expressions_are_read_exactly, nodes_are_few,

@@ -16,8 +16,3 @@ pub use limits::{MOST_BYTES, MOST_IMPLEMENTATIONS};
 pub use refusal::{ReadError, Refusal};
 pub use text::read_program;
 pub use tree::{Read, tree_of};
-
-#[cfg(test)]
-mod names_tests;
-#[cfg(test)]
-mod tests;

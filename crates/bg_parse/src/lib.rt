@@ -7,8 +7,6 @@ mod functions;
 mod laws;
 mod procedures;
 mod program;
-#[cfg(test)]
-mod tests;
 mod tree;
 
 pub use laws::{

@@ -13,6 +13,3 @@ mod types;
 
 pub use laws::printed_is_read;
 pub use program::print;
-
-#[cfg(test)]
-mod tests;

@@ -11,6 +11,3 @@ mod stmts;
 pub use crowded::first_crowded;
 pub use expanded::is_any_too_large;
 pub use limits::{MOST_EXPANDED, MOST_PLACES};
-
-#[cfg(test)]
-mod tests;

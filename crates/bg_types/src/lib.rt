@@ -11,6 +11,3 @@ mod tables;
 mod verdict;
 
 pub use verdict::{Refusal, TypeFault, Typed, check_types};
-
-#[cfg(test)]
-mod tests;

@@ -1,0 +1,189 @@
+//! What is judged and what isn't yet, and how large a text may be.
+use crate::line::say;
+use std::test::Fail;
+
+/// Texts of which no verdicts are given yet, and the lines that refuse them.
+const LATER: [(&[u8], &[u8]); 8] = [
+    (
+        b"procedure {:n 1} P(x: [int]int) { }",
+        b"error: 1:23 unsupported [\n",
+    ),
+    (
+        b"procedure P() { assert 12 == 13; } const c: int;",
+        b"error: 1:36 unsupported const\n",
+    ),
+    (
+        b"procedure P() { } const c: bool;",
+        b"error: 1:19 unsupported const\n",
+    ),
+    (
+        b"var g: bool; function f(x: bool): bool;",
+        b"error: 1:14 unsupported function\n",
+    ),
+    (b"type T;", b"error: 1:1 unsupported type\n"),
+    (
+        b"procedure P(m: [int]bool);",
+        b"error: 1:16 unsupported [\n",
+    ),
+    (
+        b"procedure P() { } procedure Q(); requires true; axiom true;",
+        b"error: 1:49 unsupported axiom\n",
+    ),
+    (b"axiom true;", b"error: 1:1 unsupported axiom\n"),
+];
+
+/// Texts of which verdicts are given.
+const JUDGED: [&[u8]; 8] = [
+    b"procedure {:n 1} P(x: int) { }",
+    b"procedure P() { assert 12 == 13; }",
+    b"procedure P() { while (true) invariant false; { break; } }",
+    b"procedure P() { if (*) { goto A; } else { return; } A: }",
+    b"procedure P() { } var g: bool;",
+    b"procedure P(a: bool) returns (b: bool); requires a; free ensures b == old(a);",
+    b"var g: bool; procedure P(); modifies g; procedure Q() modifies g; { call P(); }",
+    b"procedure P(); implementation P() { } implementation P() { assert true; }",
+];
+
+#[test]
+fn what_is_not_judged_yet_has_its_line(rt: HostRuntime) -> Result<(), Fail> {
+    for (text, line) in &LATER {
+        assert!(rt; say(rt.alloc(), &[(*text, 1)], line)?);
+    }
+    for text in &JUDGED {
+        assert!(rt; say(rt.alloc(), &[(*text, 1)], b"")?);
+    }
+    Ok(())
+}
+
+/// Pieces, each so many times, and the line of their text.
+type Large = (&'static [(&'static [u8], u32)], &'static [u8]);
+
+/// Brackets, but not comments and signs.
+const NESTED: [Large; 6] = [
+    (
+        &[
+            (b"procedure P() { assert ", 1),
+            (b"(", 199),
+            (b"true", 1),
+            (b")", 199),
+            (b"; }", 1),
+        ],
+        b"",
+    ),
+    (
+        &[
+            (b"procedure P() { assert ", 1),
+            (b"(", 200),
+            (b"true", 1),
+            (b")", 200),
+            (b"; }", 1),
+        ],
+        b"error: limit nesting 201\n",
+    ),
+    (&[(b"var m: ", 1), (b"[", 200)], b"error: 1:208 syntax\n"),
+    (
+        &[(b"var m: ", 1), (b"[", 201)],
+        b"error: limit nesting 201\n",
+    ),
+    (&[(b"/*", 100000), (b"*/", 100000)], b""),
+    (
+        &[
+            (b"procedure P() { assert ", 1),
+            (b"!", 100000),
+            (b"true; }", 1),
+        ],
+        b"",
+    ),
+];
+
+/// Bytes and implementations.
+const LONG: [Large; 4] = [
+    (&[(b" ", 4194304)], b""),
+    (&[(b" ", 4194305)], b"error: limit bytes 4194305\n"),
+    (
+        &[(b"procedure P();", 1), (b"implementation P() { }\n", 10000)],
+        b"",
+    ),
+    (
+        &[(b"procedure P();", 1), (b"implementation P() { }\n", 10001)],
+        b"error: limit implementations 10001\n",
+    ),
+];
+
+/// 255 calls with 257 places each, and others.
+const PLACES: [Large; 3] = [
+    (
+        &[
+            (b"procedure Q(); ", 1),
+            (b"requires true;", 257),
+            (b" procedure P() free ensures true; { ", 1),
+            (b"call Q();", 255),
+            (b" }", 1),
+        ],
+        b"",
+    ),
+    (
+        &[
+            (b"procedure Q(); ", 1),
+            (b"requires true;", 257),
+            (b" procedure P() { assert true; ", 1),
+            (b"call Q();", 255),
+            (b" }", 1),
+        ],
+        b"error: limit places 65536\n",
+    ),
+    (
+        &[
+            (b"procedure Q(); ", 1),
+            (b"requires true;", 257),
+            (b" procedure P() ensures true; { ", 1),
+            (b"call Q();", 255),
+            (b" while (true) invariant true; { } }", 1),
+        ],
+        b"error: limit places 65538\n",
+    ),
+];
+
+/// 1,001 calls with 999 nodes each, and others.
+const EXPANDED: [Large; 3] = [
+    (
+        &[
+            (b"procedure Q(); ", 1),
+            (b"free requires true;", 999),
+            (b" procedure P() { ", 1),
+            (b"call Q();", 1001),
+            (b"assume (true); }", 1),
+        ],
+        b"",
+    ),
+    (
+        &[
+            (b"procedure Q(); ", 1),
+            (b"free requires true;", 999),
+            (b" procedure P() { ", 1),
+            (b"call Q();", 1001),
+            (b"assume !true; }", 1),
+        ],
+        b"error: limit expanded 1000001\n",
+    ),
+    (
+        &[
+            (b"procedure Q(); ", 1),
+            (b"free requires true;", 999),
+            (b" procedure P() ensures true; { ", 1),
+            (b"call Q();", 1001),
+            (b"assume true; }", 1),
+        ],
+        b"error: limit expanded 1000001\n",
+    ),
+];
+
+#[test]
+fn each_limit_is_that_of_its_line(rt: HostRuntime) -> Result<(), Fail> {
+    for table in [&NESTED[..], &LONG[..], &PLACES[..], &EXPANDED[..]] {
+        for (pieces, line) in table {
+            assert!(rt; say(rt.alloc(), pieces, line)?);
+        }
+    }
+    Ok(())
+}
