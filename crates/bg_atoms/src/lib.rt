@@ -17,8 +17,6 @@ mod relate;
 mod signs;
 mod sorted;
 mod table;
-#[cfg(test)]
-mod tests;
 mod whole;
 
 pub use product::Atoms;

@@ -15,6 +15,3 @@ mod ways;
 mod whole;
 
 pub use whole::{Names, clauses};
-
-#[cfg(test)]
-mod tests;

@@ -6,8 +6,6 @@ mod fits;
 mod form;
 mod formed;
 pub mod laws;
-#[cfg(test)]
-mod tests;
 mod worth;
 
 pub use copies::copy;

@@ -15,8 +15,6 @@ mod scaled;
 mod sorted;
 mod sum;
 mod terms;
-#[cfg(test)]
-mod tests;
 
 pub use formed::{linear, linear_of_chain};
 pub use lin::Lin;

@@ -9,8 +9,6 @@ mod failure;
 mod find;
 mod front;
 mod share;
-#[cfg(test)]
-mod tests;
 mod trial;
 mod turn;
 mod turns;

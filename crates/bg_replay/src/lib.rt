@@ -9,8 +9,6 @@ mod holds;
 pub mod laws;
 mod moment;
 mod run;
-#[cfg(test)]
-mod tests;
 mod values;
 mod whole;
 

@@ -7,8 +7,6 @@ mod joined;
 pub mod laws;
 mod lists;
 mod scalar;
-#[cfg(test)]
-mod tests;
 
 pub use choice::Choice;
 pub use eval::{Sight, behind, worth};

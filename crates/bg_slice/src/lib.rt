@@ -6,8 +6,6 @@ pub mod laws;
 mod made;
 mod marks;
 mod rows;
-#[cfg(test)]
-mod tests;
 mod whole;
 
 pub use made::Slice;

@@ -4,8 +4,6 @@
 mod arrival;
 mod commands;
 mod known;
-#[cfg(test)]
-mod tests;
 mod types;
 mod whole;
 

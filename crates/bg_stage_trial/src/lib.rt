@@ -1,0 +1,23 @@
+//! Tests of the crates between a program and its clauses, and between a valuation and its run.
+#![tactic(auto)]
+
+#[cfg(test)]
+mod atoms;
+#[cfg(test)]
+mod clause;
+#[cfg(test)]
+mod forms;
+#[cfg(test)]
+mod linear;
+#[cfg(test)]
+mod model;
+#[cfg(test)]
+mod replay;
+#[cfg(test)]
+mod scalar;
+#[cfg(test)]
+mod slice;
+#[cfg(test)]
+mod sorts;
+#[cfg(test)]
+mod text;

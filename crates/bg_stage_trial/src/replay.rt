@@ -1,0 +1,61 @@
+//! How runs end.
+use crate::text::program;
+use bg_base::{Op, OutOfRange};
+use bg_blocks::{blocks, callees_of};
+use bg_places::Spot;
+use bg_replay::{Choice, Ending, replay};
+use bg_scalar::Scalar;
+use std::alloc::Global;
+use std::test::Fail;
+
+/// The same with three variables to choose, of which `i` is no scalar.
+const TEXT: &[u8] =
+    b"type T = int; type U; var g: T; var h: bool; var i: U; procedure P(); modifies g, h, i;
+implementation P() { havoc g; g, i := g + 1, g * 2; assert g == 0; }
+implementation P() { havoc h; g, i := g + 1, g * 2; assert g == 0; }
+implementation P() { havoc i; g, i := g + 1, g * 2; assert g == 0; }";
+
+const LEAVES: Ending = Ending::OutOfRange(OutOfRange {
+    op: Op::Plus,
+    a: i128::MAX,
+    b: 1,
+});
+
+const ZERO: Scalar = Scalar::Number(0);
+
+const NO: Scalar = Scalar::Truth(false);
+
+const YES: Choice = Choice::Chosen(Scalar::Truth(true));
+
+/// The number of an implementation, a choice, and how the run ends that begins with zeros.
+const CASES: [(usize, Choice, Ending); 8] = [
+    (0, Choice::Chosen(Scalar::Number(i128::MAX)), LEAVES),
+    (0, Choice::Chosen(Scalar::Number(-1)), Ending::Ended),
+    (
+        0,
+        Choice::Chosen(Scalar::Number(4)),
+        Ending::Failed(Spot::Assert(0)),
+    ),
+    (0, YES, Ending::BadChoice),
+    (0, Choice::Branch(0), Ending::BadChoice),
+    (1, Choice::Chosen(ZERO), Ending::BadChoice),
+    (1, YES, Ending::Failed(Spot::Assert(1))),
+    (2, Choice::Chosen(ZERO), Ending::NoScalars),
+];
+
+fn ends(alloc: Global, number: usize, choice: Choice, wanted: Ending) -> Result<bool, Fail> {
+    let p = program(alloc, &[(TEXT, 1)])?;
+    let callees = callees_of(alloc, &p)?;
+    let blocks = blocks(alloc, &p, &callees, number)?;
+    let globals = [ZERO, NO, ZERO];
+    let ending = replay(alloc, &p, &blocks, &[], number, &globals, &[], &[choice])?;
+    Ok(ending == wanted)
+}
+
+#[test]
+fn a_choice_decides_the_ending(rt: HostRuntime) -> Result<(), Fail> {
+    for (number, choice, wanted) in &CASES {
+        assert!(rt; ends(rt.alloc(), *number, *choice, *wanted)?);
+    }
+    Ok(())
+}
