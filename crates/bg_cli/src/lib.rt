@@ -9,6 +9,3 @@ pub use laws::{
     plain_words_with_two_numbers_are_taken,
 };
 pub use line::{Line, LineError, NODES, ROWS, cli, read_line};
-
-#[cfg(test)]
-mod tests;

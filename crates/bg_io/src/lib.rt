@@ -22,6 +22,3 @@ pub use reading::read_all;
 pub use stored::StoredFile;
 pub use system::{RealFiles, StdSink};
 pub use writing::write_all;
-
-#[cfg(test)]
-mod tests;

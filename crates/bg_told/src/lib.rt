@@ -17,6 +17,3 @@ pub use laws::{
 };
 pub use report::result_text;
 pub use word::{Word, word_of};
-
-#[cfg(test)]
-mod tests;

@@ -6,6 +6,3 @@ mod status;
 
 pub use driver::run;
 pub use status::Status;
-
-#[cfg(test)]
-mod tests;

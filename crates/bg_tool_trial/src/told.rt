@@ -1,4 +1,4 @@
-use super::*;
+//! The reports of programs and outcomes made by hand.
 use bg_ast::resolved::{Declared, Implementation, Resolved, WrittenType};
 use bg_base::{CandId, Op, OutOfRange, Pos};
 use bg_cert::Node;
@@ -9,6 +9,7 @@ use bg_places::{Place, Spot};
 use bg_point::{Far, Gap};
 use bg_scalar::{Choice, Scalar};
 use bg_text::Name;
+use bg_told::{Word, result_text, word_of};
 use bg_tree::{Beyond, Kept, Part, Why};
 use std::alloc::{AllocError, Global};
 use std::test::Fail;
@@ -225,7 +226,7 @@ const F: Scalar = Scalar::Truth(false);
 
 const LEAST: i128 = -170141183460469231731687303715884105728;
 
-const COPY: Case = (
+const COPY: Case<'static> = (
     "P",
     (1, 1),
     &["a"],
@@ -234,7 +235,7 @@ const COPY: Case = (
     &[(Spot::Assert(0), None, (1, 43), None, Known::Proved)],
 );
 
-const BRIEF: Case = (
+const BRIEF: Case<'static> = (
     "P",
     (1, 1),
     &[],
@@ -249,7 +250,7 @@ const BRIEF: Case = (
     )],
 );
 
-const STOPPED: Case = (
+const STOPPED: Case<'static> = (
     "S",
     (4, 1),
     &[],
@@ -316,7 +317,7 @@ const STOPPED: Case = (
     ],
 );
 
-const SPENT: Case = (
+const SPENT: Case<'static> = (
     "Q",
     (2, 1),
     &["a", "b"],
@@ -331,7 +332,7 @@ const SPENT: Case = (
     )],
 );
 
-const GUARDED: Case = (
+const GUARDED: Case<'static> = (
     "R",
     (3, 1),
     &[],
@@ -355,7 +356,7 @@ const GUARDED: Case = (
     ],
 );
 
-const MIXED: Case = (
+const MIXED: Case<'static> = (
     "Long'name",
     (4_294_967_295, 10),
     &["a"],
@@ -420,104 +421,113 @@ const MIXED: Case = (
     ],
 );
 
-#[test]
-fn a_line_for_each_implementation_and_each_place_that_is_not_proved(
-    rt: HostRuntime,
-) -> Result<(), Fail> {
-    let alloc = rt.alloc();
-    let lines = "summary: 0 retained, 0 dropped; 0 verified, 0 refuted, 0 unknown\n";
-    assert!(rt; shows(alloc, &[], Word::Verified, lines)?, "empty");
-    let lines = "implementation P 1:1 verified\n\
-                 summary: 0 retained, 0 dropped; 1 verified, 0 refuted, 0 unknown\n";
-    assert!(rt; shows(alloc, &[COPY], Word::Verified, lines)?, "copy");
-    let lines = "implementation P 1:1 refuted\n\
-                 \x20 refuted assert 1:17\n\
-                 \x20   var g = false\n\
-                 \x20   var h = true\n\
-                 summary: 0 retained, 0 dropped; 0 verified, 1 refuted, 0 unknown\n";
-    assert!(rt;
-        shows(alloc, &[BRIEF], Word::Refuted, lines)?,
-        "globals alone"
-    );
-    let lines = "implementation Q 2:1 unknown\n\
-                 \x20 unknown invariant entry 3:3 nodes\n\
-                 \x20   kept 1\n\
-                 summary: 0 retained, 0 dropped; 0 verified, 0 refuted, 1 unknown\n";
-    assert!(rt;
-        shows(alloc, &[SPENT], Word::Unknown, lines)?,
-        "one inner node"
-    );
-    let lines = "implementation S 4:1 unknown\n\
-                 \x20 unknown assert 4:3 rows\n\
-                 \x20   kept 2\n\
-                 \x20 unknown assert 4:5 range\n\
-                 \x20   kept + 170141183460469231731687303715884105727 1\n\
-                 \x20 unknown assert 4:7 range\n\
-                 \x20   kept neg -170141183460469231731687303715884105728 0\n\
-                 \x20 unknown assert 4:9 range\n\
-                 \x20   kept * -170141183460469231731687303715884105728 -1\n\
-                 \x20 unknown assert 4:11 range\n\
-                 \x20   kept - -170141183460469231731687303715884105728 1\n\
-                 summary: 0 retained, 0 dropped; 0 verified, 0 refuted, 1 unknown\n";
-    assert!(rt;
-        shows(alloc, &[STOPPED], Word::Unknown, lines)?,
-        "rows and range"
-    );
-    let lines = "implementation R 3:1 verified\n\
-                 summary: 0 retained, 0 dropped; 1 verified, 0 refuted, 0 unknown\n";
-    assert!(rt;
-        shows(alloc, &[GUARDED], Word::Verified, lines)?,
-        "candidates"
-    );
-    let lines = "implementation P 1:1 verified\n\
-                 implementation Q 2:1 unknown\n\
-                 \x20 unknown invariant entry 3:3 nodes\n\
-                 \x20   kept 1\n\
-                 implementation R 3:1 verified\n\
-                 implementation P 1:1 refuted\n\
-                 \x20 refuted assert 1:17\n\
-                 \x20   var g = false\n\
-                 \x20   var h = true\n\
-                 summary: 0 retained, 0 dropped; 2 verified, 1 refuted, 1 unknown\n";
-    assert!(rt;
-        shows(alloc, &[COPY, SPENT, GUARDED, BRIEF], Word::Refuted, lines)?,
-        "several"
-    );
-    Ok(())
-}
+/// Outcomes, their word, and the lines of their report below its first two.
+const REPORTS: [(&[Case<'static>], Word, &str); 8] = [
+    (
+        &[],
+        Word::Verified,
+        "summary: 0 retained, 0 dropped; 0 verified, 0 refuted, 0 unknown\n",
+    ),
+    (
+        &[COPY],
+        Word::Verified,
+        "implementation P 1:1 verified\n\
+         summary: 0 retained, 0 dropped; 1 verified, 0 refuted, 0 unknown\n",
+    ),
+    (
+        &[BRIEF],
+        Word::Refuted,
+        "implementation P 1:1 refuted\n\
+         \x20 refuted assert 1:17\n\
+         \x20   var g = false\n\
+         \x20   var h = true\n\
+         summary: 0 retained, 0 dropped; 0 verified, 1 refuted, 0 unknown\n",
+    ),
+    (
+        &[SPENT],
+        Word::Unknown,
+        "implementation Q 2:1 unknown\n\
+         \x20 unknown invariant entry 3:3 nodes\n\
+         \x20   kept 1\n\
+         summary: 0 retained, 0 dropped; 0 verified, 0 refuted, 1 unknown\n",
+    ),
+    (
+        &[STOPPED],
+        Word::Unknown,
+        "implementation S 4:1 unknown\n\
+         \x20 unknown assert 4:3 rows\n\
+         \x20   kept 2\n\
+         \x20 unknown assert 4:5 range\n\
+         \x20   kept + 170141183460469231731687303715884105727 1\n\
+         \x20 unknown assert 4:7 range\n\
+         \x20   kept neg -170141183460469231731687303715884105728 0\n\
+         \x20 unknown assert 4:9 range\n\
+         \x20   kept * -170141183460469231731687303715884105728 -1\n\
+         \x20 unknown assert 4:11 range\n\
+         \x20   kept - -170141183460469231731687303715884105728 1\n\
+         summary: 0 retained, 0 dropped; 0 verified, 0 refuted, 1 unknown\n",
+    ),
+    (
+        &[GUARDED],
+        Word::Verified,
+        "implementation R 3:1 verified\n\
+         summary: 0 retained, 0 dropped; 1 verified, 0 refuted, 0 unknown\n",
+    ),
+    (
+        &[COPY, SPENT, GUARDED, BRIEF],
+        Word::Refuted,
+        "implementation P 1:1 verified\n\
+         implementation Q 2:1 unknown\n\
+         \x20 unknown invariant entry 3:3 nodes\n\
+         \x20   kept 1\n\
+         implementation R 3:1 verified\n\
+         implementation P 1:1 refuted\n\
+         \x20 refuted assert 1:17\n\
+         \x20   var g = false\n\
+         \x20   var h = true\n\
+         summary: 0 retained, 0 dropped; 2 verified, 1 refuted, 1 unknown\n",
+    ),
+    (
+        &[MIXED],
+        Word::Refuted,
+        "implementation Long'name 4294967295:10 refuted\n\
+         \x20 refuted invariant entry 3:14\n\
+         \x20   var g = false\n\
+         \x20   var h = true\n\
+         \x20   var a = true\n\
+         \x20   var c = -7\n\
+         \x20   var d = true\n\
+         \x20 refuted invariant turn 3:14\n\
+         \x20   var g = true\n\
+         \x20   var h = true\n\
+         \x20   var a = false\n\
+         \x20   var c = false\n\
+         \x20   var d = true\n\
+         \x20   choice branch 1\n\
+         \x20   choice false\n\
+         \x20 refuted precondition 5:7 of 1:40\n\
+         \x20   var g = true\n\
+         \x20   var h = false\n\
+         \x20   var a = true\n\
+         \x20   var c = true\n\
+         \x20   var d = false\n\
+         \x20   choice -170141183460469231731687303715884105728\n\
+         \x20   choice branch 0\n\
+         \x20   choice branch 4294967295\n\
+         \x20 unknown precondition 6:7 of 1:40 nodes\n\
+         \x20   kept 3\n\
+         \x20 unknown postcondition 1:60 nodes\n\
+         \x20   kept 0\n\
+         summary: 0 retained, 0 dropped; 0 verified, 1 refuted, 0 unknown\n",
+    ),
+];
 
 #[test]
-fn each_kind_of_place_and_choice_has_its_words(rt: HostRuntime) -> Result<(), Fail> {
-    let alloc = rt.alloc();
-    let lines = "implementation Long'name 4294967295:10 refuted\n\
-                 \x20 refuted invariant entry 3:14\n\
-                 \x20   var g = false\n\
-                 \x20   var h = true\n\
-                 \x20   var a = true\n\
-                 \x20   var c = -7\n\
-                 \x20   var d = true\n\
-                 \x20 refuted invariant turn 3:14\n\
-                 \x20   var g = true\n\
-                 \x20   var h = true\n\
-                 \x20   var a = false\n\
-                 \x20   var c = false\n\
-                 \x20   var d = true\n\
-                 \x20   choice branch 1\n\
-                 \x20   choice false\n\
-                 \x20 refuted precondition 5:7 of 1:40\n\
-                 \x20   var g = true\n\
-                 \x20   var h = false\n\
-                 \x20   var a = true\n\
-                 \x20   var c = true\n\
-                 \x20   var d = false\n\
-                 \x20   choice -170141183460469231731687303715884105728\n\
-                 \x20   choice branch 0\n\
-                 \x20   choice branch 4294967295\n\
-                 \x20 unknown precondition 6:7 of 1:40 nodes\n\
-                 \x20   kept 3\n\
-                 \x20 unknown postcondition 1:60 nodes\n\
-                 \x20   kept 0\n\
-                 summary: 0 retained, 0 dropped; 0 verified, 1 refuted, 0 unknown\n";
-    assert!(rt; shows(alloc, &[MIXED], Word::Refuted, lines)?, "mixed");
+fn each_implementation_and_each_place_that_is_not_proved_has_its_lines(
+    rt: HostRuntime,
+) -> Result<(), Fail> {
+    for (cases, word, lines) in &REPORTS {
+        assert!(rt; shows(rt.alloc(), cases, *word, lines)?);
+    }
     Ok(())
 }

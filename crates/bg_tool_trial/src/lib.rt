@@ -1,0 +1,13 @@
+//! Tests of the outside, of the command line, of the report, and of the top call.
+#![tactic(auto)]
+
+#[cfg(test)]
+mod cli;
+#[cfg(test)]
+mod io;
+#[cfg(test)]
+mod made;
+#[cfg(test)]
+mod told;
+#[cfg(test)]
+mod tool;
