@@ -112,8 +112,9 @@ class Builds:
 
 
 def prove(crates, order, most, builds):
-    """Builds the crates, and returns the first that fails, with what its check said."""
-    above, left, done, running = heights(crates, order), list(order), set(), {}
+    """Builds the crates, and returns the first that fails, with what its check said. One that was killed is tried once more, with
+    fewer side by side from then on."""
+    above, left, done, running, killed = heights(crates, order), list(order), set(), {}, set()
     with ThreadPoolExecutor(most) as pool:
         while left or running:
             ready = [it for it in left if done.issuperset(crates[it])]
@@ -124,9 +125,17 @@ def prove(crates, order, most, builds):
                 running[pool.submit(builds.build, it)] = it
             for it in wait(running, return_when=FIRST_COMPLETED).done:
                 name, (said, status, seconds) = running.pop(it), it.result()
+                if builds.is_stopped:
+                    return name, "it was stopped"
+                if status in (-9, 137) and name not in killed:
+                    killed.add(name)
+                    left.append(name)
+                    most = max(1, most - 1)
+                    print(f"bg: the check of {name} was killed, perhaps for want of memory: once more", file=sys.stderr, flush=True)
+                    continue
                 if status:
                     builds.stop()
-                    return name, said
+                    return name, f"{said[-3000:]}(status {status})"
                 done.add(name)
                 print(f"bg: {len(done)} of {len(order)} crates: {name} ({seconds:.0f} seconds)", file=sys.stderr, flush=True)
     return None
@@ -148,7 +157,7 @@ def main():
     print(f"bg: proving {len(order)} crates, {most} at a time", file=sys.stderr, flush=True)
     failed = prove(crates, list(order), most, builds)
     if failed:
-        print(f"bg: {failed[0]} is not proved:\n{failed[1][-3000:]}", file=sys.stderr)
+        print(f"bg: {failed[0]} is not proved:\n{failed[1]}", file=sys.stderr)
     return 1 if failed else 0
 
 
