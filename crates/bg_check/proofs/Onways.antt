@@ -1,23 +1,23 @@
 -- The first operation that leaves the range, of those that count for a target, lies on a way to it.
-use Rattle.std.proofs.Common.{◌≡◌, ℕ, zero, suc, Bool, true, false, ◌&&◌, ◌||◌, if◌then◌else◌, List, [], ◌∷◌, ◌++◌, map, Option, Some, None, Result, Ok, Err, slice_get, refl, sym, ap, ◌∙◌, subst, append_assoc, inl, inr, ⊎_elim}
+use Rattle.std.proofs.Common.{◌≡◌, ℕ, zero, suc, Bool, true, false, ◌||◌, if◌then◌else◌, List, [], ◌∷◌, ◌++◌, map, Option, Some, None, Result, Ok, Err, slice_get, refl, sym, ap, ◌∙◌, subst, append_assoc, inl, inr, ⊎_elim}
 use Rattle.std.specs.Prelude.{◌⊎◌}
 use Rattle.std.specs.List.{list_any}
 use Rattle.bg_base.specs.declared.exact.OutOfRange.{OutOfRange}
 use Rattle.bg_ast.specs.Execution.{Spot}
-use Rattle.bg_ast.specs.Syntax.{Ex, Not, Binary, Op}
+use Rattle.bg_ast.specs.Syntax.{Ex, Not, Binary}
 use Rattle.bg_sense.proofs.Bools.{and_left, and_right}
 use Rattle.bg_passive.specs.Passive.{PassiveCmd, Claims, Supposes, Edge, PassiveBlock, spot_eq}
 use Rattle.bg_formula.specs.Atoms.{AtomOf}
-use Rattle.bg_formed.specs.Formed.{Says, FormCmd, FormEdge, FormBlock}
-use Rattle.bg_formed.specs.Used.{Use, unused, refusal_of, first_of, in_front, use_cmds, use_later, use_edges, uses, refused}
+use Rattle.bg_formed.specs.Formed.{FormCmd, FormEdge}
+use Rattle.bg_formed.specs.Used.{Use, refusal_of, first_of, use_cmds, use_later, use_edges, uses, refused}
 use Rattle.bg_linear.specs.declared.scalar.Sort.{Sort}
 use Rattle.bg_linear.specs.Relations.{relation, relates}
 use Rattle.bg_linear.specs.Sorts.{kind_ex, is_number}
 use Rattle.bg_atoms.specs.Over.{relates_numbers, refusal, first_refused, says_unless, over, says_over}
 use Rattle.bg_atoms.specs.Parts.{HasRelation, here, on_left, on_right, denied}
 use Rattle.bg_atoms.specs.Sources.{expression_of}
-use Rattle.bg_atoms.specs.Encoded.{cmd_over, edge_over, block_over, blocks_over}
-use Rattle.bg_check.specs.Ways.{way_at, behind_edge, onward, ways, way, is_check, LiesOnWay}
+use Rattle.bg_atoms.specs.Encoded.{cmd_over, edge_over, blocks_over}
+use Rattle.bg_check.specs.Ways.{way_at, onward, ways, is_check, LiesOnWay}
 
 -- ---- an expression that has no form has a relation for which there is none
 
