@@ -149,7 +149,7 @@ fn search_place(
 }
 
 /// What is known of a place of a typed program over truth values and whole numbers, under a set of candidates, where its
-/// implementation is prepared. A search makes at most the budget's inner nodes, and keeps at most its rows.
+/// implementation is prepared. In a search at most the budget's nodes count, and it keeps at most its rows.
 ///
 /// Only want of memory is an error; 2^32 atoms count as such.
 pub fn check_place(

@@ -91,7 +91,7 @@ fn judge_implementation(
 }
 
 /// What is known of each place of a typed program over truth values and whole numbers, by implementation and place, under the
-/// empty set of candidates. A search makes at most the budget's inner nodes, and keeps at most its rows.
+/// empty set of candidates. In a search at most the budget's nodes count, and it keeps at most its rows.
 ///
 /// Only want of memory is an error; 2^32 incarnations, atoms or branches of an implementation count as such.
 pub fn check_program(

@@ -9,14 +9,14 @@ use clap::error::ErrorKind;
 use clap::{Arg, ArgAction, ArgMatches, Command, Error, value_parser};
 use std::alloc::{AllocError, Global};
 
-/// The most inner nodes of a certificate's tree, where the words say nothing of it.
+/// How many nodes of a certificate's tree may count, where the words say nothing of it.
 pub const NODES: u32 = 20_000;
 
 /// The most rows of an elimination, where the words say nothing of it.
 pub const ROWS: u32 = 20_000;
 
-/// What a command line asks: the files in order, the most inner nodes of a certificate's tree, and the most rows that an elimination
-/// keeps.
+/// What a command line asks: the files in order, how many nodes of a certificate's tree may count, and the most rows that an
+/// elimination keeps.
 #[derive(Drop)]
 pub struct Line<'a> {
     pub files: Vec<&'a str>,

@@ -8,7 +8,7 @@ use bg_elim::{Further, Order};
 use bg_point::{Far, Spot};
 use bg_rows::Step;
 
-/// How many inner nodes a tree may have, and how many different rows an elimination may keep.
+/// How many nodes of a tree may count, and how many different rows an elimination may keep.
 #[derive(Clone, Copy, PartialEq, Eq, Debug)]
 pub struct Budget {
     pub nodes: u32,
