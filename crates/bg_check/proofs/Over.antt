@@ -12,9 +12,8 @@ use Rattle.bg_calls.specs.Core.{Demand, Saying, Plan, Cmd, Check, Suppose, Forge
 use Rattle.bg_flow.specs.Blocks.{Exit, Leap, Either, Block}
 use Rattle.bg_passive.specs.Incarnations.{ty_of}
 use Rattle.bg_block_types.specs.TypedFlow.{sig_with, sig_here, DemandsAreTyped, SayingsAreTyped, PlanIsTyped, CmdIsTyped, CmdsAreTyped, ExitIsTyped, CodeIsTyped}
-use Rattle.bg_fits.specs.Truths.{is_empty}
 use Rattle.bg_fits.specs.Scalars as fits
-use Rattle.bg_fits.specs.Scalars.{decl_passes, decls_pass, proc_passes, impl_passes, clause_passes, st_passes, is_scalar_type, is_over_scalars}
+use Rattle.bg_fits.specs.Scalars.{is_empty, decl_passes, decls_pass, proc_passes, impl_passes, clause_passes, st_passes, is_scalar_type, is_over_scalars}
 use Rattle.bg_fits.specs.Holdings.{holding_of, holdings_of}
 use Rattle.bg_scalar.specs.Typed.{is_scalar}
 use Rattle.bg_replay.specs.Holds.{holds_scalars, hold_scalars}

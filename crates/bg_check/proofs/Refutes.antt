@@ -37,8 +37,7 @@ use Rattle.bg_formed.specs.Formed.{FormCmd, FormBlock, blocks_below}
 use Rattle.bg_formed.specs.Said.{SaidBlocks}
 use Rattle.bg_formed.specs.Wells.{form_equations}
 use Rattle.bg_clause.specs.Valued.{worth_in}
-use Rattle.bg_fits.specs.Scalars.{is_over_scalars, decls_pass, is_scalar_type, is_scalar}
-use Rattle.bg_fits.specs.Truths.{is_empty}
+use Rattle.bg_fits.specs.Scalars.{is_empty, is_over_scalars, decls_pass, is_scalar_type, is_scalar}
 use Rattle.bg_linear.specs.declared.scalar.Sort.{Sort}
 use Rattle.bg_linear.specs.Sorts.{scalar_values}
 use Rattle.bg_atoms.specs.Ranks.{rank}

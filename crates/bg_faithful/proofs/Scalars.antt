@@ -8,8 +8,7 @@ use Rattle.bg_sense.specs.Types.{types_of}
 use Rattle.bg_sense.specs.Variables.{type_in}
 use Rattle.bg_sense.proofs.Bools.{and_left, and_right}
 use Rattle.bg_passive.specs.Incarnations.{ty_of}
-use Rattle.bg_fits.specs.Truths.{is_empty}
-use Rattle.bg_fits.specs.Scalars.{clause_passes, decl_passes, decls_pass, proc_passes, is_scalar_type, is_scalar}
+use Rattle.bg_fits.specs.Scalars.{is_empty, clause_passes, decl_passes, decls_pass, proc_passes, is_scalar_type, is_scalar}
 
 abbrev pub IsScalar : Ty → Type 0
 IsScalar t = is_scalar_type true t ≡ true

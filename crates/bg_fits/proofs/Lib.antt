@@ -1,4 +1,1 @@
-pub mod Chains
-pub mod Empties
-pub mod Statements
 pub mod Synonyms

@@ -1,5 +1,5 @@
 -- What written types and synonyms stand for.
-use Rattle.std.proofs.Common.{◌≡◌, ℕ, suc, ◌+◌, ◌-◌, ◌<◌, ◌≤◌, Bool, true, false, ap, sym, ◌∙◌, map, length, get_or, drop, add-one, drop-cons, List, [], ◌∷◌, ◌++◌, append_assoc, refl, Vec, Box, Global, arith, slice_get}
+use Rattle.std.proofs.Common.{◌≡◌, ℕ, suc, ◌+◌, ◌-◌, ◌<◌, ◌≤◌, ap, sym, ◌∙◌, map, length, get_or, drop, add-one, drop-cons, List, [], ◌∷◌, ◌++◌, append_assoc, refl, Vec, Box, Global, arith, slice_get}
 use Rattle.std.specs.Prelude.{if◌then◌else◌}
 use Rattle.bg_ast.specs.Values as v
 use Rattle.bg_ast.specs.Resolved as r
@@ -10,10 +10,10 @@ use Rattle.bg_ast.specs.declared.resolved.IndexTypes.{IndexTypes}
 use Rattle.bg_ast.specs.declared.resolved.WrittenType.{WrittenType}
 use Rattle.bg_ast.specs.declared.resolved.WrittenType.TheVariants as type
 use Rattle.bg_ast.proofs.Lists.{type_of-Map}
-use Rattle.bg_fits.specs.Truths.{is_empty}
+use Rattle.bg_fits.specs.Scalars.{is_empty}
 use Rattle.bg_fits.specs.Holdings.{holding_of}
 use Rattle.bg_fits.specs.declared.types.Holding.{Holding}
-use Rattle.bg_fits.specs.declared.types.Holding.TheVariants.{Truths, Others}
+use Rattle.bg_fits.specs.declared.types.Holding.TheVariants.{Others}
 
 no_map_is : (named : ℕ → v.Ty) (bs : List IndexTypes) (t : v.Ty) → holding_of (map_type named (indexed_of (map index_view bs)) t) ≡ (if is_empty bs then holding_of t else Others)
 no_map_is named [] t = refl
@@ -21,20 +21,6 @@ no_map_is named (b ∷ bs) t = refl
 
 pub holding_map : (named : ℕ → v.Ty) (bs : Vec IndexTypes Global) (e : Box WrittenType Global) → holding_of (type_in named (type_of (type.Map bs e))) ≡ (if is_empty bs.items then holding_of (type_in named (type_of e.value)) else Others)
 holding_map named bs e = ap (λ t. holding_of (type_in named t)) (type_of-Map bs e) ∙ no_map_is named bs.items (type_in named (type_of e.value))
-
-abbrev pub is_truths : Holding → Bool
-is_truths Truths = true
-is_truths _ = false
-
-bool_is : (t : v.Ty) → v.is_bool t ≡ is_truths (holding_of t)
-bool_is v.IntTy = refl
-bool_is v.BoolTy = refl
-bool_is (v.UserTy k) = refl
-bool_is (v.MapTy ks t) = refl
-
--- a type holds truth values exactly where it is `bool`
-pub truths_alone : (t : v.Ty) (h : Holding) → h ≡ holding_of t → v.is_bool t ≡ is_truths h
-truths_alone t h e = bool_is t ∙ ap is_truths (sym e)
 
 -- one more type, of a chain of synonyms that is followed from the one with the number `at`
 pub next_synonym : (n i at next : ℕ) (ds : List r.TypeName) (b : Holding) → i < suc n → ((named : ℕ → v.Ty) → holding_of (named next) ≡ holding_of (synonym_or (v.UserTy at) (type_in named) (slice_get ds at))) → holding_of (named_within (suc n - i) ds at) ≡ b → holding_of (named_within (suc n - (i + 1)) ds next) ≡ b

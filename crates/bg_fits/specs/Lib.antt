@@ -1,4 +1,2 @@
-pub mod Truths
-pub mod Written
 pub mod Scalars
 pub mod Holdings

@@ -1,9 +1,12 @@
 -- Programs over truth values and whole numbers, and nothing else: what passes a test of types and one of expressions.
-use Rattle.std.specs.Prelude.{Bool, true, false, ◌&&◌, List, is_none, ◌==◌}
+use Rattle.std.specs.Prelude.{Bool, true, false, ◌&&◌, List, [], ◌∷◌, is_none, ◌==◌}
 use Rattle.std.specs.List.{list_all}
 use Rattle.bg_ast.specs.Values.{Ty, IntTy, BoolTy}
 use Rattle.bg_ast.specs.Syntax.{Ex, Number, Fact, Read, Not, Negative, Binary, Old, Exs, NoMore, More, Clause, Guard, Star, Test, St, Skip, Then, Label, Assert, Assume, Havoc, Assign, Invoke, If, While, Break, Goto, Return, Decl, Proc, Impl, Prog}
-use Rattle.bg_fits.specs.Truths.{is_empty}
+
+abbrev pub is_empty : {A : Type 0} → List A → Bool
+is_empty [] = true
+is_empty (x ∷ xs) = false
 
 -- each of a list passes
 abbrev pub exs_pass : (Ex → Bool) → Exs → Bool

@@ -1,11 +1,6 @@
-//! Whether a program is one over truth values.
+//! What the variables of a program hold, and what programs over truth values and whole numbers are.
 #![tactic(auto)]
 
-mod body;
-mod clauses;
-mod plain;
-mod program;
 mod types;
 
-pub use program::is_over_truths;
-pub use types::{Holding, are_truths, push_holdings};
+pub use types::{Holding, push_holdings};

@@ -3,15 +3,13 @@ ghost use Rattle.std.specs.Prelude.{◌≡◌, ◌++◌, ℕ, map, slice_get, if
 ghost use Rattle.bg_ast.specs.Values as v;
 ghost use Rattle.bg_ast.specs.Meaning.{type_in, synonym_or, named_of, decl_of};
 ghost use Rattle.bg_ast.specs.Views.{type_of, type_name_of, declared_of};
-ghost use Rattle.bg_fits.specs.Truths.{is_truth_decl, are_truth_decls};
 ghost use Rattle.bg_fits.specs.Holdings.{holding_of, holding_by, holdings_of};
 
-use crate::plain::is_empty;
 use bg_ast::resolved::{Declared, TypeName, WrittenType};
 use std::alloc::AllocError;
 
 /// What a variable of a type holds: truth values, whole numbers, or something else.
-#[derive(Clone, Copy, PartialEq, Eq, Debug)]
+#[derive(Clone, Copy)]
 pub enum Holding {
     Truths,
     Numbers,
@@ -45,7 +43,7 @@ fn kind_of(ty: &WrittenType) -> Kind
         WrittenType::Int(_) => Kind::Number,
         WrittenType::Parens(_, inner) => kind_of(inner),
         WrittenType::Declared(_, k) => Kind::Named(*k),
-        WrittenType::Map(brackets, inner) => beside(is_empty(brackets), kind_of(inner)),
+        WrittenType::Map(brackets, inner) => beside(brackets.is_empty(), kind_of(inner)),
     }
 }
 
@@ -102,28 +100,4 @@ pub fn push_holdings(
         made.push(held_by(types, d))?;
     }
     Ok(())
-}
-
-/// Whether a variable is of type `bool`.
-#[tactic(auto, using(crate::proofs::Synonyms::truths_alone))]
-fn is_truth(types: &[TypeName], d: &Declared) -> bool
-    ensures { result ≡ is_truth_decl (decl_of (named_of (map type_name_of types.now)) (declared_of d.now)) }
-{
-    match held_by(types, d) {
-        Holding::Truths => true,
-        Holding::Numbers => false,
-        Holding::Others => false,
-    }
-}
-
-/// Whether each is of type `bool`, where these types are declared.
-pub fn are_truths(types: &[TypeName], declared: &[Declared]) -> bool
-    ensures { result ≡ are_truth_decls (map (decl_of (named_of (map type_name_of types.now))) (map declared_of declared.now)) }
-{
-    for d in declared {
-        if !is_truth(types, d) {
-            return false;
-        }
-    }
-    true
 }

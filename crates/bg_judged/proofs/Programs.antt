@@ -21,8 +21,7 @@ use Rattle.bg_named.proofs.ExprsBits.{split_nil}
 use Rattle.bg_named.proofs.SpacesEntries.{each_append}
 use Rattle.bg_named.proofs.ProgramsEach.{gathered, gathered_in_turn}
 use Rattle.bg_sense.proofs.Bools.{both}
-use Rattle.bg_fits.specs.Truths.{is_empty}
-use Rattle.bg_fits.specs.Scalars.{clause_passes, st_passes, decl_passes, decls_pass, proc_passes, impl_passes, passes, is_scalar_type}
+use Rattle.bg_fits.specs.Scalars.{is_empty, clause_passes, st_passes, decl_passes, decls_pass, proc_passes, impl_passes, passes, is_scalar_type}
 use Rattle.bg_judged.specs.Within.{AreWithin}
 use Rattle.bg_judged.proofs.Marks.{flat, Judged, of_tokens, on_each}
 use Rattle.bg_judged.proofs.Exprs.{few}

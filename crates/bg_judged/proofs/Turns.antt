@@ -9,8 +9,7 @@ use Rattle.bg_sense.specs.Types.{types_of, const_types}
 use Rattle.bg_sense.specs.Typing.{Sig, HasType, HaveTypes, sig_in, types_in}
 use Rattle.bg_sense.specs.Typed.{IsFormula, IsGuard, Around, sig_around, around, AreTypedDecls, IsTypedStatement, IsTypedProc, IsTypedImpl, IsTyped, labels_of, HasNoOld}
 use Rattle.bg_sense.proofs.Bools.{both, and_left, and_right}
-use Rattle.bg_fits.specs.Truths.{is_empty}
-use Rattle.bg_fits.specs.Scalars.{exs_pass, clause_passes, guard_passes, st_passes, decl_passes, decls_pass, proc_passes, impl_passes, passes, is_scalar_type}
+use Rattle.bg_fits.specs.Scalars.{is_empty, exs_pass, clause_passes, guard_passes, st_passes, decl_passes, decls_pass, proc_passes, impl_passes, passes, is_scalar_type}
 use Rattle.bg_judged.proofs.Typed.{Fine}
 
 empty_is : {A : Type 0} (xs : List A) → is_empty xs ≡ true → xs ≡ []

@@ -6,8 +6,7 @@ use Rattle.bg_sense.specs.Types.{are_of, const_types}
 use Rattle.bg_sense.specs.Tables.{are_tables}
 use Rattle.bg_sense.specs.Interps.{are_distinct, all_hold, Meets}
 use Rattle.bg_sense.specs.Claims.{Greatest}
-use Rattle.bg_fits.specs.Truths.{is_empty}
-use Rattle.bg_fits.specs.Scalars.{decls_pass, is_scalar_type, is_scalar, is_over_scalars}
+use Rattle.bg_fits.specs.Scalars.{is_empty, decls_pass, is_scalar_type, is_scalar, is_over_scalars}
 use Rattle.bg_sound.specs.Told.{Consistent}
 use Rattle.bg_sound.specs.Sound.{AreAxioms, IsRetained}
 
