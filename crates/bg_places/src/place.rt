@@ -17,7 +17,7 @@ pub enum Spot {
 
 /// A check of an implementation, by its number from 0, with the candidate of its clause; the position of the clause's first word,
 /// and of a precondition that of the call.
-#[derive(Clone, Copy, PartialEq, Eq, Debug)]
+#[derive(Clone, Copy, Debug)]
 pub struct Place {
     pub implementation: usize,
     pub spot: Spot,
@@ -27,7 +27,7 @@ pub struct Place {
 }
 
 /// Checks of clauses that stand together.
-#[derive(Clone, Copy, PartialEq, Eq, Debug)]
+#[derive(Clone, Copy)]
 pub enum Group {
     Assert,
     Entry,
