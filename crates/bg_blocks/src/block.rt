@@ -3,7 +3,7 @@ use bg_ast::resolved::{Call, Clause, Expr, Guard, Placed, Procedure, Target, Var
 use bg_places::Group;
 
 /// Which of some clauses are assumed: each one, those that are checked, or those that are free.
-#[derive(Clone, Copy, PartialEq, Eq, Debug)]
+#[derive(Clone, Copy)]
 pub enum Kept {
     Each,
     Checked,

@@ -53,9 +53,7 @@ pub fn take_branch<'p>(
 fn turned<'p>(alloc: Global, invariants: &'p [Clause]) -> Result<Vec<Cmd<'p>>, AllocError>
     ensures { IfOk result (λ made. (p : Program) (xs : List s.Var) → map (cmd_of p) made.items ≡ turn (head_of (clauses_in invariants.now) xs)) }
 {
-    let mut cmds = one(alloc, Cmd::Check(Group::Turn, invariants))?;
-    cmds.push(Cmd::Finish)?;
-    Ok(cmds)
+    Ok(vec![in alloc; Cmd::Check(Group::Turn, invariants), Cmd::Finish]?)
 }
 
 /// The block at the end of a turn.
@@ -80,25 +78,32 @@ fn arrived<'p>(
 ) -> Result<Vec<Cmd<'p>>, AllocError>
     ensures { IfOk result (λ made. (p : Program) → map (cmd_of p) made.items ≡ arrival (head_of (clauses_in invariants.now) (map var_of forgotten.items))) }
 {
-    let mut cmds = one(alloc, Cmd::Check(Group::Entry, invariants))?;
-    cmds.push(Cmd::Forget(forgotten))?;
-    cmds.push(Cmd::Suppose(Kept::Checked, invariants))?;
-    cmds.push(Cmd::Suppose(Kept::Free, invariants))?;
-    Ok(cmds)
+    Ok(vec![in alloc;
+        Cmd::Check(Group::Entry, invariants),
+        Cmd::Forget(forgotten),
+        Cmd::Suppose(Kept::Checked, invariants),
+        Cmd::Suppose(Kept::Free, invariants),
+    ]?)
+}
+
+/// What is written at the head of a loop.
+#[derive(Clone, Copy)]
+pub struct Head<'p> {
+    pub guard: &'p Guard,
+    pub invariants: &'p [Clause],
 }
 
 /// The head of a loop: behind its arrival a turn where the guard holds, and else behind so many.
 pub fn head_of_loop<'p>(
     alloc: Global,
     state: &mut Emitted<'p>,
-    guard: &'p Guard,
-    invariants: &'p [Clause],
+    head: Head<'p>,
     forgotten: Vec<Variable>,
     count: usize,
 ) -> Result<(), AllocError>
     ensures sound { OnOk result (IsSound state.old → IsSound state.new) }
-    ensures state { OnOk result ((p : Program) → state_of p state.new ≡ pushed (record { cmds = arrival (head_of (clauses_in invariants.now) (map var_of forgotten.items)); exit = Either (m.guard_of (guard_of guard.now)) 0 count }) (state_of p state.old)) }
+    ensures state { OnOk result ((p : Program) → state_of p state.new ≡ pushed (record { cmds = arrival (head_of (clauses_in head.entry.invariants.now) (map var_of forgotten.items)); exit = Either (m.guard_of (guard_of head.entry.guard.now)) 0 count }) (state_of p state.old)) }
 {
-    let cmds = arrived(alloc, invariants, forgotten)?;
-    push(state, cmds, Exit::Either(guard, 0, count))
+    let cmds = arrived(alloc, head.invariants, forgotten)?;
+    push(state, cmds, Exit::Either(head.guard, 0, count))
 }

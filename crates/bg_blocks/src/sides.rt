@@ -9,9 +9,9 @@ ghost use Rattle.bg_blocks.specs.Emitted.{State, pushed, with_marks_of, Emits};
 ghost use Rattle.bg_blocks.specs.Decided.{skip_block, branch_block, turn_block, head_block};
 ghost use Rattle.bg_blocks.specs.EmittedViews.{state_of, IsSound, IsLeft};
 
-use crate::branches::{head_of_loop, skip_branch, take_branch};
+use crate::branches::{Head, head_of_loop, skip_branch, take_branch};
 use crate::emit::{Emitted, go_back};
-use bg_ast::resolved::{Clause, Guard, Variable};
+use bg_ast::resolved::{Guard, Variable};
 use std::alloc::{AllocError, Global};
 
 /// Skips what was made since there were so many blocks and marks.
@@ -54,18 +54,17 @@ pub fn decide<'p>(
 pub fn close_loop<'p>(
     alloc: Global,
     state: &mut Emitted<'p>,
-    guard: &'p Guard,
-    invariants: &'p [Clause],
+    head: Head<'p>,
     forgotten: Vec<Variable>,
     start: usize,
     first: usize,
 ) -> Result<(), AllocError>
     requires { IsLeft first state.old }
     ensures sound { OnOk result (IsSound state.new) }
-    ensures state { OnOk result ((p : Program) (a : Core) (before : State) → length before.blocks ≡ start → length before.undo ≡ first → Emits a (pushed (turn_block (head_of (clauses_in invariants.now) (map var_of forgotten.items))) before) (state_of p state.old) →
-        state_of p state.new ≡ pushed (head_block (m.guard_of (guard_of guard.now)) (head_of (clauses_in invariants.now) (map var_of forgotten.items)) before (state_of p state.old)) (with_marks_of before (state_of p state.old))) }
+    ensures state { OnOk result ((p : Program) (a : Core) (before : State) → length before.blocks ≡ start → length before.undo ≡ first → Emits a (pushed (turn_block (head_of (clauses_in head.entry.invariants.now) (map var_of forgotten.items))) before) (state_of p state.old) →
+        state_of p state.new ≡ pushed (head_block (m.guard_of (guard_of head.entry.guard.now)) (head_of (clauses_in head.entry.invariants.now) (map var_of forgotten.items)) before (state_of p state.old)) (with_marks_of before (state_of p state.old))) }
 {
     go_back(state, first)?;
     let made = state.blocks.len().saturating_sub(start);
-    head_of_loop(alloc, state, guard, invariants, forgotten, made)
+    head_of_loop(alloc, state, head, forgotten, made)
 }

@@ -97,9 +97,7 @@ fn forgetting<'p>(alloc: Global, xs: &[Placed]) -> Result<Vec<Cmd<'p>>, AllocErr
     ensures { IfOk result (λ made. (p : Program) → map (cmd_of p) made.items ≡ Forget (map m.variable_of (map placed_of xs.now)) ∷ Suppose [] ∷ []) }
 {
     let forgotten = variables(alloc, xs)?;
-    let mut cmds = one(alloc, Cmd::Forget(forgotten))?;
-    cmds.push(Cmd::Suppose(Kept::Each, &[]))?;
-    Ok(cmds)
+    Ok(vec![in alloc; Cmd::Forget(forgotten), Cmd::Suppose(Kept::Each, &[])]?)
 }
 
 /// Variables that take any values.

@@ -9,7 +9,7 @@ ghost use Rattle.bg_blocks.specs.Callees.{IsModified};
 ghost use Rattle.bg_blocks.specs.Emitted.{State, IsBounded, Emits, marked_each};
 ghost use Rattle.bg_blocks.specs.EmittedViews.{state_of, IsSound, IsLeft, EmitsBody, frame_of};
 
-use crate::branches::{mark_behind, turn_of_loop};
+use crate::branches::{Head, mark_behind, turn_of_loop};
 use crate::emit::{Emitted, mark};
 use crate::jumps::{call, finish, jump, leave};
 use crate::sides::{close_loop, decide, skip_side};
@@ -116,15 +116,8 @@ fn turns<'p>(
     turn_of_loop(around.alloc, state, invariants)?;
     stmts(around, state, body)?;
     let forgotten = targets(around.alloc, around.program, around.frame, body)?;
-    close_loop(
-        around.alloc,
-        state,
-        guard,
-        invariants,
-        forgotten,
-        start,
-        first,
-    )
+    let head = Head { guard, invariants };
+    close_loop(around.alloc, state, head, forgotten, start, first)
 }
 
 /// A statement.

@@ -17,5 +17,5 @@ returns-clause-state c =
     let back = c.in_ok-go_back.ensures in
     on_ok_weaker c.head_of_loop.result
     (λ h p a before l n x. h p
-    ∙ closed p a (m.guard_of (guard_of c.args.guard.now)) (head_of (clauses_in c.args.invariants.now) (map var_of c.args.forgotten.items)) before c.args.state.now c.go_back.new.state c.args.start c.args.first c.saturating_sub-made.result l n x back.marks back.undo back.blocks (omega (arith, c.len.ensures, c.saturating_sub-made.ensures)))
+    ∙ closed p a (m.guard_of (guard_of c.args.head.guard.now)) (head_of (clauses_in c.args.head.invariants.now) (map var_of c.args.forgotten.items)) before c.args.state.now c.go_back.new.state c.args.start c.args.first c.saturating_sub-made.result l n x back.marks back.undo back.blocks (omega (arith, c.len.ensures, c.saturating_sub-made.ensures)))
     c.head_of_loop.ensures.state
