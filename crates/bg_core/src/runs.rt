@@ -3,9 +3,9 @@ ghost use Rattle.std.specs.Prelude.{◌≡◌, Some, IfOk};
 ghost use Rattle.bg_words.specs.Core.{start, run};
 
 use crate::sets::all_of;
-use crate::steps::step;
+use crate::steps::{newcomer, step};
 use bg_base::{Copied, Row};
-use bg_words::{CoreState, Event, Seen, Stage, Worker};
+use bg_words::{CoreState, Event};
 use std::alloc::{AllocError, Global};
 
 /// The start of `n` candidates: all of them are there, and there is one worker, the first. Fails for
@@ -15,19 +15,7 @@ pub fn start(alloc: Global, n: u32) -> Result<CoreState, AllocError>
 {
     let words = all_of(alloc, n)?;
     let mut workers = Row::new(alloc);
-    let seen = Seen {
-        missing: Row::new(alloc),
-        snapshot: Row::new(alloc),
-        loaded: 0,
-        pending: None,
-        entries: Row::new(alloc),
-    };
-    workers.push(Worker {
-        seen,
-        stage: Stage::Resting,
-        decisions: Row::new(alloc),
-        passes: Row::new(alloc),
-    })?;
+    workers.push(newcomer(alloc, Row::new(alloc)))?;
     Ok(CoreState {
         cands: n,
         next: 0,

@@ -176,21 +176,16 @@ pub(crate) fn clear_seen(
 {
     let missing = with_gone(alloc, n, &v.missing, x)?;
     let snapshot = v.snapshot.copied(alloc)?;
-    let kept = v.snapshot.copied(alloc)?;
-    let mut entries = v.entries.copied(alloc)?;
-    entries.push(Entry {
+    let mut seen = v.copied(alloc)?;
+    seen.entries.push(Entry {
         number,
         cand: CandId(x),
-        snapshot: kept,
+        snapshot,
         was_there,
     })?;
-    Ok(Seen {
-        missing,
-        snapshot,
-        loaded: v.loaded,
-        pending: None,
-        entries,
-    })
+    seen.missing = missing;
+    seen.pending = None;
+    Ok(seen)
 }
 
 // s, and then t.

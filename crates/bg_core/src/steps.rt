@@ -1,7 +1,7 @@
 //! One event.
 ghost use Rattle.std.specs.Prelude.{◌≡◌, ℕ, ◌<◌, length, slice_set, [], ◌∷◌, ◌++◌, Some, None, IfOk};
-ghost use Rattle.bg_words.specs.Core.{put, step, may_take, is_looking, with_stage, may_answer, answered, clears_pending, is_gone};
-ghost use Rattle.bg_words.specs.Steps.{drew, cleared, joined};
+ghost use Rattle.bg_words.specs.Core.{worker_of, put, step, may_take, is_looking, with_stage, may_answer, answered, clears_pending, is_gone};
+ghost use Rattle.bg_words.specs.Steps.{newcomer, drew, joined};
 ghost use Rattle.bg_words.specs.declared.machine.Stage.TheVariants.{Answered, Waiting};
 ghost use Rattle.bg_words.specs.declared.machine.Event.TheVariants.{Take, Load, Answers, Draw, Clear, Fork, Merge};
 
@@ -25,6 +25,25 @@ pub(crate) fn looks(stage: &Stage) -> bool
     matches!(stage, Stage::Looking(_))
 }
 
+// A worker that knows these candidates to be gone, and has done nothing.
+pub(crate) fn newcomer(alloc: Global, missing: Row<bool>) -> Worker
+    ensures { result ≡ worker_of (newcomer missing) }
+{
+    let seen = Seen {
+        missing,
+        snapshot: Row::new(alloc),
+        loaded: 0,
+        pending: None,
+        entries: Row::new(alloc),
+    };
+    Worker {
+        seen,
+        stage: Stage::Resting,
+        decisions: Row::new(alloc),
+        passes: Row::new(alloc),
+    }
+}
+
 pub(crate) fn put_worker(
     alloc: Global,
     s: &CoreState,
@@ -34,15 +53,9 @@ pub(crate) fn put_worker(
     requires { w < length s.now.workers }
     ensures { IfOk result (λ r. r ≡ put s.now w u) }
 {
-    let words = s.words.copied(alloc)?;
-    let mut workers = s.workers.copied(alloc)?;
-    workers.set(w as usize, u);
-    Ok(CoreState {
-        cands: s.cands,
-        next: s.next,
-        words,
-        workers,
-    })
+    let mut made = s.copied(alloc)?;
+    made.workers.set(w as usize, u);
+    Ok(made)
 }
 
 pub(crate) fn take(
@@ -59,23 +72,10 @@ pub(crate) fn take(
     if !takes(&u.stage) {
         return Ok(None);
     }
-    let missing = u.seen.missing.copied(alloc)?;
-    let entries = u.seen.entries.copied(alloc)?;
-    let decisions = u.decisions.copied(alloc)?;
-    let passes = u.passes.copied(alloc)?;
-    let seen = Seen {
-        missing,
-        snapshot: Row::new(alloc),
-        loaded: 0,
-        pending: u.seen.pending,
-        entries,
-    };
-    let made = Worker {
-        seen,
-        stage: Stage::Looking(task),
-        decisions,
-        passes,
-    };
+    let mut made = u.copied(alloc)?;
+    made.seen.snapshot = Row::new(alloc);
+    made.seen.loaded = 0;
+    made.stage = Stage::Looking(task);
     Ok(Some(put_worker(alloc, s, w, made)?))
 }
 
@@ -94,15 +94,8 @@ pub(crate) fn load(
         return Ok(None);
     }
     let seen = look(alloc, s.cands, &u.seen, i, &s.words)?;
-    let stage = u.stage.copied(alloc)?;
-    let decisions = u.decisions.copied(alloc)?;
-    let passes = u.passes.copied(alloc)?;
-    let made = Worker {
-        seen,
-        stage,
-        decisions,
-        passes,
-    };
+    let mut made = u.copied(alloc)?;
+    made.seen = seen;
     Ok(Some(put_worker(alloc, s, w, made)?))
 }
 
@@ -110,15 +103,9 @@ pub(crate) fn load(
 fn staged(alloc: Global, u: &Worker, stage: Stage) -> Result<Worker, AllocError>
     ensures { IfOk result (λ r. r ≡ with_stage u.now u.now.seen stage) }
 {
-    let seen = u.seen.copied(alloc)?;
-    let decisions = u.decisions.copied(alloc)?;
-    let passes = u.passes.copied(alloc)?;
-    Ok(Worker {
-        seen,
-        stage,
-        decisions,
-        passes,
-    })
+    let mut made = u.copied(alloc)?;
+    made.stage = stage;
+    Ok(made)
 }
 
 fn can_answer(n: u32, v: &Seen, t: &Task) -> bool
@@ -130,16 +117,10 @@ fn can_answer(n: u32, v: &Seen, t: &Task) -> bool
 fn passed(alloc: Global, u: &Worker, task: Task, used: Row<bool>) -> Result<Worker, AllocError>
     ensures { IfOk result (λ r. r ≡ record { seen = u.now.seen; stage = Answered; decisions = u.now.decisions; passes = u.now.passes ++ record { task = task; used = used } ∷ [] }) }
 {
-    let seen = u.seen.copied(alloc)?;
-    let decisions = u.decisions.copied(alloc)?;
-    let mut passes = u.passes.copied(alloc)?;
-    passes.push(Pass { task, used })?;
-    Ok(Worker {
-        seen,
-        stage: Stage::Answered,
-        decisions,
-        passes,
-    })
+    let mut made = u.copied(alloc)?;
+    made.passes.push(Pass { task, used })?;
+    made.stage = Stage::Answered;
+    Ok(made)
 }
 
 fn answer_task(
@@ -203,24 +184,10 @@ fn drawn(
 ) -> Result<Worker, AllocError>
     ensures { IfOk result (λ r. r ≡ with_stage u.now (drew u.now.seen number) (Waiting task unknown)) }
 {
-    let missing = u.seen.missing.copied(alloc)?;
-    let snapshot = u.seen.snapshot.copied(alloc)?;
-    let entries = u.seen.entries.copied(alloc)?;
-    let decisions = u.decisions.copied(alloc)?;
-    let passes = u.passes.copied(alloc)?;
-    let seen = Seen {
-        missing,
-        snapshot,
-        loaded: u.seen.loaded,
-        pending: Some(number),
-        entries,
-    };
-    Ok(Worker {
-        seen,
-        stage: Stage::Waiting(task, unknown),
-        decisions,
-        passes,
-    })
+    let mut made = u.copied(alloc)?;
+    made.seen.pending = Some(number);
+    made.stage = Stage::Waiting(task, unknown);
+    Ok(made)
 }
 
 pub(crate) fn draw(alloc: Global, s: &CoreState, w: u64) -> Result<Option<CoreState>, AllocError>
@@ -235,15 +202,9 @@ pub(crate) fn draw(alloc: Global, s: &CoreState, w: u64) -> Result<Option<CoreSt
                 return Ok(None);
             }
             let made = drawn(alloc, u, *task, *unknown, s.next)?;
-            let words = s.words.copied(alloc)?;
-            let mut workers = s.workers.copied(alloc)?;
-            workers.set(w as usize, made);
-            Ok(Some(CoreState {
-                cands: s.cands,
-                next: s.next + 1,
-                words,
-                workers,
-            }))
+            let mut after = put_worker(alloc, s, w, made)?;
+            after.next = s.next + 1;
+            Ok(Some(after))
         }
         Stage::Resting | Stage::Looking(_) | Stage::Answered | Stage::Waiting(..) | Stage::Gone => {
             Ok(None)
@@ -258,53 +219,20 @@ pub(crate) fn fork(alloc: Global, s: &CoreState) -> Result<Option<CoreState>, Al
         return Ok(None);
     };
     let missing = u.seen.missing.copied(alloc)?;
-    let words = s.words.copied(alloc)?;
-    let mut workers = s.workers.copied(alloc)?;
-    let seen = Seen {
-        missing,
-        snapshot: Row::new(alloc),
-        loaded: 0,
-        pending: None,
-        entries: Row::new(alloc),
-    };
-    workers.push(Worker {
-        seen,
-        stage: Stage::Resting,
-        decisions: Row::new(alloc),
-        passes: Row::new(alloc),
-    })?;
-    Ok(Some(CoreState {
-        cands: s.cands,
-        next: s.next,
-        words,
-        workers,
-    }))
+    let mut made = s.copied(alloc)?;
+    made.workers.push(newcomer(alloc, missing))?;
+    Ok(Some(made))
 }
 
-fn cleared_worker(
-    alloc: Global,
-    n: u32,
-    u: &Worker,
-    task: &Task,
-    unknown: bool,
-    number: u64,
-    was_there: bool,
-) -> Result<Worker, AllocError>
-    ensures { IfOk result (λ r. r ≡ record { seen = cleared n u.now.seen number task.now.cand.0 was_there; stage = Answered; decisions = u.now.decisions ++ record { target = task.now.target; unknown = unknown } ∷ []; passes = u.now.passes }) }
+// The worker, which knows this once it has decided so.
+fn decided(alloc: Global, u: &Worker, seen: Seen, decision: Decision) -> Result<Worker, AllocError>
+    ensures { IfOk result (λ r. r ≡ record { seen = seen; stage = Answered; decisions = u.now.decisions ++ decision ∷ []; passes = u.now.passes }) }
 {
-    let seen = clear_seen(alloc, n, &u.seen, number, task.cand.0, was_there)?;
-    let mut decisions = u.decisions.copied(alloc)?;
-    decisions.push(Decision {
-        target: task.target,
-        unknown,
-    })?;
-    let passes = u.passes.copied(alloc)?;
-    Ok(Worker {
-        seen,
-        stage: Stage::Answered,
-        decisions,
-        passes,
-    })
+    let mut made = u.copied(alloc)?;
+    made.decisions.push(decision)?;
+    made.seen = seen;
+    made.stage = Stage::Answered;
+    Ok(made)
 }
 
 fn clear_task(
@@ -322,16 +250,15 @@ fn clear_task(
         return Ok(None);
     };
     let there = has_at(&s.words, task.cand.0);
-    let made = cleared_worker(alloc, s.cands, u, task, unknown, number, there)?;
-    let words = cut(alloc, s.cands, &s.words, task.cand.0)?;
-    let mut workers = s.workers.copied(alloc)?;
-    workers.set(w as usize, made);
-    Ok(Some(CoreState {
-        cands: s.cands,
-        next: s.next,
-        words,
-        workers,
-    }))
+    let seen = clear_seen(alloc, s.cands, &u.seen, number, task.cand.0, there)?;
+    let decision = Decision {
+        target: task.target,
+        unknown,
+    };
+    let made = decided(alloc, u, seen, decision)?;
+    let mut after = put_worker(alloc, s, w, made)?;
+    after.words = cut(alloc, s.cands, &s.words, task.cand.0)?;
+    Ok(Some(after))
 }
 
 pub(crate) fn clear(alloc: Global, s: &CoreState, w: u64) -> Result<Option<CoreState>, AllocError>
@@ -381,28 +308,11 @@ pub(crate) fn merge(alloc: Global, s: &CoreState, w: u64) -> Result<Option<CoreS
         return Ok(None);
     }
     let made = merged(alloc, s.cands, u, o)?;
-    let words = s.words.copied(alloc)?;
-    let mut workers = s.workers.copied(alloc)?;
-    workers.set(0, made);
-    let over = Worker {
-        seen: Seen {
-            missing: Row::new(alloc),
-            snapshot: Row::new(alloc),
-            loaded: 0,
-            pending: None,
-            entries: Row::new(alloc),
-        },
-        stage: Stage::Gone,
-        decisions: Row::new(alloc),
-        passes: Row::new(alloc),
-    };
-    workers.set(w as usize, over);
-    Ok(Some(CoreState {
-        cands: s.cands,
-        next: s.next,
-        words,
-        workers,
-    }))
+    let mut after = put_worker(alloc, s, 0, made)?;
+    let mut over = newcomer(alloc, Row::new(alloc));
+    over.stage = Stage::Gone;
+    after.workers.set(w as usize, over);
+    Ok(Some(after))
 }
 
 /// The state after an event, None where the event isn't allowed.
