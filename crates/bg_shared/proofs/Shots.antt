@@ -19,7 +19,7 @@ use Rattle.bg_shared.specs.Table.{seens, Afford, Ruled}
 use Rattle.bg_words.specs.History.{Dropped, Ordered, entries_of}
 use Rattle.bg_shared.specs.Seats.{SameBeside, IsSnapshot}
 use Rattle.bg_words.proofs.Sets.{has-tabulate, or_left}
-use Rattle.bg_words.proofs.Words.{with_word-here, with_word-other}
+use Rattle.bg_words.proofs.Words.{length-tabulate, with_word-here, with_word-other}
 use Rattle.bg_words.proofs.Keeps as rule
 use Rattle.bg_words.proofs.History.{ordered_in, absent_in}
 
@@ -72,6 +72,7 @@ pub record Shooting (n i : ℕ) (old v : View) (got : Numbers) : Type 0 where
   pub grows : (c : ℕ) → c < n → has old.seen.missing c ≡ true → has v.seen.missing c ≡ true
   pub fresh : (k : ℕ) → k < i → get_or v.loads k 0 ≡ suc (get_or old.loads k 0)
   pub stale : (k : ℕ) → i ≤ k → get_or v.loads k 0 ≡ get_or old.loads k 0
+  pub long : 0 < i → length v.seen.snapshot ≡ n
 
 pub shoots_first : (n : ℕ) (v : View) (got : Numbers) → Shooting n 0 v v got
 shoots_first n v got = record {
@@ -83,6 +84,7 @@ shoots_first n v got = record {
   grows = λ c lt e. e;
   fresh = λ k z. absurd (omega arith);
   stale = λ k z. refl;
+  long = λ z. absurd (omega arith);
 }
 
 -- one more word
@@ -103,6 +105,7 @@ shoots n i x old v got s is room room_loads known = let w : View = looking v i (
       (λ here. ap (λ (j : ℕ). get_or (set v.loads i (suc (get_or v.loads i 0))) j 0) here ∙ (get_or-set_same v.loads i (suc (get_or v.loads i 0)) 0 room_loads ∙ (ap suc (s.stale i (omega arith)) ∙ ap (λ (j : ℕ). suc (get_or old.loads j 0)) (sym here))))
       (λ other. get_or-set_other v.loads i k (suc (get_or v.loads i 0)) 0 other ∙ s.fresh k (omega arith));
   stale = λ k far. get_or-set_other v.loads i k (suc (get_or v.loads i 0)) 0 (λ z. absurd (omega arith)) ∙ s.stale k (omega arith);
+  long = λ _. length-tabulate v.cands (λ c. (eqb (c / 64) i && bit x (c % 64)) || (ltb (c / 64) i && has v.seen.snapshot c)) ∙ is;
 } where
   word_here : (c : ℕ) → c < n → c / 64 ≡ i → has (with_word got i x) c ≡ bit x (c % 64)
   word_here c lt here = with_word-here got i x c (omega arith) here
@@ -140,6 +143,7 @@ shot_whole n old v got s = record {
   fresh = λ k lt. s.fresh k lt;
   shot = λ c lt. sym (s.shot c lt (omega arith));
   whole = λ some_there. let l = s.loaded (omega arith) in (let a = l.0 in omega arith, l.1);
+  long = λ some_there. s.long (omega arith);
 } where
   twice : (b : Bool) → not (not b) ≡ b
   twice true = refl

@@ -45,7 +45,7 @@ pub record SameBeside (old new : View) : Type 0 where
   pub entries : new.seen.entries ≡ old.seen.entries
   pub loads : length new.loads ≡ length old.loads
 
--- A snapshot of n candidates: the set is those outside what the seat then knows to be gone, which has all that it knew before; each word was loaded once more; and the view has the set as its whole snapshot, from which nothing is drawn
+-- A snapshot of n candidates: the set is those outside what the seat then knows to be gone, which has all that it knew before; each word was loaded once more; and the view has the set as its whole snapshot, from which nothing is drawn and which has a truth value for each candidate
 pub record IsSnapshot (n : ℕ) (old new : View) (set : Numbers) : Type 0 where
   pub same : SameBeside old new
   pub outside : (c : ℕ) → c < n → has set c ≡ not (has new.seen.missing c)
@@ -53,6 +53,7 @@ pub record IsSnapshot (n : ℕ) (old new : View) (set : Numbers) : Type 0 where
   pub fresh : (k : ℕ) → k < words_for n → slice_index new.loads k ≡ suc (slice_index old.loads k)
   pub shot : (c : ℕ) → c < n → has set c ≡ has new.seen.snapshot c
   pub whole : 0 < n → (n ≤ 64 * new.seen.loaded) × (new.undrawn ≡ true)
+  pub long : 0 < n → length new.seen.snapshot ≡ n
 
 -- a draw may be made for candidate c from this set: it is the seat's last snapshot, whole, and nothing was drawn from it
 pub record MayDraw (n : ℕ) (v : View) (c : ℕ) (set : Numbers) : Type 0 where

@@ -1,5 +1,5 @@
 -- The table of the shared set: word 0 is the draw counter, and the candidate words follow.
-use Rattle.std.specs.Prelude.{◌≡◌, ℕ, suc, pred, ◌+◌, ◌*◌, ◌/◌, ◌%◌, ◌<◌, ◌≤◌, true, false, List, [], ◌∷◌, map, length, Option, Some, None}
+use Rattle.std.specs.Prelude.{◌≡◌, ℕ, suc, pred, ◌+◌, ◌*◌, ◌/◌, ◌%◌, ◌<◌, ◌≤◌, true, false, List, [], ◌∷◌, map, length, get_or, nat_lt, Option, Some, None}
 use mathlib.Core.Option.{some}
 use lib.ListN.{get_elem?}
 use Rattle.atomic_table.specs.Table.{State, Me, Step}
@@ -11,6 +11,12 @@ use Rattle.bg_words.specs.declared.machine.Entry.{Entry}
 use Rattle.bg_words.specs.Sets.{has, present, bit, words_for, mask}
 use Rattle.bg_shared.specs.Views.{looking, drawing, clearing}
 use Rattle.bg_words.specs.Rule.{Kept}
+
+-- the words of a table of n candidates as it opens: nothing is drawn, and each candidate is present
+pub record IsOpening (n : ℕ) (words : List ℕ) : Type 0 where
+  pub length : length words ≡ words_for n + 1
+  pub first : get_or words 0 0 ≡ 0
+  pub full : (j k : ℕ) → j < words_for n → k < 64 → bit (get_or words (j + 1) 0) k ≡ nat_lt (j * 64 + k) n
 
 -- a seat draws fewer than 2 ^ 32 numbers, and a seat that is in no other's stead has nothing
 pub record Afford (n : ℕ) (v : View) : Type 0 where

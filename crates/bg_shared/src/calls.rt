@@ -8,6 +8,7 @@ ghost use Rattle.bg_words.specs.declared.machine.Entry.{Entry};
 ghost use Rattle.bg_words.specs.Sets.{has};
 ghost use Rattle.bg_words.specs.History.{Dropped, Ordered};
 ghost use Rattle.bg_shared.specs.Views.{opening_view, forking, forked, joining, drawing, clearing};
+ghost use Rattle.bg_shared.specs.Table.{IsOpening};
 ghost use Rattle.bg_shared.specs.Seats.{view, IsOf, IsFirst, IsPending, IsIdle, IsSnapshot, MayDraw};
 
 use crate::shared::{CandSeat, Cleared, Clearing, Drawing, Forking, Looking, Shared, Size};
@@ -15,6 +16,19 @@ use atomic_table::Table;
 use bg_base::CandId;
 use bg_words::{CandSet, full_word};
 use std::alloc::{AllocError, Global};
+
+// The words of a table as it opens.
+fn opening_words(alloc: Global, cands: u32) -> Result<Vec<u64>, AllocError>
+    ensures { IfOk result (λ w. IsOpening cands w.items) }
+{
+    let count = cands.div_ceil(64);
+    let mut words = Vec::with_capacity(alloc, count as usize + 1)?;
+    words.push_reserved(0);
+    for i in 0..count {
+        words.push_reserved(full_word(cands, i));
+    }
+    Ok(words)
+}
 
 impl Shared {
     /// How many candidates were declared.
@@ -32,12 +46,7 @@ impl Shared {
         ensures seat { IfOk result (λ r. IsOf r.1 r.0 × (view r.1 ≡ opening_view cands seats)) }
     {
         let size = Size { cands, seats };
-        let count = cands.div_ceil(64);
-        let mut words = Vec::with_capacity(alloc, count as usize + 1)?;
-        words.push(0)?;
-        for i in 0..count {
-            words.push(full_word(cands, i))?;
-        }
+        let words = opening_words(alloc, cands)?;
         let (table, seat) = Table::of_words(alloc, words.as_slice(), &size)?;
         let shared = Shared {
             table,

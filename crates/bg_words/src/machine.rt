@@ -34,7 +34,7 @@ pub struct Task {
 }
 
 /// Where a worker stands.
-#[derive(Drop)]
+#[derive(Clone, Copy)]
 pub enum Stage {
     /// It has taken nothing yet.
     Resting,

@@ -28,7 +28,7 @@ impl CandSet {
         let count = n.div_ceil(64);
         let mut words = Vec::with_capacity(alloc, count as usize)?;
         for i in 0..count {
-            words.push(if full { full_word(n, i) } else { 0 })?;
+            words.push_reserved(if full { full_word(n, i) } else { 0 });
         }
         Ok(CandSet { words, n })
     }

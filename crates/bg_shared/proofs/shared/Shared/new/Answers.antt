@@ -1,5 +1,4 @@
-use Rattle.std.proofs.Common.{◌≡◌, ℕ, List, [], arith, sym, subst}
-use Rattle.bg_words.specs.Sets.{words_for}
+use Rattle.std.proofs.Common.{ℕ, List, [], sym, subst}
 use Rattle.bg_shared.specs.Views.{opening_view}
 use Rattle.bg_shared.specs.Table.{Ruled}
 use Rattle.atomic_table.specs.Table.{opening}
@@ -7,7 +6,5 @@ use Rattle.bg_shared.proofs.Shots.{starts}
 use Rattle.bg_shared.proofs.shared.Shared.new.Goals as goal
 
 pub of_words-requires : goal.of_words-requires
-of_words-requires c = let i = c.loop-i.invariant in let n : ℕ = c.args.cands in let d = c.div_ceil-count.ensures in let stop = c.loop-i-test.false in let end = c.loop-i.auto.i-end in let len = i.length in
-    let whole : c.loop-i.i ≡ words_for n = omega arith in
-    subst (λ (l : List ℕ). Ruled n c.args.seats (opening l [] (opening_view n c.args.seats))) (sym c.as_slice.ensures.value)
-    (starts c.loop-i.words.items n c.args.seats c.requires.0 (omega arith) i.first (λ j k lt small. i.words j k (omega arith) small))
+of_words-requires c = let o = c.in_ok-words.ensures in subst (λ (l : List ℕ). Ruled c.args.cands c.args.seats (opening l [] (opening_view c.args.cands c.args.seats))) (sym c.as_slice.ensures.value)
+    (starts c.in_ok-words.words.items c.args.cands c.args.seats c.requires.0 o.length o.first o.full)
