@@ -8,3 +8,4 @@ mod Spoken
 mod Reading
 pub mod Rows
 pub mod Steps
+pub mod Loops

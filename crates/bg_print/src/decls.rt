@@ -10,7 +10,7 @@ ghost use Rattle.bg_print.specs.Printed.{synonym_doc, new_type_doc, typed_doc, f
 
 use crate::exprs::put_expr;
 use crate::names::{put_name, put_names};
-use crate::parts::{put_attributes, put_free, put_groups, put_says};
+use crate::parts::{put_attributes, put_clause, put_groups};
 use crate::put::put_gap;
 use crate::stmts::put_stmts;
 use crate::types::put_type;
@@ -37,8 +37,7 @@ fn put_new_type(out: &mut Vec<u8>, decl: &TypeDecl) -> Result<(), AllocError>
     ensures { OnOk result (out.new.items ≡ out.old.items ++ text (new_type_doc (new_type_of decl.now))) }
 {
     put_name(out, &decl.name)?;
-    put_synonym(out, &decl.synonym)?;
-    Ok(())
+    put_synonym(out, &decl.synonym)
 }
 
 fn put_new_types(out: &mut Vec<u8>, decls: &[TypeDecl]) -> Result<(), AllocError>
@@ -69,8 +68,7 @@ fn put_function_arg(out: &mut Vec<u8>, arg: &FunctionArg) -> Result<(), AllocErr
     ensures { OnOk result (out.new.items ≡ out.old.items ++ text (fun_arg_doc (fun_arg_of arg.now))) }
 {
     put_typed(out, &arg.name)?;
-    put_type(out, &arg.ty)?;
-    Ok(())
+    put_type(out, &arg.ty)
 }
 
 fn put_function_args(out: &mut Vec<u8>, args: &[FunctionArg]) -> Result<(), AllocError>
@@ -147,8 +145,7 @@ fn put_constants(out: &mut Vec<u8>, constants: &Constants) -> Result<(), AllocEr
     put_names(out, &constants.formals.names)?;
     out.extend_from_slice(b": ")?;
     put_type(out, &constants.formals.ty)?;
-    out.extend_from_slice(b";")?;
-    Ok(())
+    out.extend_from_slice(b";")
 }
 
 fn put_variables(out: &mut Vec<u8>, variables: &Variables) -> Result<(), AllocError>
@@ -156,8 +153,7 @@ fn put_variables(out: &mut Vec<u8>, variables: &Variables) -> Result<(), AllocEr
 {
     out.extend_from_slice(b"var ")?;
     put_groups(out, &variables.groups)?;
-    out.extend_from_slice(b";")?;
-    Ok(())
+    out.extend_from_slice(b";")
 }
 
 fn put_results(out: &mut Vec<u8>, results: &Option<Vec<Formals>>) -> Result<(), AllocError>
@@ -179,8 +175,7 @@ fn put_signature(out: &mut Vec<u8>, signature: &Signature) -> Result<(), AllocEr
     out.extend_from_slice(b"(")?;
     put_groups(out, &signature.params)?;
     out.extend_from_slice(b")")?;
-    put_results(out, &signature.results)?;
-    Ok(())
+    put_results(out, &signature.results)
 }
 
 fn put_modified(out: &mut Vec<u8>, names: &[Name]) -> Result<(), AllocError>
@@ -190,30 +185,19 @@ fn put_modified(out: &mut Vec<u8>, names: &[Name]) -> Result<(), AllocError>
         return Ok(());
     }
     out.extend_from_slice(b" ")?;
-    put_names(out, names)?;
-    Ok(())
+    put_names(out, names)
 }
 
 fn put_requires(out: &mut Vec<u8>, clause: &TreeClause) -> Result<(), AllocError>
     ensures { OnOk result (out.new.items ≡ out.old.items ++ text (line 2 (clause_doc kinds.Requires (clause_of clause.now)))) }
 {
-    out.extend_from_slice(b"  ")?;
-    put_free(out, clause.is_free)?;
-    out.extend_from_slice(b"requires ")?;
-    put_says(out, clause)?;
-    out.extend_from_slice(b"\n")?;
-    Ok(())
+    put_clause(out, 2, b"requires ", clause)
 }
 
 fn put_ensures(out: &mut Vec<u8>, clause: &TreeClause) -> Result<(), AllocError>
     ensures { OnOk result (out.new.items ≡ out.old.items ++ text (line 2 (clause_doc kinds.Ensures (clause_of clause.now)))) }
 {
-    out.extend_from_slice(b"  ")?;
-    put_free(out, clause.is_free)?;
-    out.extend_from_slice(b"ensures ")?;
-    put_says(out, clause)?;
-    out.extend_from_slice(b"\n")?;
-    Ok(())
+    put_clause(out, 2, b"ensures ", clause)
 }
 
 fn put_modifies(out: &mut Vec<u8>, names: &[Name]) -> Result<(), AllocError>
@@ -221,8 +205,7 @@ fn put_modifies(out: &mut Vec<u8>, names: &[Name]) -> Result<(), AllocError>
 {
     out.extend_from_slice(b"  modifies")?;
     put_modified(out, names)?;
-    out.extend_from_slice(b";\n")?;
-    Ok(())
+    out.extend_from_slice(b";\n")
 }
 
 fn put_spec(out: &mut Vec<u8>, spec: &Spec) -> Result<(), AllocError>
@@ -249,8 +232,7 @@ fn put_local(out: &mut Vec<u8>, variables: &Variables) -> Result<(), AllocError>
 {
     out.extend_from_slice(b"  ")?;
     put_variables(out, variables)?;
-    out.extend_from_slice(b"\n")?;
-    Ok(())
+    out.extend_from_slice(b"\n")
 }
 
 fn put_locals(out: &mut Vec<u8>, locals: &[Variables]) -> Result<(), AllocError>
@@ -268,8 +250,7 @@ fn put_body(out: &mut Vec<u8>, body: &Body) -> Result<(), AllocError>
     out.extend_from_slice(b"{\n")?;
     put_locals(out, &body.locals)?;
     put_stmts(out, 2, &body.stmts)?;
-    out.extend_from_slice(b"}\n")?;
-    Ok(())
+    out.extend_from_slice(b"}\n")
 }
 
 /// What follows a procedure's signature.
@@ -296,8 +277,7 @@ fn put_procedure(out: &mut Vec<u8>, procedure: &Procedure) -> Result<(), AllocEr
     put_attributes(out, &procedure.attributes)?;
     put_name(out, &procedure.name)?;
     put_signature(out, &procedure.signature)?;
-    put_tail(out, &procedure.specs, &procedure.body)?;
-    Ok(())
+    put_tail(out, &procedure.specs, &procedure.body)
 }
 
 fn put_implementation(out: &mut Vec<u8>, implementation: &Implementation) -> Result<(), AllocError>
@@ -308,8 +288,7 @@ fn put_implementation(out: &mut Vec<u8>, implementation: &Implementation) -> Res
     put_name(out, &implementation.name)?;
     put_signature(out, &implementation.signature)?;
     out.extend_from_slice(b"\n")?;
-    put_body(out, &implementation.body)?;
-    Ok(())
+    put_body(out, &implementation.body)
 }
 
 fn put_type_decl(
@@ -322,8 +301,7 @@ fn put_type_decl(
     out.extend_from_slice(b"type ")?;
     put_attributes(out, attributes)?;
     put_new_types(out, decls)?;
-    out.extend_from_slice(b";\n")?;
-    Ok(())
+    out.extend_from_slice(b";\n")
 }
 
 fn put_axiom(out: &mut Vec<u8>, attributes: &[Attribute], e: &TreeExpr) -> Result<(), AllocError>
@@ -332,8 +310,7 @@ fn put_axiom(out: &mut Vec<u8>, attributes: &[Attribute], e: &TreeExpr) -> Resul
     out.extend_from_slice(b"axiom ")?;
     put_attributes(out, attributes)?;
     put_expr(out, e)?;
-    out.extend_from_slice(b";\n")?;
-    Ok(())
+    out.extend_from_slice(b";\n")
 }
 
 fn put_decl(out: &mut Vec<u8>, decl: &Decl) -> Result<(), AllocError>

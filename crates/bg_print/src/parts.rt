@@ -1,13 +1,14 @@
 //! Attributes, groups of names, clauses and left sides.
 ghost use Rattle.std.specs.Prelude.{◌≡◌, ◌++◌, OnOk, map};
+ghost use Rattle.bg_text.specs.declared.token.Kind.{Kind};
 ghost use Rattle.bg_text.specs.declared.token.Kind.TheVariants as kinds;
 ghost use Rattle.bg_text.specs.Views.{arg_of, attr_of, group_of, clause_of, guard_of, bracket_of, target_of, call_of, id_of};
-ghost use Rattle.bg_print.specs.Docs.{text, each, commas, in_brackets};
-ghost use Rattle.bg_print.specs.Parts.{arg_doc, args_doc, attr_doc, group_doc, word_doc, says_doc, guard_doc, bracket_doc, target_doc, takes_doc, invoked_doc, call_doc};
+ghost use Rattle.bg_print.specs.Docs.{Say, Space, ◌⨾◌, text, each, commas, in_brackets, line};
+ghost use Rattle.bg_print.specs.Parts.{arg_doc, args_doc, attr_doc, group_doc, word_doc, says_doc, clause_doc, guard_doc, bracket_doc, target_doc, takes_doc, invoked_doc, call_doc};
 
 use crate::exprs::{put_expr, put_exprs};
 use crate::names::{put_name, put_names};
-use crate::put::put_gap;
+use crate::put::{put_gap, put_margin};
 use crate::types::put_type;
 use bg_text::{
     Attribute, AttributeArg, Formals, Name, TreeCall, TreeClause, TreeGuard, TreeIndices,
@@ -44,8 +45,7 @@ fn put_args(out: &mut Vec<u8>, args: &[AttributeArg]) -> Result<(), AllocError>
         return Ok(());
     }
     out.extend_from_slice(b" ")?;
-    put_arg_list(out, args)?;
-    Ok(())
+    put_arg_list(out, args)
 }
 
 fn put_attribute(out: &mut Vec<u8>, attribute: &Attribute) -> Result<(), AllocError>
@@ -54,8 +54,7 @@ fn put_attribute(out: &mut Vec<u8>, attribute: &Attribute) -> Result<(), AllocEr
     out.extend_from_slice(b"{:")?;
     put_name(out, &attribute.name)?;
     put_args(out, &attribute.args)?;
-    out.extend_from_slice(b"} ")?;
-    Ok(())
+    out.extend_from_slice(b"} ")
 }
 
 pub fn put_attributes(out: &mut Vec<u8>, attributes: &[Attribute]) -> Result<(), AllocError>
@@ -73,8 +72,7 @@ fn put_group(out: &mut Vec<u8>, group: &Formals) -> Result<(), AllocError>
     put_attributes(out, &group.attributes)?;
     put_names(out, &group.names)?;
     out.extend_from_slice(b": ")?;
-    put_type(out, &group.ty)?;
-    Ok(())
+    put_type(out, &group.ty)
 }
 
 /// Groups of names with commas between them.
@@ -90,7 +88,7 @@ pub fn put_groups(out: &mut Vec<u8>, groups: &[Formals]) -> Result<(), AllocErro
     Ok(())
 }
 
-pub fn put_free(out: &mut Vec<u8>, is_free: bool) -> Result<(), AllocError>
+fn put_free(out: &mut Vec<u8>, is_free: bool) -> Result<(), AllocError>
     ensures { OnOk result (out.new.items ≡ out.old.items ++ text (word_doc is_free kinds.Free)) }
 {
     if is_free {
@@ -101,13 +99,28 @@ pub fn put_free(out: &mut Vec<u8>, is_free: bool) -> Result<(), AllocError>
 }
 
 /// What a clause says, with its attributes.
-pub fn put_says(out: &mut Vec<u8>, clause: &TreeClause) -> Result<(), AllocError>
+fn put_says(out: &mut Vec<u8>, clause: &TreeClause) -> Result<(), AllocError>
     ensures { OnOk result (out.new.items ≡ out.old.items ++ text (says_doc (clause_of clause.now))) }
 {
     put_attributes(out, &clause.attributes)?;
     put_expr(out, &clause.formula)?;
-    out.extend_from_slice(b";")?;
-    Ok(())
+    out.extend_from_slice(b";")
+}
+
+/// A clause on a line of its own, at an indent of n, where its first word is given with the space behind it.
+pub fn put_clause(
+    out: &mut Vec<u8>,
+    n: usize,
+    word: &[u8],
+    clause: &TreeClause,
+) -> Result<(), AllocError>
+    ensures { (k : Kind) → word.now ≡ text (Say k ⨾ Space) → OnOk result (out.new.items ≡ out.old.items ++ text (line n (clause_doc k (clause_of clause.now)))) }
+{
+    put_margin(out, n)?;
+    put_free(out, clause.is_free)?;
+    out.extend_from_slice(word)?;
+    put_says(out, clause)?;
+    out.extend_from_slice(b"\n")
 }
 
 pub fn put_guard(out: &mut Vec<u8>, guard: &TreeGuard) -> Result<(), AllocError>
@@ -128,8 +141,7 @@ fn put_target_bracket(out: &mut Vec<u8>, bracket: &TreeIndices) -> Result<(), Al
 {
     out.extend_from_slice(b"[")?;
     put_exprs(out, &bracket.indices)?;
-    out.extend_from_slice(b"]")?;
-    Ok(())
+    out.extend_from_slice(b"]")
 }
 
 fn put_target_brackets(out: &mut Vec<u8>, brackets: &[TreeIndices]) -> Result<(), AllocError>
@@ -145,8 +157,7 @@ fn put_target(out: &mut Vec<u8>, target: &TreeTarget) -> Result<(), AllocError>
     ensures { OnOk result (out.new.items ≡ out.old.items ++ text (target_doc (target_of target.now))) }
 {
     put_name(out, &target.name)?;
-    put_target_brackets(out, &target.brackets)?;
-    Ok(())
+    put_target_brackets(out, &target.brackets)
 }
 
 /// Left sides with commas between them.
@@ -170,8 +181,7 @@ fn put_takes(out: &mut Vec<u8>, names: &[Name]) -> Result<(), AllocError>
         return Ok(());
     }
     put_names(out, names)?;
-    out.extend_from_slice(b" := ")?;
-    Ok(())
+    out.extend_from_slice(b" := ")
 }
 
 fn put_invoked(out: &mut Vec<u8>, call: &TreeCall) -> Result<(), AllocError>
@@ -180,8 +190,7 @@ fn put_invoked(out: &mut Vec<u8>, call: &TreeCall) -> Result<(), AllocError>
     put_name(out, &call.procedure)?;
     out.extend_from_slice(b"(")?;
     put_exprs(out, &call.args)?;
-    out.extend_from_slice(b");")?;
-    Ok(())
+    out.extend_from_slice(b");")
 }
 
 pub fn put_call(out: &mut Vec<u8>, call: &TreeCall) -> Result<(), AllocError>
@@ -190,6 +199,5 @@ pub fn put_call(out: &mut Vec<u8>, call: &TreeCall) -> Result<(), AllocError>
     out.extend_from_slice(b"call ")?;
     put_attributes(out, &call.attributes)?;
     put_takes(out, &call.takes)?;
-    put_invoked(out, call)?;
-    Ok(())
+    put_invoked(out, call)
 }

@@ -11,7 +11,7 @@ ghost use Rattle.bg_print.specs.Rows.{stmt_doc, tree_block, tree_arms_from};
 
 use crate::exprs::put_exprs;
 use crate::names::{put_name, put_names};
-use crate::parts::{put_call, put_free, put_guard, put_says, put_targets};
+use crate::parts::{put_call, put_clause, put_guard, put_targets};
 use crate::put::{deeper, put_margin};
 use bg_text::{Name, TreeArm, TreeCall, TreeClause, TreeExpr, TreeGuard, TreeStmt, TreeTarget};
 use std::alloc::AllocError;
@@ -21,41 +21,25 @@ fn put_label(out: &mut Vec<u8>, n: usize, name: &Name) -> Result<(), AllocError>
 {
     put_margin(out, n)?;
     put_name(out, name)?;
-    out.extend_from_slice(b":\n")?;
-    Ok(())
+    out.extend_from_slice(b":\n")
 }
 
 fn put_assert(out: &mut Vec<u8>, n: usize, clause: &TreeClause) -> Result<(), AllocError>
     ensures { OnOk result (out.new.items ≡ out.old.items ++ text (line n (clause_doc kinds.Assert (clause_of clause.now)))) }
 {
-    put_margin(out, n)?;
-    put_free(out, clause.is_free)?;
-    out.extend_from_slice(b"assert ")?;
-    put_says(out, clause)?;
-    out.extend_from_slice(b"\n")?;
-    Ok(())
+    put_clause(out, n, b"assert ", clause)
 }
 
 fn put_assume(out: &mut Vec<u8>, n: usize, clause: &TreeClause) -> Result<(), AllocError>
     ensures { OnOk result (out.new.items ≡ out.old.items ++ text (line n (clause_doc kinds.Assume (clause_of clause.now)))) }
 {
-    put_margin(out, n)?;
-    put_free(out, clause.is_free)?;
-    out.extend_from_slice(b"assume ")?;
-    put_says(out, clause)?;
-    out.extend_from_slice(b"\n")?;
-    Ok(())
+    put_clause(out, n, b"assume ", clause)
 }
 
 fn put_invariant(out: &mut Vec<u8>, n: usize, clause: &TreeClause) -> Result<(), AllocError>
     ensures { OnOk result (out.new.items ≡ out.old.items ++ text (line n (clause_doc kinds.Invariant (clause_of clause.now)))) }
 {
-    put_margin(out, n)?;
-    put_free(out, clause.is_free)?;
-    out.extend_from_slice(b"invariant ")?;
-    put_says(out, clause)?;
-    out.extend_from_slice(b"\n")?;
-    Ok(())
+    put_clause(out, n, b"invariant ", clause)
 }
 
 fn put_havoc(out: &mut Vec<u8>, n: usize, names: &[Name]) -> Result<(), AllocError>
@@ -64,8 +48,7 @@ fn put_havoc(out: &mut Vec<u8>, n: usize, names: &[Name]) -> Result<(), AllocErr
     put_margin(out, n)?;
     out.extend_from_slice(b"havoc ")?;
     put_names(out, names)?;
-    out.extend_from_slice(b";\n")?;
-    Ok(())
+    out.extend_from_slice(b";\n")
 }
 
 fn put_assign(
@@ -80,8 +63,7 @@ fn put_assign(
     put_targets(out, targets)?;
     out.extend_from_slice(b" := ")?;
     put_exprs(out, values)?;
-    out.extend_from_slice(b";\n")?;
-    Ok(())
+    out.extend_from_slice(b";\n")
 }
 
 fn put_invoke(out: &mut Vec<u8>, n: usize, call: &TreeCall) -> Result<(), AllocError>
@@ -89,8 +71,7 @@ fn put_invoke(out: &mut Vec<u8>, n: usize, call: &TreeCall) -> Result<(), AllocE
 {
     put_margin(out, n)?;
     put_call(out, call)?;
-    out.extend_from_slice(b"\n")?;
-    Ok(())
+    out.extend_from_slice(b"\n")
 }
 
 fn put_behind(out: &mut Vec<u8>, name: &Option<Name>) -> Result<(), AllocError>
@@ -111,8 +92,7 @@ fn put_break(out: &mut Vec<u8>, n: usize, name: &Option<Name>) -> Result<(), All
     put_margin(out, n)?;
     out.extend_from_slice(b"break")?;
     put_behind(out, name)?;
-    out.extend_from_slice(b";\n")?;
-    Ok(())
+    out.extend_from_slice(b";\n")
 }
 
 fn put_goto(out: &mut Vec<u8>, n: usize, names: &[Name]) -> Result<(), AllocError>
@@ -121,16 +101,14 @@ fn put_goto(out: &mut Vec<u8>, n: usize, names: &[Name]) -> Result<(), AllocErro
     put_margin(out, n)?;
     out.extend_from_slice(b"goto ")?;
     put_names(out, names)?;
-    out.extend_from_slice(b";\n")?;
-    Ok(())
+    out.extend_from_slice(b";\n")
 }
 
 fn put_return(out: &mut Vec<u8>, n: usize) -> Result<(), AllocError>
     ensures { OnOk result (out.new.items ≡ out.old.items ++ text (line n (Say kinds.Return ⨾ Say kinds.Semicolon))) }
 {
     put_margin(out, n)?;
-    out.extend_from_slice(b"return;\n")?;
-    Ok(())
+    out.extend_from_slice(b"return;\n")
 }
 
 fn put_invariants(out: &mut Vec<u8>, n: usize, clauses: &[TreeClause]) -> Result<(), AllocError>
@@ -156,8 +134,7 @@ fn put_while(
     put_guard(out, guard)?;
     out.extend_from_slice(b"\n")?;
     let inner = deeper(n)?;
-    put_invariants(out, inner, clauses)?;
-    Ok(())
+    put_invariants(out, inner, clauses)
 }
 
 fn put_else_if(out: &mut Vec<u8>, behind: bool) -> Result<(), AllocError>
@@ -214,8 +191,7 @@ fn put_if(out: &mut Vec<u8>, n: usize, arms: &[TreeArm]) -> Result<(), AllocErro
     put_margin(out, n)?;
     out.extend_from_slice(b"if")?;
     put_arms(out, n, arms)?;
-    out.extend_from_slice(b"\n")?;
-    Ok(())
+    out.extend_from_slice(b"\n")
 }
 
 /// Statements in braces.
@@ -227,8 +203,7 @@ fn put_block(out: &mut Vec<u8>, n: usize, stmts: &[TreeStmt]) -> Result<(), Allo
     let inner = deeper(n)?;
     put_list(out, inner, stmts)?;
     put_margin(out, n)?;
-    out.extend_from_slice(b"}")?;
-    Ok(())
+    out.extend_from_slice(b"}")
 }
 
 #[cycle(print_stmt)]
@@ -249,8 +224,7 @@ fn put_arm(out: &mut Vec<u8>, n: usize, arm: &TreeArm) -> Result<(), AllocError>
     out.extend_from_slice(b" ")?;
     put_guard(out, &arm.guard)?;
     out.extend_from_slice(b" ")?;
-    put_block(out, n, &arm.block)?;
-    Ok(())
+    put_block(out, n, &arm.block)
 }
 
 /// The arms of a chain, with ` else if` between them.

@@ -48,8 +48,7 @@ fn put_type_bracket(out: &mut Vec<u8>, bracket: &TypeBracket) -> Result<(), Allo
 {
     out.extend_from_slice(b"[")?;
     put_types(out, &bracket.indices)?;
-    out.extend_from_slice(b"]")?;
-    Ok(())
+    out.extend_from_slice(b"]")
 }
 
 #[cycle(print_type)]

@@ -1,0 +1,6 @@
+use Rattle.std.proofs.Common.{refl}
+use Rattle.bg_text.specs.declared.token.Kind.TheVariants as kinds
+use Rattle.bg_print.proofs.decls.put_ensures.Goals as goal
+
+pub returns : goal.returns
+returns c = c.put_clause.ensures kinds.Ensures refl
