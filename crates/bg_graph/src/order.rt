@@ -10,7 +10,7 @@ use std::alloc::{AllocError, Global};
 
 /// What is known of a graph: a rank for each node, below the number of nodes, so that each edge goes from a node to one of
 /// smaller rank; or the first node that reaches itself.
-#[derive(Debug, PartialEq, Eq, Drop)]
+#[derive(PartialEq, Eq, Drop)]
 pub enum Order {
     Acyclic(Vec<u32>),
     Cyclic(u32),

@@ -45,3 +45,12 @@ returns-clause-calm c =
     (λ none. omega arith)) in
     let P : List Leg → Type 0 = λ l. Walking (graph_of c.args.edges.now) c.args.spots.now c.loop-leg.spots c.loop-leg.held.items c.loop-leg.starts.items (reverse l) c.args.first c.loop-leg.first in
     ends (graph_of c.args.edges.now) c.args.spots.now c.loop-leg.spots c.loop-leg.held.items c.loop-leg.starts.items c.args.first c.loop-leg.first (subst P legs c.loop-leg.invariant.walking)
+
+pub returns-clause-still : goal.returns-clause-still
+returns-clause-still c = c.loop-leg.invariant.walking.still
+
+pub returns-clause-root : goal.returns-clause-root
+returns-clause-root c = c.loop-leg.invariant.started
+
+pub returns-clause-low : goal.returns-clause-low
+returns-clause-low c = c.loop-leg.invariant.walking.low
