@@ -6,7 +6,7 @@ use bg_base::Pos;
 use std::alloc::{AllocError, AllocFailed};
 
 /// The rules that names have. Of two faults at one place the first in this list is answered.
-#[derive(Clone, Copy, PartialEq, Eq, Debug)]
+#[derive(Clone, Copy)]
 pub enum FaultKind {
     /// A use without a visible declaration.
     UnknownName,
@@ -29,7 +29,7 @@ pub enum FaultKind {
 }
 
 /// A broken rule, where, and the name that breaks it; no name where the rule has none.
-#[derive(Debug, Drop)]
+#[derive(Drop)]
 pub struct NameFault {
     pub kind: FaultKind,
     pub pos: Pos,
@@ -37,7 +37,7 @@ pub struct NameFault {
 }
 
 /// Why there is no resolved program.
-#[derive(Debug, Drop)]
+#[derive(Drop)]
 pub enum ResolveError {
     /// The first fault of the text.
     Fault(NameFault),

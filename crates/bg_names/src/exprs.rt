@@ -102,29 +102,46 @@ pub fn expr<'a>(
         TreeExpr::Apply(name, args) => apply(alloc, scope, notes, name, args),
         TreeExpr::Old(pos, e) => {
             note_unless(notes, scope.has_old, FaultKind::BadOld, *pos, &[]);
-            let made = expr(alloc, scope, notes, e)?;
-            Ok(Expr::Old(*pos, Box::new(alloc, made)?))
+            let made = boxed(alloc, scope, notes, e)?;
+            Ok(Expr::Old(*pos, made))
         }
         TreeExpr::Parens(pos, e) => {
-            let made = expr(alloc, scope, notes, e)?;
-            Ok(Expr::Parens(*pos, Box::new(alloc, made)?))
+            let made = boxed(alloc, scope, notes, e)?;
+            Ok(Expr::Parens(*pos, made))
         }
         TreeExpr::Prefix(signs, e) => {
             let signs = signs.to_vec(alloc)?;
-            let made = expr(alloc, scope, notes, e)?;
-            Ok(Expr::Prefix(signs, Box::new(alloc, made)?))
+            let made = boxed(alloc, scope, notes, e)?;
+            Ok(Expr::Prefix(signs, made))
         }
         TreeExpr::Postfix(e, brackets) => {
-            let made = expr(alloc, scope, notes, e)?;
+            let made = boxed(alloc, scope, notes, e)?;
             let behind = brackets_behind(alloc, scope, notes, brackets)?;
-            Ok(Expr::Postfix(Box::new(alloc, made)?, behind))
+            Ok(Expr::Postfix(made, behind))
         }
         TreeExpr::Chain(e, links) => {
-            let made = expr(alloc, scope, notes, e)?;
+            let made = boxed(alloc, scope, notes, e)?;
             let behind = links_behind(alloc, scope, notes, links)?;
-            Ok(Expr::Chain(Box::new(alloc, made)?, behind))
+            Ok(Expr::Chain(made, behind))
         }
     }
+}
+
+/// An expression in a place of its own.
+#[tactic(auto, using(crate::proofs::Forms::forms))]
+#[cycle(name_expr)]
+fn boxed<'a>(
+    alloc: Global,
+    scope: &Scope,
+    notes: &mut Notes<'a>,
+    e: &'a TreeExpr,
+) -> Result<Box<Expr>, ResolveError>
+    ensures made { IfOk result (λ x. ex_of x.value ≡ named_expr (scope_of scope.now) e.now) }
+    ensures first { OnOk result (first_of notes.new ≡ better (first_of notes.old) (expr_faults (scope_of scope.now) e.now)) }
+    ensures err { IfErr result (λ e. e ≡ Memory) }
+{
+    let made = expr(alloc, scope, notes, e)?;
+    Ok(Box::new(alloc, made)?)
 }
 
 #[tactic(auto, using(crate::proofs::Forms::forms))]

@@ -8,7 +8,7 @@ use crate::error::ResolveError;
 use crate::names::{Names, number, place};
 
 /// What a name means.
-#[derive(Clone, Copy, PartialEq, Eq, Debug)]
+#[derive(Clone, Copy)]
 pub enum Meaning {
     Nothing,
     Constant(u32),

@@ -1,8 +1,12 @@
-use Rattle.std.proofs.Common.{◌++◌, map, flat_map, sym, ap, ◌∙◌}
-use Rattle.bg_ast.specs.Views.{ex_of, bracket_view, link_view}
-use Rattle.bg_names.specs.Faults.{better}
+use Rattle.std.proofs.Common.{[], ◌++◌, map, flat_map, sym, ap, ◌∙◌}
+use Rattle.bg_ast.specs.Resolved as r
+use Rattle.bg_ast.specs.Views.{ex_of, exs_of, bracket_view, link_view}
+use Rattle.bg_text.specs.Views.{id_of}
+use Rattle.bg_names.specs.declared.error.FaultKind.TheVariants as kinds
+use Rattle.bg_names.specs.Faults.{better, unless, fault}
+use Rattle.bg_names.specs.Spaces.{use_faults}
 use Rattle.bg_names.specs.Views.{scope_of, first_of, expr_faults, named_expr, bracket_faults, named_bracket, named_link, link_faults}
-use Rattle.bg_names.proofs.Firsts.{better_append, better_step, made_step}
+use Rattle.bg_names.proofs.Firsts.{after, better_append, better_step, made_step}
 use Rattle.bg_names.proofs.Forms.{both, expr-Chain, faults-Chain, faults-Postfix, expr-Apply, faults-Apply, expr-Postfix, bracket-Select, bracket-Update, faults-Select, faults-Update}
 use Rattle.bg_names.proofs.exprs.+name_expr.Goals as goal
 
@@ -43,28 +47,28 @@ expr-returns-in-Apply-clause-made t c = rw (c.in-Apply.is, expr-Apply (scope_of 
 pub expr-returns-in-Apply-clause-first : goal.expr-returns-in-Apply-clause-first
 expr-returns-in-Apply-clause-first t c = rw (c.in-Apply.is, faults-Apply (scope_of c.args.scope.now) c.in-Apply.name c.in-Apply.args, sym c.deref.ensures.value) c.apply.ensures.first
 
-pub expr-returns-in_ok-new-in-Postfix-clause-made : goal.expr-returns-in_ok-new-in-Postfix-clause-made
-expr-returns-in_ok-new-in-Postfix-clause-made t c =
+pub expr-returns-in_ok-behind-in-Postfix-clause-made : goal.expr-returns-in_ok-behind-in-Postfix-clause-made
+expr-returns-in_ok-behind-in-Postfix-clause-made t c =
     let s = scope_of c.args.scope.now in
-    expr-Postfix s c.in-Postfix.e c.in-Postfix.brackets c.in_ok-new-in-Postfix.field-0 c.in_ok-behind-in-Postfix.behind (ap ex_of c.in_ok-new-in-Postfix.ensures.ok ∙ c.in_ok-made-in-Postfix.ensures.made ∙ ap (named_expr s) c.deref-in-Postfix.ensures) (c.in_ok-behind-in-Postfix.ensures.made ∙ ap (map (named_bracket s)) c.deref-in-Postfix-2.ensures.value)
+    expr-Postfix s c.in-Postfix.e c.in-Postfix.brackets c.in_ok-made-in-Postfix.made c.in_ok-behind-in-Postfix.behind (c.in_ok-made-in-Postfix.ensures.made ∙ ap (named_expr s) c.deref-in-Postfix.ensures) (c.in_ok-behind-in-Postfix.ensures.made ∙ ap (map (named_bracket s)) c.deref-in-Postfix-2.ensures.value)
     ∙ ap (named_expr s) (sym c.in-Postfix.is)
 
-pub expr-returns-in_ok-new-in-Postfix-clause-first : goal.expr-returns-in_ok-new-in-Postfix-clause-first
-expr-returns-in_ok-new-in-Postfix-clause-first t c =
+pub expr-returns-in_ok-behind-in-Postfix-clause-first : goal.expr-returns-in_ok-behind-in-Postfix-clause-first
+expr-returns-in_ok-behind-in-Postfix-clause-first t c =
     let s = scope_of c.args.scope.now in
     c.in_ok-behind-in-Postfix.ensures.first
     ∙ both better (c.in_ok-made-in-Postfix.ensures.first ∙ ap (λ e. better (first_of c.args.notes.now) (expr_faults s e)) c.deref-in-Postfix.ensures) (ap (flat_map (bracket_faults s)) c.deref-in-Postfix-2.ensures.value)
     ∙ sym (better_append (first_of c.args.notes.now) (expr_faults s c.in-Postfix.e.value) (flat_map (bracket_faults s) c.in-Postfix.brackets.items))
     ∙ ap (better (first_of c.args.notes.now)) (sym (faults-Postfix s c.in-Postfix.e c.in-Postfix.brackets) ∙ ap (expr_faults s) (sym c.in-Postfix.is))
 
-pub expr-returns-in_ok-new-in-Chain-clause-made : goal.expr-returns-in_ok-new-in-Chain-clause-made
-expr-returns-in_ok-new-in-Chain-clause-made t c =
+pub expr-returns-in_ok-behind-in-Chain-clause-made : goal.expr-returns-in_ok-behind-in-Chain-clause-made
+expr-returns-in_ok-behind-in-Chain-clause-made t c =
     let s = scope_of c.args.scope.now in
-    expr-Chain s c.in-Chain.e c.in-Chain.links c.in_ok-new-in-Chain.field-0 c.in_ok-behind-in-Chain.behind (ap ex_of c.in_ok-new-in-Chain.ensures.ok ∙ c.in_ok-made-in-Chain.ensures.made ∙ ap (named_expr s) c.deref-in-Chain.ensures) (c.in_ok-behind-in-Chain.ensures.made ∙ ap (map (named_link s)) c.deref-in-Chain-2.ensures.value)
+    expr-Chain s c.in-Chain.e c.in-Chain.links c.in_ok-made-in-Chain.made c.in_ok-behind-in-Chain.behind (c.in_ok-made-in-Chain.ensures.made ∙ ap (named_expr s) c.deref-in-Chain.ensures) (c.in_ok-behind-in-Chain.ensures.made ∙ ap (map (named_link s)) c.deref-in-Chain-2.ensures.value)
     ∙ ap (named_expr s) (sym c.in-Chain.is)
 
-pub expr-returns-in_ok-new-in-Chain-clause-first : goal.expr-returns-in_ok-new-in-Chain-clause-first
-expr-returns-in_ok-new-in-Chain-clause-first t c =
+pub expr-returns-in_ok-behind-in-Chain-clause-first : goal.expr-returns-in_ok-behind-in-Chain-clause-first
+expr-returns-in_ok-behind-in-Chain-clause-first t c =
     let s = scope_of c.args.scope.now in
     c.in_ok-behind-in-Chain.ensures.first
     ∙ both better (c.in_ok-made-in-Chain.ensures.first ∙ ap (λ e. better (first_of c.args.notes.now) (expr_faults s e)) c.deref-in-Chain.ensures) (ap (flat_map (link_faults s)) c.deref-in-Chain-2.ensures.value)
@@ -80,3 +84,56 @@ pub links_behind-loop-l-preserved : goal.links_behind-loop-l-preserved
 links_behind-loop-l-preserved t c =
     let s = scope_of c.args.scope.now in
     (made_step link_view (named_link s) _ _ c.args.links.now c.loop-l.l-index c.l-item.result c.in_ok-l.l c.loop-l-test.true c.l-item.is c.loop-l.invariant.0 c.in_ok-l.ensures.made c.in_ok-push.ensures.items, better_step (link_faults s) _ _ c.args.links.now c.loop-l.l-index c.l-item.result _ c.loop-l-test.true c.l-item.is c.loop-l.invariant.1 c.in_ok-l.ensures.first)
+
+pub expr-returns-in-Named-clause-made : goal.expr-returns-in-Named-clause-made
+expr-returns-in-Named-clause-made t c = rw c.in-Named.is c.read.ensures.made
+
+pub expr-returns-in-Named-clause-first : goal.expr-returns-in-Named-clause-first
+expr-returns-in-Named-clause-first t c = rw c.in-Named.is c.read.ensures.first
+
+pub expr-returns-in_ok-made-in-Old-clause-made : goal.expr-returns-in_ok-made-in-Old-clause-made
+expr-returns-in_ok-made-in-Old-clause-made t c =
+    let s = scope_of c.args.scope.now in
+    ap (r.Old c.in-Old.pos) (c.in_ok-made-in-Old.ensures.made ∙ ap (named_expr s) c.deref-in-Old.ensures) ∙ ap (named_expr s) (sym c.in-Old.is)
+
+pub expr-returns-in_ok-made-in-Old-clause-first : goal.expr-returns-in_ok-made-in-Old-clause-first
+expr-returns-in_ok-made-in-Old-clause-first t c =
+    let s = scope_of c.args.scope.now in
+    let best = first_of c.args.notes.now in
+    after best (first_of c.note_unless.new.notes) _ (unless s.has_old (fault kinds.BadOld c.in-Old.pos [])) (expr_faults s c.in-Old.e.value) c.note_unless.ensures (c.in_ok-made-in-Old.ensures.first ∙ ap (λ e. better (first_of c.note_unless.new.notes) (expr_faults s e)) c.deref-in-Old.ensures)
+    ∙ ap (λ e. better best (expr_faults s e)) (sym c.in-Old.is)
+
+pub expr-returns-in_ok-made-in-Parens-clause-made : goal.expr-returns-in_ok-made-in-Parens-clause-made
+expr-returns-in_ok-made-in-Parens-clause-made t c =
+    let s = scope_of c.args.scope.now in
+    ap (r.Parens c.in-Parens.pos) (c.in_ok-made-in-Parens.ensures.made ∙ ap (named_expr s) c.deref-in-Parens.ensures) ∙ ap (named_expr s) (sym c.in-Parens.is)
+
+pub expr-returns-in_ok-made-in-Parens-clause-first : goal.expr-returns-in_ok-made-in-Parens-clause-first
+expr-returns-in_ok-made-in-Parens-clause-first t c =
+    let s = scope_of c.args.scope.now in
+    c.in_ok-made-in-Parens.ensures.first ∙ ap (λ e. better (first_of c.args.notes.now) (expr_faults s e)) c.deref-in-Parens.ensures ∙ ap (λ e. better (first_of c.args.notes.now) (expr_faults s e)) (sym c.in-Parens.is)
+
+pub expr-returns-in_ok-made-in-Prefix-clause-first : goal.expr-returns-in_ok-made-in-Prefix-clause-first
+expr-returns-in_ok-made-in-Prefix-clause-first t c =
+    let s = scope_of c.args.scope.now in
+    c.in_ok-made-in-Prefix.ensures.first ∙ ap (λ e. better (first_of c.args.notes.now) (expr_faults s e)) c.deref-in-Prefix-2.ensures ∙ ap (λ e. better (first_of c.args.notes.now) (expr_faults s e)) (sym c.in-Prefix.is)
+
+pub boxed-returns-clause-made : goal.boxed-returns-clause-made
+boxed-returns-clause-made t c = ap ex_of c.in_ok-new.ensures.ok ∙ c.in_ok-made.ensures.made
+
+pub boxed-returns-clause-first : goal.boxed-returns-clause-first
+boxed-returns-clause-first t c = c.in_ok-made.ensures.first
+
+pub apply-returns-clause-made : goal.apply-returns-clause-made
+apply-returns-clause-made t c = c.apply_node.ensures ∙ both (r.Apply c.args.name.now.pos) c.in_ok-function.ensures.ok (ap exs_of c.in_ok-args.ensures.made)
+
+pub apply-returns-clause-first : goal.apply-returns-clause-first
+apply-returns-clause-first t c =
+    let s = scope_of c.args.scope.now in
+    after (first_of c.args.notes.now) (first_of c.note_use.new.notes) _ (use_faults s.functions (id_of c.args.name.now)) (flat_map (expr_faults s) c.args.args.now) c.note_use.ensures c.in_ok-args.ensures.first
+
+pub link-returns-clause-made : goal.link-returns-clause-made
+link-returns-clause-made t c = ap (λ x. (c.args.link.now.pos, c.args.link.now.sign, x)) c.in_ok-operand.ensures.made
+
+pub link-returns-clause-first : goal.link-returns-clause-first
+link-returns-clause-first t c = c.in_ok-operand.ensures.first

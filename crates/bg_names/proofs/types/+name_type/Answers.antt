@@ -1,10 +1,11 @@
 use Rattle.std.proofs.Common.{map, flat_map, sym, ap, ◌∙◌}
-use Rattle.bg_ast.specs.Views.{type_of, index_view}
+use Rattle.bg_ast.specs.Resolved as r
+use Rattle.bg_ast.specs.Views.{type_of, tys_of, index_view}
 use Rattle.bg_names.specs.Faults.{better}
 use Rattle.bg_names.specs.Views.{listed, first_of, type_faults, named_type, bracket_type_faults, named_type_bracket}
 use Rattle.bg_names.proofs.Firsts.{better_append, better_step, made_step}
 use Rattle.bg_names.proofs.Forms.{both}
-use Rattle.bg_names.proofs.TypeForms.{type-Map, faults-Map}
+use Rattle.bg_names.proofs.TypeForms.{named_tys-of, tys_faults-of, type-Map, faults-Map}
 use Rattle.bg_names.proofs.types.+name_type.Goals as goal
 
 pub tys-loop-e-preserved : goal.tys-loop-e-preserved
@@ -30,3 +31,30 @@ ty-returns-in_ok-new-in-Map-clause-first t c =
     ∙ both better (c.in_ok-brackets-in-Map.ensures.first ∙ ap (λ l. better (first_of c.args.notes.now) (flat_map (bracket_type_faults s) l)) c.deref-in-Map.ensures.value) (ap (type_faults s) c.deref-in-Map-2.ensures)
     ∙ sym (better_append (first_of c.args.notes.now) (flat_map (bracket_type_faults s) c.in-Map.brackets.items) (type_faults s c.in-Map.e.value))
     ∙ ap (better (first_of c.args.notes.now)) (sym (faults-Map s c.in-Map.brackets c.in-Map.e) ∙ ap (type_faults s) (sym c.in-Map.is))
+
+pub ty-returns-in-Named-clause-made : goal.ty-returns-in-Named-clause-made
+ty-returns-in-Named-clause-made t c = rw c.in-Named.is c.declared.ensures.made
+
+pub ty-returns-in-Named-clause-first : goal.ty-returns-in-Named-clause-first
+ty-returns-in-Named-clause-first t c = rw c.in-Named.is c.declared.ensures.first
+
+pub ty-returns-in_ok-new-in-Parens-clause-made : goal.ty-returns-in_ok-new-in-Parens-clause-made
+ty-returns-in_ok-new-in-Parens-clause-made t c =
+    let s = listed c.args.types.now in
+    ap (r.InParens c.in-Parens.pos) (ap type_of c.in_ok-new-in-Parens.ensures.ok ∙ c.in_ok-made-in-Parens.ensures.made ∙ ap (named_type s) c.deref.ensures) ∙ ap (named_type s) (sym c.in-Parens.is)
+
+pub ty-returns-in_ok-new-in-Parens-clause-first : goal.ty-returns-in_ok-new-in-Parens-clause-first
+ty-returns-in_ok-new-in-Parens-clause-first t c =
+    let s = listed c.args.types.now in
+    c.in_ok-made-in-Parens.ensures.first ∙ ap (λ e. better (first_of c.args.notes.now) (type_faults s e)) c.deref.ensures ∙ ap (λ e. better (first_of c.args.notes.now) (type_faults s e)) (sym c.in-Parens.is)
+
+pub index-returns-clause-made : goal.index-returns-clause-made
+index-returns-clause-made t c =
+    let s = listed c.args.types.now in
+    let b = c.args.bracket.now in
+    ap (λ l. (b.pos, l)) (ap tys_of (c.in_ok-indices.ensures.made ∙ ap (map (named_type s)) c.deref.ensures.value) ∙ sym (named_tys-of s b.indices.items))
+
+pub index-returns-clause-first : goal.index-returns-clause-first
+index-returns-clause-first t c =
+    let s = listed c.args.types.now in
+    c.in_ok-indices.ensures.first ∙ ap (better (first_of c.args.notes.now)) (ap (flat_map (type_faults s)) c.deref.ensures.value ∙ sym (tys_faults-of s c.args.bracket.now.indices.items))
