@@ -7,7 +7,9 @@ use Rattle.bg_base.specs.declared.exact.OutOfRange.{OutOfRange}
 use Rattle.bg_base.specs.Exact.{product_of, negation_of, sum_of}
 use Rattle.bg_rows.specs.declared.entry.Entry.{Entry}
 use Rattle.bg_rows.specs.Entries.{is_zero}
-use Rattle.bg_rows.specs.Rows.{after, and_then, put, entry, multiples, negations, merged, put_first}
+use Rattle.bg_rows.specs.declared.refused.Refused.{Refused}
+use Rattle.bg_rows.specs.declared.refused.Refused.TheVariants.{Range, Memory}
+use Rattle.bg_rows.specs.Rows.{Told, after, and_then, put, entry, multiples, negations, divided, merged, put_first}
 
 pub after_after : (a b : List Entry) (x : Result (List Entry) OutOfRange) → after a (after b x) ≡ after (a ++ b) x
 after_after a b (Ok ts) = ap Ok (sym (append_assoc a b ts))
@@ -24,6 +26,11 @@ put_made made x c (Ok ts) =
     elim (is_zero c) as (λ b. after made (Ok (cond b ts (entry x c ∷ ts))) ≡ after (made ++ cond b [] (entry x c ∷ [])) (Ok ts))
     [ true ↦ rw append-nil refl | false ↦ rw append_assoc refl ]
 
+-- where a step leaves the range the whole does
+pub told_end : {A B : Type 0} (view : A → List Entry) (whole_view : B → List Entry) (result : Result B Refused) (e : Refused) (step whole : Result (List Entry) OutOfRange) → ((o : OutOfRange) → step ≡ Err o → whole ≡ Err o) → Told view (Err e) step → result ≡ Err e → Told whole_view result whole
+told_end view whole_view result (Range o) step whole ended h is = rw is (ended o h)
+told_end view whole_view result Memory step whole ended h is = rw is tt
+
 -- one more multiple is made
 pub multiples_step : (made : List Entry) (k : ℤ) (t : Entry) (ts : List Entry) (c : Result ℤ OutOfRange) → c ≡ product_of k t.by → (us : List Entry) → after made (multiples k (t ∷ [])) ≡ Ok us → after made (multiples k (t ∷ ts)) ≡ after us (multiples k ts)
 multiples_step made k t ts (Ok c) e us h =
@@ -33,6 +40,20 @@ multiples_step made k t ts (Err o) e us h = absurd (let g = rw (← e) at h in c
 pub multiples_stop : (made : List Entry) (k : ℤ) (t : Entry) (ts : List Entry) (c : Result ℤ OutOfRange) → c ≡ product_of k t.by → (o : OutOfRange) → after made (multiples k (t ∷ [])) ≡ Err o → after made (multiples k (t ∷ ts)) ≡ Err o
 multiples_stop made k t ts (Ok c) e o h = absurd (let g = rw (← e) at h in cc)
 multiples_stop made k t ts (Err p) e o h = rw (← e) (let g = rw (← e) at h in g)
+
+-- the entry that no place has
+abbrev pub nothing : Entry
+nothing = record { variable = 0; by = pos 0 }
+
+pub multiples_more : (made ts : List Entry) (k : ℤ) (i : ℕ) (us : List Entry) → i < length ts → after made (multiples k (get_or ts i nothing ∷ [])) ≡ Ok us → after made (multiples k (drop i ts)) ≡ after us (multiples k (drop (i + 1) ts))
+multiples_more made ts k i us h e = rw (drop-cons ts i nothing h, add-one) (multiples_step made k (get_or ts i nothing) (drop (suc i) ts) (product_of k (get_or ts i nothing).by) refl us e)
+
+pub multiples_end : (made ts : List Entry) (k : ℤ) (i : ℕ) (o : OutOfRange) → i < length ts → after made (multiples k (get_or ts i nothing ∷ [])) ≡ Err o → after made (multiples k (drop i ts)) ≡ Err o
+multiples_end made ts k i o h e = rw (drop-cons ts i nothing h) (multiples_stop made k (get_or ts i nothing) (drop (suc i) ts) (product_of k (get_or ts i nothing).by) refl o e)
+
+-- one more quotient is made
+pub divided_more : (made ts : List Entry) (g i : ℕ) → i < length ts → (made ++ divided g (get_or ts i nothing ∷ [])) ++ divided g (drop (i + 1) ts) ≡ made ++ divided g (drop i ts)
+divided_more made ts g i h = rw (drop-cons ts i nothing h, add-one, append_assoc) refl
 
 -- one more negation is made
 pub negations_step : (made : List Entry) (t : Entry) (ts us : List Entry) → after made (negations (t ∷ [])) ≡ Ok us → after made (negations (t ∷ ts)) ≡ after us (negations ts)
@@ -53,9 +74,6 @@ negations_stop made t ts o h = negated (negation_of t.by) h
     negated : (n : Result ℤ OutOfRange) → after made (and_then n (λ c. Ok (entry t.variable c ∷ []))) ≡ Err o → after made (and_then n (λ c. and_then (negations ts) (λ vs. Ok (entry t.variable c ∷ vs)))) ≡ Err o
     negated (Ok c) h = absurd (cc)
     negated (Err e) h = cc
-
-abbrev pub nothing : Entry
-nothing = record { variable = 0; by = pos 0 }
 
 pub negations_more : (made ts : List Entry) (i : ℕ) (us : List Entry) → i < length ts → after made (negations (get_or ts i nothing ∷ [])) ≡ Ok us → after made (negations (drop i ts)) ≡ after us (negations (drop (i + 1) ts))
 negations_more made ts i us h e = rw (drop-cons ts i nothing h, add-one) (negations_step made (get_or ts i nothing) (drop (suc i) ts) us e)

@@ -1,7 +1,7 @@
 //! Entries of rows.
 
 /// A variable with its coefficient.
-#[derive(Clone, Copy, PartialEq, Eq, PartialOrd, Ord, Debug)]
+#[derive(Clone, Copy)]
 pub struct Entry {
     pub variable: u32,
     pub by: i128,

@@ -13,7 +13,7 @@ mod tight;
 
 pub use derive::derives;
 pub use entry::Entry;
-pub use made::{copy, is_false, is_rising, make};
+pub use made::{copy, is_false};
 pub use refused::Refused;
 pub use row::Row;
 pub use step::Step;

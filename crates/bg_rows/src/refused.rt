@@ -4,7 +4,7 @@ use bg_base::OutOfRange;
 use std::alloc::{AllocError, AllocFailed};
 
 /// Why no row was made: an operation left the range, or memory ran out.
-#[derive(Debug, Drop)]
+#[derive(Drop)]
 pub enum Refused {
     Range(OutOfRange),
     Memory,

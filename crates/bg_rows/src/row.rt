@@ -6,7 +6,7 @@ use crate::entry::Entry;
 
 /// A row: the sum of its entries is at most its bound. The entries stand by variable number, each
 /// variable once, and no coefficient is 0.
-#[derive(Debug, Drop)]
+#[derive(Drop)]
 pub struct Row {
     pub entries: Vec<Entry>,
     pub bound: i128,

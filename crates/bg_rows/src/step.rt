@@ -2,7 +2,7 @@
 
 /// A step of a derivation: a row of the path, a sum of multiples of two earlier rows, or an
 /// earlier one tightened. Its numbers are any that fit in 128 bits.
-#[derive(Clone, Copy, PartialEq, Eq, Debug)]
+#[derive(Clone, Copy)]
 pub enum Step {
     /// Row J of the path, from 0.
     Path(u128),

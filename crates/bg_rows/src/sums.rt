@@ -118,7 +118,6 @@ fn push_negation(made: &mut Vec<Entry>, t: &Entry) -> Result<(), Refused>
 }
 
 /// Each coefficient negated.
-#[tactic(auto, using(crate::proofs::Steps::negations_more, crate::proofs::Steps::negations_end))]
 fn negations(alloc: Global, entries: &[Entry]) -> Result<Vec<Entry>, Refused>
     ensures { Told (λ v. v.items) result (negations entries.now) }
 {

@@ -1,5 +1,5 @@
 //! Rows divided by what their coefficients share, and variables eliminated.
-ghost use Rattle.std.specs.Prelude.{◌≡◌, ◌<◌, ◌≤◌, ◌≤ℤ◌, ◌^◌, pos, IsTrue, Ok, IfOk, unsigned_abs};
+ghost use Rattle.std.specs.Prelude.{◌≡◌, ◌<◌, ◌≤◌, ◌≤ℤ◌, ◌^◌, ◌++◌, ◌∷◌, [], pos, IsTrue, Ok, IfOk, OnOk, unsigned_abs};
 ghost use Rattle.bg_base.specs.Exact.{gcd_of};
 ghost use Rattle.bg_rows.specs.Entries.{coefficient};
 ghost use Rattle.bg_rows.specs.Rows.{row_of, Told, combined, gcd_from, divided, tightened, multiplier, eliminated, opposite};
@@ -22,6 +22,19 @@ pub fn common_divisor(entries: &[Entry]) -> u128
     g
 }
 
+/// An entry with its coefficient divided, rounded down, behind those made.
+fn push_quotient(made: &mut Vec<Entry>, g: u128, t: &Entry) -> Result<(), AllocError>
+    requires { 0 < g }
+    ensures { OnOk result (made.new.items ≡ made.old.items ++ divided g (t.now ∷ [])) }
+{
+    let by = floor_div(t.by, g);
+    made.push(Entry {
+        variable: t.variable,
+        by,
+    })?;
+    Ok(())
+}
+
 /// Each coefficient divided, rounded down.
 fn divided(alloc: Global, g: u128, entries: &[Entry]) -> Result<Vec<Entry>, AllocError>
     requires { 0 < g }
@@ -29,11 +42,7 @@ fn divided(alloc: Global, g: u128, entries: &[Entry]) -> Result<Vec<Entry>, Allo
 {
     let mut made = Vec::new(alloc);
     for t in entries {
-        let by = floor_div(t.by, g);
-        made.push(Entry {
-            variable: t.variable,
-            by,
-        })?;
+        push_quotient(&mut made, g, t)?;
     }
     Ok(made)
 }
@@ -100,7 +109,7 @@ pub fn are_opposite(a: &Row, b: &Row, x: u32) -> bool
 }
 
 /// A row without a variable, and the multipliers by which it was made.
-#[derive(Debug, Drop)]
+#[derive(Drop)]
 pub struct Eliminated {
     pub row: Row,
     /// Times the first row.
@@ -118,11 +127,11 @@ pub fn eliminate_by(alloc: Global, a: &Row, b: &Row, x: u32) -> Result<Eliminate
     ensures first { IfOk result (λ made. pos 0 ≤ℤ made.first) }
     ensures second { IfOk result (λ made. pos 0 ≤ℤ made.second) }
 {
-    let n = coefficient(&a.entries, x).unsigned_abs();
-    let m = coefficient(&b.entries, x).unsigned_abs();
-    let g = shared(coefficient(&a.entries, x), coefficient(&b.entries, x));
-    let first = multiplier(m / g)?;
-    let second = multiplier(n / g)?;
+    let c = coefficient(&a.entries, x);
+    let d = coefficient(&b.entries, x);
+    let g = shared(c, d);
+    let first = multiplier(d.unsigned_abs() / g)?;
+    let second = multiplier(c.unsigned_abs() / g)?;
     let row = combine(alloc, a, first, b, second)?;
     Ok(Eliminated { row, first, second })
 }
