@@ -1,3 +1,4 @@
 pub mod Picks
 pub mod Index
 pub mod Marks
+pub mod Problems

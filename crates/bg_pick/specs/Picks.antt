@@ -7,7 +7,7 @@ use Rattle.bg_cert.specs.Certs.{node_of, closes}
 use Rattle.bg_cert.specs.Walks.{path_of}
 use Rattle.bg_cert.specs.Causes.{has_true, undecided, any_false, any_unit, any_open, may_split, all_decided, units_of}
 use Rattle.bg_pick.specs.declared.pick.Pick.{Pick}
-use Rattle.bg_pick.specs.declared.pick.Pick.TheVariants.{Close, Force, Split, Leaf}
+use Rattle.bg_pick.specs.declared.pick.Pick.TheVariants.{Close, Split, Leaf}
 use Rattle.bg_pick.specs.declared.left.Left.{Left}
 use Rattle.bg_pick.specs.declared.left.Left.TheVariants.{Nothing, One, Several}
 
@@ -55,6 +55,5 @@ pub record IsComplete (f : Formula) (set : ℕ → Bool) (ds : List Decision) : 
 -- what may be done at a path
 abbrev pub IsPick : Formula → (ℕ → Bool) → List Decision → Pick → Type 0
 IsPick f set ds (Close n) = closes f set (path_of f ds) (node_of n) ≡ true
-IsPick f set ds (Force a) = MaySplit f set ds a
-IsPick f set ds (Split a) = MaySplit f set ds a
+IsPick f set ds (Split choice) = MaySplit f set ds choice.atom
 IsPick f set ds Leaf = IsComplete f set ds

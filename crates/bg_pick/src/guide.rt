@@ -9,7 +9,7 @@ use crate::mark::Mark;
 use std::alloc::{AllocError, Global};
 
 /// The mark of the open path, and those of the paths that wait, the next one last.
-#[derive(Debug, Drop)]
+#[derive(Drop)]
 pub struct Guide {
     pub mark: Mark,
     pub marks: Vec<Mark>,

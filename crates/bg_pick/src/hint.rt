@@ -12,7 +12,7 @@ use bg_cert::{Trail, decides, names_false};
 use bg_formula::Clauses;
 
 /// A clause by its place, or the unit of the set's member with this number.
-#[derive(Clone, Copy, PartialEq, Eq, Debug)]
+#[derive(Clone, Copy)]
 pub enum Hint {
     Nth(usize),
     Member(usize),

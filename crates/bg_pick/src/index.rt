@@ -12,7 +12,7 @@ use bg_formula::{Clauses, Literal};
 use std::alloc::{AllocError, Global};
 
 /// All clauses and units, and for each atom those in which it stands with a sign.
-#[derive(Debug, Drop)]
+#[derive(Drop)]
 pub struct Index {
     pub start: Vec<Hint>,
     pub yes: Vec<Vec<Hint>>,

@@ -8,7 +8,7 @@ use bg_cert::{Trail, decides};
 use bg_formula::Literal;
 
 /// How many undecided atoms there are, with the first one.
-#[derive(Clone, Copy, PartialEq, Eq, Debug)]
+#[derive(Clone, Copy)]
 pub enum Left {
     Nothing,
     One(u32),

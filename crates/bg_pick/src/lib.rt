@@ -10,6 +10,7 @@ mod look;
 mod mark;
 mod pick;
 mod probe;
+mod problem;
 mod rows;
 
 pub use guide::{Guide, first_guide, go_on, split};
@@ -17,5 +18,6 @@ pub use hint::Hint;
 pub use index::{Index, index_of};
 pub use left::Left;
 pub use mark::Mark;
-pub use pick::{Pick, fails, next_at};
+pub use pick::{Choice, Pick, fails, next_at};
 pub use probe::{Probe, new_probe};
+pub use problem::Problem;

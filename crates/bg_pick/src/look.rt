@@ -6,10 +6,10 @@ ghost use Rattle.bg_cert.specs.Causes.{is_among};
 ghost use Rattle.bg_pick.specs.Marks.{stands_in, StandsOpen, IsOpenAt};
 
 use crate::hint::Hint;
-use crate::index::Index;
 use crate::left::{has_true, is_decided, some_left};
 use crate::mark::Mark;
 use crate::probe::{Common, Probe, assume, forget, spread, value_of};
+use crate::problem::Problem;
 use crate::rows::{hints_at, row_at};
 use bg_cert::{Trail, decides};
 use bg_formula::{Atom, Clauses, Literal};
@@ -61,8 +61,7 @@ fn note(p: &mut Probe, count: u32) -> Option<u32> {
 
 /// The atom of an undecided literal of the clause that can't be true.
 fn look_for_false(
-    f: &Clauses,
-    i: &Index,
+    problem: &Problem<'_>,
     trail: &Trail,
     p: &mut Probe,
     clause: &[Literal],
@@ -70,7 +69,7 @@ fn look_for_false(
     for l in clause {
         if value_of(trail, p, l.atom).is_none() {
             assume(p, *l);
-            let fails = spread(f, i, trail, p);
+            let fails = spread(problem, trail, p);
             forget(p);
             if fails {
                 return Some(l.atom);
@@ -82,8 +81,7 @@ fn look_for_false(
 
 /// An atom that has one value behind each undecided literal of the clause.
 fn look_for_common(
-    f: &Clauses,
-    i: &Index,
+    problem: &Problem<'_>,
     trail: &Trail,
     p: &mut Probe,
     clause: &[Literal],
@@ -97,7 +95,7 @@ fn look_for_common(
                 return None;
             }
             assume(p, *l);
-            let _ = spread(f, i, trail, p);
+            let _ = spread(problem, trail, p);
             found = note(p, count);
             forget(p);
             found?;
@@ -141,36 +139,34 @@ fn open_with(f: &Clauses, trail: &Trail, hints: &[Hint], a: u32) -> Option<usize
 
 /// An atom to split by what an open clause tells: by a literal that can't be true, or by what all of them have in common.
 fn look_at(
-    f: &Clauses,
-    i: &Index,
+    problem: &Problem<'_>,
     trail: &Trail,
     p: &mut Probe,
     k: usize,
     common: bool,
 ) -> Option<u32> {
-    let clause = f.clauses.get(k)?;
+    let clause = problem.formula.clauses.get(k)?;
     some_left(trail, clause)?;
     if common {
-        look_for_common(f, i, trail, p, clause)
+        look_for_common(problem, trail, p, clause)
     } else {
-        look_for_false(f, i, trail, p, clause)
+        look_for_false(problem, trail, p, clause)
     }
 }
 
 /// An atom to split by what a decision's clauses tell. The mark keeps the clause that tells it.
 fn look_along(
-    f: &Clauses,
-    i: &Index,
+    problem: &Problem<'_>,
     trail: &Trail,
     p: &mut Probe,
     row: usize,
     mark: &mut Mark,
 ) -> Option<u32> {
-    for hint in row_at(i, trail, row) {
+    for hint in row_at(problem.index, trail, row) {
         if let Hint::Nth(k) = hint {
             if p.left > 0 {
                 p.left -= 1;
-                if let Some(a) = look_at(f, i, trail, p, *k, true) {
+                if let Some(a) = look_at(problem, trail, p, *k, true) {
                     mark.look = *k;
                     return Some(a);
                 }
@@ -182,8 +178,7 @@ fn look_along(
 
 /// The same along the rows from `high` down to the one above `low`.
 fn look_down(
-    f: &Clauses,
-    i: &Index,
+    problem: &Problem<'_>,
     trail: &Trail,
     p: &mut Probe,
     high: usize,
@@ -194,7 +189,7 @@ fn look_down(
         if p.left == 0 {
             return None;
         }
-        if let Some(a) = look_along(f, i, trail, p, row.saturating_add(1), mark) {
+        if let Some(a) = look_along(problem, trail, p, row.saturating_add(1), mark) {
             mark.from = row;
             mark.top = trail.decisions.len();
             return Some(a);
@@ -205,29 +200,29 @@ fn look_down(
 
 /// An atom to split by what the clauses of the decisions tell: first those of decisions behind the last look, then those before the
 /// one at which it ended, and at last those between, at which it looked in vain.
-fn look_back(f: &Clauses, i: &Index, trail: &Trail, p: &mut Probe, mark: &mut Mark) -> Option<u32> {
+fn look_back(problem: &Problem<'_>, trail: &Trail, p: &mut Probe, mark: &mut Mark) -> Option<u32> {
     p.left = MOST_CLAUSES;
     let (top, from) = (mark.top, mark.from);
-    if let Some(a) = look_down(f, i, trail, p, trail.decisions.len(), top, mark) {
+    if let Some(a) = look_down(problem, trail, p, trail.decisions.len(), top, mark) {
         return Some(a);
     }
-    if let Some(a) = look_down(f, i, trail, p, from.saturating_add(1), 0, mark) {
+    if let Some(a) = look_down(problem, trail, p, from.saturating_add(1), 0, mark) {
         return Some(a);
     }
-    look_down(f, i, trail, p, top, from, mark)
+    look_down(problem, trail, p, top, from, mark)
 }
 
 /// An atom to split by a look ahead. The clause that chose the last split is looked at first: below the value that all its literals
 /// deny, each of them can't be true. Where looks tell nothing they become rarer.
-fn candidate(f: &Clauses, i: &Index, trail: &Trail, p: &mut Probe, mark: &mut Mark) -> Option<u32> {
-    if let Some(a) = look_at(f, i, trail, p, mark.look, false) {
+fn candidate(problem: &Problem<'_>, trail: &Trail, p: &mut Probe, mark: &mut Mark) -> Option<u32> {
+    if let Some(a) = look_at(problem, trail, p, mark.look, false) {
         return Some(a);
     }
     if p.rest > 0 {
         p.rest -= 1;
         return None;
     }
-    let found = look_back(f, i, trail, p, mark);
+    let found = look_back(problem, trail, p, mark);
     p.pause = match found {
         Some(_) => 0,
         None => MOST_REST.min(p.pause.saturating_mul(2).saturating_add(1)),
@@ -265,14 +260,24 @@ fn last_reached(f: &Clauses, trail: &Trail) -> Option<u32> {
 }
 
 /// The atom, where it is undecided and stands in a clause without a true literal.
-fn if_open(f: &Clauses, i: &Index, trail: &Trail, a: u32) -> Option<u32>
-    ensures { IfSome result (λ a. IsOpenAt trail.now.decisions.items (map (λ c. c.items) f.now.clauses.items) a) }
+fn if_open(problem: &Problem<'_>, trail: &Trail, a: u32) -> Option<u32>
+    ensures { IfSome result (λ a. IsOpenAt trail.now.decisions.items (map (λ c. c.items) problem.now.formula.now.clauses.items) a) }
 {
     if is_decided(trail, a as usize) {
         return None;
     }
-    let yes = open_with(f, trail, hints_at(&i.yes, a as usize), a);
-    let no = open_with(f, trail, hints_at(&i.no, a as usize), a);
+    let yes = open_with(
+        problem.formula,
+        trail,
+        hints_at(&problem.index.yes, a as usize),
+        a,
+    );
+    let no = open_with(
+        problem.formula,
+        trail,
+        hints_at(&problem.index.no, a as usize),
+        a,
+    );
     if yes.is_some() || no.is_some() {
         Some(a)
     } else {
@@ -282,24 +287,24 @@ fn if_open(f: &Clauses, i: &Index, trail: &Trail, a: u32) -> Option<u32>
 
 /// An undecided atom of an open clause, chosen by a look ahead, or else of the last one of the program that is reached; none where
 /// there is no such clause. Of the mark it changes what is kept for the next look alone.
-pub fn suggest(f: &Clauses, i: &Index, trail: &Trail, p: &mut Probe, mark: &mut Mark) -> Option<u32>
-    ensures stands { IfSome result (λ a. IsOpenAt trail.now.decisions.items (map (λ c. c.items) f.now.clauses.items) a) }
+pub fn suggest(problem: &Problem<'_>, trail: &Trail, p: &mut Probe, mark: &mut Mark) -> Option<u32>
+    ensures stands { IfSome result (λ a. IsOpenAt trail.now.decisions.items (map (λ c. c.items) problem.now.formula.now.clauses.items) a) }
     ensures row { mark.new.row ≡ mark.old.row }
     ensures place { mark.new.place ≡ mark.old.place }
     ensures clause { mark.new.clause ≡ mark.old.clause }
     ensures atom { mark.new.atom ≡ mark.old.atom }
 {
     let mut look = *mark;
-    let found = match candidate(f, i, trail, p, &mut look) {
+    let found = match candidate(problem, trail, p, &mut look) {
         Some(a) => Some(a),
-        None => last_reached(f, trail),
+        None => last_reached(problem.formula, trail),
     };
     mark.look = look.look;
     mark.top = look.top;
     mark.from = look.from;
     mark.done = look.done;
     match found {
-        Some(a) => if_open(f, i, trail, a),
+        Some(a) => if_open(problem, trail, a),
         None => None,
     }
 }

@@ -6,11 +6,12 @@ ghost use Rattle.bg_cert.specs.Causes.{is_decided, any_false, all_decided, any_o
 ghost use Rattle.bg_cert.specs.Walks.{has};
 ghost use Rattle.bg_pick.specs.declared.hint.Hint.{Hint};
 ghost use Rattle.bg_pick.specs.Index.{clause_at};
+ghost use Rattle.bg_pick.specs.Problems.{formula_in, set_in};
 ghost use Rattle.bg_pick.specs.Marks.{NoneFalse, NoUnit, IsFirstUnit, AllPassed, IsUnitOf, TrueBelow, DecidedBelow, IsOpenOf, IsMark};
 
 use crate::hint::{Hint, is_false, one_at};
-use crate::index::Index;
 use crate::left::{is_decided, some_left};
+use crate::problem::Problem;
 use crate::rows::row_at;
 use bg_cert::Trail;
 use bg_formula::{Clauses, Literal};
@@ -20,7 +21,7 @@ use bg_formula::{Clauses, Literal};
 /// split the clause, the number of rows then, and the clause's row. The number of decisions whose
 /// rows were looked at. And the number of decisions before which each clause that one touched has a
 /// true literal.
-#[derive(Clone, Copy, PartialEq, Eq, Debug)]
+#[derive(Clone, Copy)]
 pub struct Mark {
     pub row: usize,
     pub place: usize,
@@ -64,20 +65,14 @@ fn unit_from(
 }
 
 /// The next unit's atom. The mark goes no further than to it.
-pub fn next_unit(
-    f: &Clauses,
-    set: &[bool],
-    i: &Index,
-    trail: &Trail,
-    mark: &mut Mark,
-) -> Option<u32>
-    requires { IsMark (formula_of f.now) (has set.now) i.now trail.now.decisions.items mark.old }
-    ensures keeps { IsMark (formula_of f.now) (has set.now) i.now trail.now.decisions.items mark.new }
-    ensures unit { MatchOption result (AllPassed (formula_of f.now) (has set.now) trail.now.decisions.items) (λ a. IsUnitOf (formula_of f.now) (has set.now) trail.now.decisions.items a) }
+pub fn next_unit(problem: &Problem<'_>, trail: &Trail, mark: &mut Mark) -> Option<u32>
+    requires { IsMark (formula_in problem.now) (set_in problem.now) problem.now.index.now trail.now.decisions.items mark.old }
+    ensures keeps { IsMark (formula_in problem.now) (set_in problem.now) problem.now.index.now trail.now.decisions.items mark.new }
+    ensures unit { MatchOption result (AllPassed (formula_in problem.now) (set_in problem.now) trail.now.decisions.items) (λ a. IsUnitOf (formula_in problem.now) (set_in problem.now) trail.now.decisions.items a) }
 {
     while mark.row <= trail.decisions.len() {
-        let hints = row_at(i, trail, mark.row);
-        match unit_from(f, set, trail, hints, mark.place) {
+        let hints = row_at(problem.index, trail, mark.row);
+        match unit_from(problem.formula, problem.set, trail, hints, mark.place) {
             Some((k, a)) => {
                 mark.place = k;
                 return Some(a);

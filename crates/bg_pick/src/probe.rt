@@ -1,6 +1,7 @@
 //! Values that are assumed beside those of a path, and what follows from them by the clauses.
 use crate::hint::Hint;
 use crate::index::Index;
+use crate::problem::Problem;
 use bg_cert::{Trail, decides};
 use bg_formula::{Clauses, Literal};
 use std::alloc::{AllocError, Global};
@@ -9,7 +10,7 @@ use std::alloc::{AllocError, Global};
 const MOST_VALUES: u32 = 1000;
 
 /// The value that an atom had behind each of the first `count` literals of the clause that was looked at as the `turn`th.
-#[derive(Clone, Copy, PartialEq, Eq, Debug)]
+#[derive(Clone, Copy)]
 pub struct Common {
     pub turn: u64,
     pub count: u32,
@@ -19,7 +20,7 @@ pub struct Common {
 /// Values that are assumed beside those of a path, in their order; those that literals of a clause have in common; how many
 /// clauses may still be looked at for this split; and how many splits are chosen without a look from now on, and were after the last
 /// look in vain.
-#[derive(Debug, Drop)]
+#[derive(Drop)]
 pub struct Probe {
     pub assumed: Vec<Option<bool>>,
     pub order: Vec<u32>,
@@ -31,7 +32,7 @@ pub struct Probe {
 }
 
 /// What a clause is under a path and what is assumed.
-#[derive(Clone, Copy, PartialEq, Eq, Debug)]
+#[derive(Clone, Copy)]
 enum State {
     False,
     Unit(Literal),
@@ -136,9 +137,9 @@ fn touched<'a>(i: &'a Index, p: &Probe, a: u32) -> &'a [Hint] {
     }
 }
 
-fn visit_all(f: &Clauses, i: &Index, trail: &Trail, p: &mut Probe, a: u32) -> bool {
-    for hint in touched(i, p, a) {
-        if visit(f, trail, p, *hint) {
+fn visit_all(problem: &Problem<'_>, trail: &Trail, p: &mut Probe, a: u32) -> bool {
+    for hint in touched(problem.index, p, a) {
+        if visit(problem.formula, trail, p, *hint) {
             return true;
         }
     }
@@ -146,13 +147,13 @@ fn visit_all(f: &Clauses, i: &Index, trail: &Trail, p: &mut Probe, a: u32) -> bo
 }
 
 /// Assumes what follows from what is assumed, up to a limit. True where a clause becomes false.
-pub fn spread(f: &Clauses, i: &Index, trail: &Trail, p: &mut Probe) -> bool {
+pub fn spread(problem: &Problem<'_>, trail: &Trail, p: &mut Probe) -> bool {
     for at in 0..MOST_VALUES {
         let Some(a) = p.order.get(at as usize) else {
             return false;
         };
         let a = *a;
-        if visit_all(f, i, trail, p, a) {
+        if visit_all(problem, trail, p, a) {
             return true;
         }
     }

@@ -5,4 +5,4 @@ use Rattle.bg_pick.proofs.pick.fails.Goals as goal
 
 pub is_refuted-yes-requires : goal.is_refuted-yes-requires
 is_refuted-yes-requires c =
-    rw c.in_ok-decide.ensures.decided (child_ready (formula_of c.args.f.now) (has c.args.set.now) c.args.i.now c.args.trail.now.decisions.items c.args.mark.now c.args.a c.args.s c.requires.named c.requires.fine c.requires.mark)
+    rw c.in_ok-decide.ensures.decided (child_ready (formula_of c.args.problem.now.formula.now) (has c.args.problem.now.set.now) c.args.problem.now.index.now c.args.trail.now.decisions.items c.args.mark.now c.args.a c.args.s c.requires.named c.requires.fine c.requires.mark)

@@ -6,7 +6,7 @@ use Rattle.bg_pick.proofs.pick.is_refuted.Goals as goal
 
 pub returns-in-Some : goal.returns-in-Some
 returns-in-Some c =
-    sym (something_false (formula_of c.args.f.now) (has c.args.set.now) c.args.trail.now.decisions.items _ c.in-Some.ensures)
+    sym (something_false (formula_of c.args.problem.now.formula.now) (has c.args.problem.now.set.now) c.args.trail.now.decisions.items _ c.in-Some.ensures)
 
 pub returns-in-None : goal.returns-in-None
 returns-in-None c =
@@ -14,4 +14,4 @@ returns-in-None c =
     let e = c.row_at-last.ensures in
     let h = c.in-None.ensures in
     let g = rw (e, n) at h in
-    sym (nothing_false (formula_of c.args.f.now) (has c.args.set.now) c.args.i.now c.args.trail.now.decisions.items c.args.mark.now c.requires g)
+    sym (nothing_false (formula_of c.args.problem.now.formula.now) (has c.args.problem.now.set.now) c.args.problem.now.index.now c.args.trail.now.decisions.items c.args.mark.now c.requires g)

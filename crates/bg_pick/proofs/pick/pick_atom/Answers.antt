@@ -10,23 +10,23 @@ use Rattle.bg_pick.proofs.pick.pick_atom.Goals as goal
 
 pub returns-in-Some-clause-split : goal.returns-in-Some-clause-split
 returns-in-Some-clause-split c =
-    unit_may_split (formula_of c.args.f.now) (has c.args.set.now) c.args.trail.now.decisions.items c.in-Some.a c.requires.whole c.in-Some.ensures.unit
+    unit_may_split (formula_of c.args.problem.now.formula.now) (has c.args.problem.now.set.now) c.args.trail.now.decisions.items c.in-Some.a c.requires.whole c.in-Some.ensures.unit
 
 pub returns-in-Some-suggest-clause-split : goal.returns-in-Some-suggest-clause-split
 returns-in-Some-suggest-clause-split c =
-    at_may_split (formula_of c.args.f.now) (has c.args.set.now) c.args.trail.now.decisions.items c.in-Some-suggest.a c.requires.whole c.in_default.ensures.unit c.in-Some-suggest.ensures.stands
+    at_may_split (formula_of c.args.problem.now.formula.now) (has c.args.problem.now.set.now) c.args.trail.now.decisions.items c.in-Some-suggest.a c.requires.whole c.in_default.ensures.unit c.in-Some-suggest.ensures.stands
 
 pub open_from-requires-clause-fine : goal.open_from-requires-clause-fine
 open_from-requires-clause-fine c =
-    let f = formula_of c.args.f.now in
-    rw c.deref.ensures.value ((false_parts c.args.trail.now.decisions.items f.clauses (units_of f (has c.args.set.now)) c.requires.fine).0)
+    let f = formula_of c.args.problem.now.formula.now in
+    rw c.deref.ensures.value ((false_parts c.args.trail.now.decisions.items f.clauses (units_of f (has c.args.problem.now.set.now)) c.requires.fine).0)
 
 pub returns-in-Some-open_from-clause-split : goal.returns-in-Some-open_from-clause-split
 returns-in-Some-open_from-clause-split c =
     let v = c.deref.ensures.value in
     let h = c.in-Some-open_from.ensures.open in
     let g = rw v at h in
-    open_may_split (formula_of c.args.f.now) (has c.args.set.now) c.args.trail.now.decisions.items c.in-Some-open_from.a c.requires.whole c.in_default.ensures.unit g
+    open_may_split (formula_of c.args.problem.now.formula.now) (has c.args.problem.now.set.now) c.args.trail.now.decisions.items c.in-Some-open_from.a c.requires.whole c.in_default.ensures.unit g
 
 pub returns-in-Some-free_from-clause-split : goal.returns-in-Some-free_from-clause-split
 returns-in-Some-free_from-clause-split c =
@@ -34,4 +34,4 @@ returns-in-Some-free_from-clause-split c =
     let h = c.in_default-open_from.ensures.open in
     let g = rw v at h in
     let x = c.in-Some-free_from.ensures.free in
-    free_may_split (formula_of c.args.f.now) (has c.args.set.now) c.args.trail.now.decisions.items c.in-Some-free_from.a c.requires.fine c.in_default.ensures.unit g x.0 (let l = x.1 in omega (arith, c.len.ensures, c.args.f.now.atoms.ok.0, length-map c.args.f.now.atoms.items atom_of))
+    free_may_split (formula_of c.args.problem.now.formula.now) (has c.args.problem.now.set.now) c.args.trail.now.decisions.items c.in-Some-free_from.a c.requires.fine c.in_default.ensures.unit g x.0 (let l = x.1 in omega (arith, c.len.ensures, c.args.problem.now.formula.now.atoms.ok.0, length-map c.args.problem.now.formula.now.atoms.items atom_of))

@@ -10,4 +10,4 @@ returns-in-None c =
     let e = c.row_at-hints.ensures in
     let h = c.in-None.ensures in
     let g = rw (e, n) at h in
-    nothing_false (formula_of c.args.f.now) (has c.args.set.now) c.args.i.now c.args.trail.now.decisions.items c.args.mark.now c.requires g
+    nothing_false (formula_of c.args.problem.now.formula.now) (has c.args.problem.now.set.now) c.args.problem.now.index.now c.args.trail.now.decisions.items c.args.mark.now c.requires g
