@@ -2,7 +2,7 @@
 use bg_rows::Step;
 
 /// What a path has decided.
-#[derive(Clone, Copy, PartialEq, Eq, Debug)]
+#[derive(Clone, Copy)]
 pub enum Decision {
     /// An atom, by its place among the formula's, with its sign.
     Atom(usize, bool),
@@ -12,7 +12,7 @@ pub enum Decision {
 
 /// A node of a case tree, its numbers any that fit in 128 bits. The nodes stand before their
 /// children, the child that decides true first.
-#[derive(Debug, Drop)]
+#[derive(Drop)]
 pub enum Node {
     /// Decides an atom, both ways.
     Split(u128),

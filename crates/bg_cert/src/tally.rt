@@ -3,7 +3,7 @@ ghost use Rattle.std.specs.Prelude.{◌≡◌, ◌<◌, ◌-◌, ◌^◌, nat_lt
 ghost use Rattle.bg_cert.specs.Counts.{tally_of, one_more, one_less};
 
 /// How often a path decides an atom true, and how often false.
-#[derive(Clone, Copy, PartialEq, Eq, Debug)]
+#[derive(Clone, Copy)]
 pub struct Tally {
     pub yes: usize,
     pub no: usize,

@@ -8,7 +8,7 @@ use crate::tally::{Tally, is_counted, one_less, one_more};
 use std::alloc::{AllocError, Global};
 
 /// Decisions in their order, and for each atom how often they give it each sign.
-#[derive(Debug, Drop)]
+#[derive(Drop)]
 pub struct Trail {
     pub decisions: Vec<Decision>,
     pub counts: Vec<Tally>,

@@ -10,7 +10,7 @@ use crate::trail::{Trail, decide, first_trail, undo_to};
 use std::alloc::{AllocError, Global};
 
 /// A path that waits: the first decisions of the open one, and one more.
-#[derive(Clone, Copy, PartialEq, Eq, Debug)]
+#[derive(Clone, Copy)]
 pub struct Waiting {
     pub depth: usize,
     pub last: Decision,
@@ -18,7 +18,7 @@ pub struct Waiting {
 
 /// What the open path decided, and the paths that wait, the next one last. Without an open path the
 /// walk has ended.
-#[derive(Debug, Drop)]
+#[derive(Drop)]
 pub struct Walk {
     pub trail: Trail,
     pub waiting: Vec<Waiting>,

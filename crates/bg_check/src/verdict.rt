@@ -6,7 +6,7 @@ use bg_places::Place;
 use bg_tree::Why;
 
 /// Why a place is left unknown.
-#[derive(Debug, Drop)]
+#[derive(Drop)]
 pub enum Cause {
     /// The search finds neither a certificate nor a complete leaf.
     Search(Why),
@@ -18,7 +18,7 @@ pub enum Cause {
 
 /// What is known of a place: a certificate that its check never fails; a counterexample, with which the induction run fails there,
 /// each operation on its way within 128 bits; or why neither was found.
-#[derive(Debug, Drop)]
+#[derive(Drop)]
 pub enum Verdict {
     Proved(Vec<Node>),
     Refuted(Counterexample),
@@ -26,7 +26,7 @@ pub enum Verdict {
 }
 
 /// A place, and what is known of it.
-#[derive(Debug, Drop)]
+#[derive(Drop)]
 pub struct Judged {
     pub place: Place,
     pub verdict: Verdict,

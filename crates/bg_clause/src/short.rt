@@ -8,7 +8,7 @@ use bg_forms::Form;
 use bg_formula::Literal;
 
 /// A form that needs no atom in its place.
-#[derive(Clone, Copy, Debug)]
+#[derive(Clone, Copy)]
 pub enum Short {
     Plain(bool),
     Is(Literal),

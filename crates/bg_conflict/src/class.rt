@@ -4,7 +4,7 @@ use crate::ledger::Ledger;
 use std::alloc::{AllocError, Global};
 
 /// The nearest row of a class: its bound, and the number of the decision that it is of.
-#[derive(Clone, Copy, PartialEq, Eq, Debug)]
+#[derive(Clone, Copy)]
 pub struct Near {
     pub bound: i128,
     pub at: usize,
@@ -12,7 +12,7 @@ pub struct Near {
 
 /// The rows that have the same entries once they are tightened: the class of those with the negated
 /// entries, the variables, the nearest row that is decided, and the turn in which it was last reached.
-#[derive(Debug, Drop)]
+#[derive(Drop)]
 pub struct Class {
     pub opposite: Option<usize>,
     pub variables: Vec<u32>,

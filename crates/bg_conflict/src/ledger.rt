@@ -8,21 +8,21 @@ use std::alloc::{AllocError, Global};
 use std::collections::BTreeMap;
 
 /// Where a row sits: its class, and its bound once it is tightened.
-#[derive(Clone, Copy, PartialEq, Eq, Debug)]
+#[derive(Clone, Copy)]
 pub struct Seat {
     pub class: usize,
     pub bound: i128,
 }
 
 /// The seats of an atom's row and of its denial, each once it is asked for.
-#[derive(Clone, Copy, PartialEq, Eq, Debug)]
+#[derive(Clone, Copy)]
 pub struct Seats {
     pub row: Option<Seat>,
     pub denial: Option<Seat>,
 }
 
 /// That a decision's row became the nearest of its class, and which one was before.
-#[derive(Clone, Copy, PartialEq, Eq, Debug)]
+#[derive(Clone, Copy)]
 pub struct Undo {
     pub at: usize,
     pub class: usize,
@@ -33,7 +33,7 @@ pub struct Undo {
 /// it that have a nearest row, in the order in which they came to have one, and the turn in which it
 /// was last reached; what the decisions changed, in their order, and how many of these changes the
 /// last elimination in vain saw; how many decisions are noted; and the number of the last turn.
-#[derive(Debug, Drop)]
+#[derive(Drop)]
 pub struct Ledger {
     pub ids: BTreeMap<Vec<(u32, i128)>, usize>,
     pub classes: Vec<Class>,

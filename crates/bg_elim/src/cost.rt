@@ -1,4 +1,5 @@
-//! What the elimination of a variable costs: a guide alone, of which no answer depends.
+//! What the elimination of a variable costs. What is counted here decides which variable goes first, and so which order and which
+//! rows are answered; that they are right doesn't depend on it.
 use crate::work::Stand;
 use bg_rows::{Entry, Row};
 use std::alloc::AllocError;
@@ -9,7 +10,7 @@ const INEXACT: u64 = 16;
 
 /// How many live rows bound a variable from above and from below, and how many of them have a
 /// coefficient other than 1 or -1.
-#[derive(Clone, Copy, PartialEq, Eq, Debug)]
+#[derive(Clone, Copy)]
 pub struct Sides {
     pub ups: u64,
     pub lows: u64,

@@ -4,7 +4,7 @@ use bg_base::OutOfRange;
 use bg_rows::{Row, Step};
 
 /// Why a row is kept: it was given, or it is made from earlier ones.
-#[derive(Clone, Copy, PartialEq, Eq, Debug)]
+#[derive(Clone, Copy)]
 pub enum Reason {
     /// Given row j, from 0.
     Given(usize),
@@ -15,7 +15,7 @@ pub enum Reason {
 }
 
 /// An order of variables, and kept rows with the reason of each.
-#[derive(Debug, Drop)]
+#[derive(Drop)]
 pub struct Order {
     pub variables: Vec<u32>,
     pub reasons: Vec<Reason>,
@@ -24,7 +24,7 @@ pub struct Order {
 
 /// An elimination of which an operation leaves the range: the numbers of its two kept rows, the
 /// variable, and the operation.
-#[derive(Clone, Copy, PartialEq, Eq, Debug)]
+#[derive(Clone, Copy)]
 pub struct Further {
     pub first: usize,
     pub second: usize,
@@ -34,7 +34,7 @@ pub struct Further {
 
 /// Why elimination came to no end: as many rows were kept as the budget says, or an operation of
 /// a further elimination leaves the range.
-#[derive(Debug, Drop)]
+#[derive(Drop)]
 pub enum Stop {
     Rows(Order),
     Range(Order, Further),
@@ -42,7 +42,7 @@ pub enum Stop {
 
 /// What elimination finds: a derivation of a false row, an order that solves the rows, or why it
 /// stopped.
-#[derive(Debug, Drop)]
+#[derive(Drop)]
 pub enum Found {
     Refuted(Vec<Step>),
     Solvable(Order),

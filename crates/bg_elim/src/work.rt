@@ -21,7 +21,7 @@ pub struct Work {
 }
 
 /// What taking a row in did.
-#[derive(Clone, Copy, PartialEq, Eq, Debug)]
+#[derive(Clone, Copy)]
 pub enum Taken {
     /// It is kept, or implied by one that is, or always true.
     Done,
@@ -32,7 +32,7 @@ pub enum Taken {
 }
 
 /// How a row stands to the nearest kept row of the same entries.
-#[derive(Clone, Copy, PartialEq, Eq, Debug)]
+#[derive(Clone, Copy)]
 pub enum Stand {
     /// None is found.
     Alone,
@@ -43,7 +43,7 @@ pub enum Stand {
 }
 
 /// What pairing two kept rows did.
-#[derive(Clone, Copy, PartialEq, Eq, Debug)]
+#[derive(Clone, Copy)]
 pub enum Paired {
     /// The row without the variable is taken in.
     Ready,
@@ -56,7 +56,7 @@ pub enum Paired {
 }
 
 /// What a row of pairs did.
-#[derive(Clone, Copy, PartialEq, Eq, Debug)]
+#[derive(Clone, Copy)]
 pub enum Round {
     /// All pairs are taken in.
     Whole,
@@ -69,7 +69,7 @@ pub enum Round {
 }
 
 /// A side of 0.
-#[derive(Clone, Copy, PartialEq, Eq, Debug)]
+#[derive(Clone, Copy)]
 pub enum Side {
     Above,
     Below,

@@ -5,14 +5,14 @@ ghost use Rattle.bg_rows.specs.Rows.{row_of, denied};
 use bg_rows::Row;
 
 /// An atom's number, from 0, with the sign that it is to have.
-#[derive(Clone, Copy, PartialEq, Eq, Debug)]
+#[derive(Clone, Copy)]
 pub struct Literal {
     pub atom: u32,
     pub sign: bool,
 }
 
 /// A row over the formula's terms, with the row that holds exactly where it does not.
-#[derive(Debug, Drop)]
+#[derive(Drop)]
 pub struct Linear {
     pub row: Row,
     pub denial: Row,
@@ -20,7 +20,7 @@ pub struct Linear {
 }
 
 /// An atom: a truth variable of this number, or a row.
-#[derive(Debug, Drop)]
+#[derive(Drop)]
 pub enum Atom {
     Truth(u32),
     Holds(Linear),

@@ -4,7 +4,7 @@ use crate::atom::{Atom, Literal};
 
 /// A formula: the conjunction of its clauses, each a disjunction of literals. A literal names an
 /// atom by its place among the atoms, and a row names a term by a number below `terms`.
-#[derive(Debug, Drop)]
+#[derive(Drop)]
 pub struct Clauses {
     pub terms: u32,
     pub atoms: Vec<Atom>,

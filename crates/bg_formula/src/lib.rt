@@ -6,9 +6,7 @@ mod atom;
 mod clauses;
 mod deny;
 pub mod laws;
-mod whole;
 
 pub use atom::{Atom, Linear, Literal};
 pub use clauses::Clauses;
 pub use deny::deny_row;
-pub use whole::is_whole;

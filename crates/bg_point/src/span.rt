@@ -3,28 +3,28 @@
 use crate::spot::{Far, Gap, Spot};
 
 /// The limit that a row sets.
-#[derive(Clone, Copy, PartialEq, Eq, Debug)]
+#[derive(Clone, Copy)]
 pub struct Mark {
     pub value: i128,
     pub row: usize,
 }
 
 /// The greatest lower and the least upper limit, where there are any.
-#[derive(Clone, Copy, PartialEq, Eq, Debug)]
+#[derive(Clone, Copy)]
 pub struct Span {
     pub low: Option<Mark>,
     pub up: Option<Mark>,
 }
 
 /// The value nearest to 0 in a span, with the row that keeps it from 0; or that there is none.
-#[derive(Clone, Copy, PartialEq, Eq, Debug)]
+#[derive(Clone, Copy)]
 pub enum Choice {
     Value(Mark),
     Empty { below: i128, low: usize, up: usize },
 }
 
 /// What the next variable gets.
-#[derive(Clone, Copy, PartialEq, Eq, Debug)]
+#[derive(Clone, Copy)]
 pub enum Next {
     Value(Spot),
     Empty(Gap),

@@ -4,7 +4,7 @@ use bg_base::OutOfRange;
 
 /// A variable with its value, and the number of the kept row that keeps it from 0, where the value
 /// isn't 0.
-#[derive(Clone, Copy, PartialEq, Eq, Debug)]
+#[derive(Clone, Copy)]
 pub struct Spot {
     pub variable: u32,
     pub value: i128,
@@ -13,7 +13,7 @@ pub struct Spot {
 
 /// No whole number fits between `below` and `below + 1`: row `low` keeps the variable above
 /// `below`, and row `up` below `below + 1`.
-#[derive(Clone, Copy, PartialEq, Eq, Debug)]
+#[derive(Clone, Copy)]
 pub struct Gap {
     pub variable: u32,
     pub below: i128,
@@ -22,7 +22,7 @@ pub struct Gap {
 }
 
 /// An operation on kept row `row` at the variable leaves the range.
-#[derive(Clone, Copy, PartialEq, Eq, Debug)]
+#[derive(Clone, Copy)]
 pub struct Far {
     pub variable: u32,
     pub row: usize,
@@ -31,7 +31,7 @@ pub struct Far {
 
 /// What back-substitution finds, with the spots so far, the last variable first: a value for each
 /// variable, a gap, or an operation that leaves the range.
-#[derive(Debug, Drop)]
+#[derive(Drop)]
 pub enum Placed {
     Point(Vec<Spot>),
     Split(Vec<Spot>, Gap),

@@ -17,3 +17,5 @@ mod point;
 mod rows;
 #[cfg(test)]
 mod tree;
+#[cfg(test)]
+mod whole;

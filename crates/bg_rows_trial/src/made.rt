@@ -1,6 +1,6 @@
 //! Rows and formulas of tables.
 use bg_formula::{Atom, Clauses, Linear, Literal, deny_row};
-use bg_rows::{Entry, Row, make};
+use bg_rows::{Entry, Row, combine};
 use std::alloc::{AllocError, Global};
 use std::test::Fail;
 
@@ -13,19 +13,30 @@ pub type Given = (Entries, i128);
 /// The atoms of a clause with their signs.
 pub type Signed = &'static [(u32, bool)];
 
-pub fn list(alloc: Global, entries: &[(u32, i128)]) -> Result<Vec<Entry>, AllocError> {
-    let mut made = Vec::new(alloc);
-    for (variable, by) in entries {
-        made.push(Entry {
-            variable: *variable,
-            by: *by,
-        })?;
+/// A row and one entry more.
+fn with(alloc: Global, row: &Row, variable: u32, by: i128) -> Result<Row, Fail> {
+    if by == 0 {
+        return Err("no entry".into());
     }
-    Ok(made)
+    let one = Row {
+        entries: vec![in alloc; Entry { variable, by }]?,
+        bound: 0,
+    };
+    match combine(alloc, row, 1, &one, 1) {
+        Ok(both) => Ok(both),
+        Err(_) => Err("no row".into()),
+    }
 }
 
 pub fn row(alloc: Global, given: Given) -> Result<Row, Fail> {
-    Ok(make(list(alloc, given.0)?, given.1).ok_or("no row")?)
+    let mut made = Row {
+        entries: Vec::new(alloc),
+        bound: given.1,
+    };
+    for (variable, by) in given.0 {
+        made = with(alloc, &made, *variable, *by)?;
+    }
+    Ok(made)
 }
 
 pub fn rows(alloc: Global, given: &[Given]) -> Result<Vec<Row>, Fail> {

@@ -1,6 +1,6 @@
 //! The index of a formula made by hand.
 use crate::made::formula;
-use bg_formula::is_whole;
+use crate::whole::is_whole;
 use bg_pick::{Hint, index_of};
 use std::test::Fail;
 

@@ -1,9 +1,7 @@
 //! Each public call on rows once, at values made by hand and at the ends of the range.
-use crate::made::{Entries, Given, list, row, rows};
+use crate::made::{Given, row, rows};
 use bg_base::{Op, OutOfRange};
-use bg_rows::{
-    Refused, Row, Step, are_opposite, combine, copy, deny, derives, eliminate, make, tighten,
-};
+use bg_rows::{Refused, Row, Step, are_opposite, combine, copy, deny, derives, eliminate, tighten};
 use std::alloc::Global;
 use std::test::Fail;
 
@@ -129,18 +127,12 @@ const STEPS: [(&[Step], bool); 4] = [
     (&[Step::Path(0), Step::Sum(0, -1, 0, 1)], false),
 ];
 
-/// Entries, and whether they make a row.
-const ENTRIES: [(Entries, bool); 3] = [(&[], true), (&[(2, 1), (2, 1)], false), (&[(2, 0)], false)];
-
 #[test]
-fn derivations_and_rows_are_told_from_what_is_none(rt: HostRuntime) -> Result<(), Fail> {
+fn derivations_are_told_from_what_is_none(rt: HostRuntime) -> Result<(), Fail> {
     let alloc = rt.alloc();
     let path = rows(alloc, &PATH)?;
     for (steps, is_one) in &STEPS {
         assert!(rt; derives(alloc, &path, steps)? == *is_one);
-    }
-    for (entries, is_one) in &ENTRIES {
-        assert!(rt; make(list(alloc, entries)?, 0).is_some() == *is_one);
     }
     Ok(())
 }

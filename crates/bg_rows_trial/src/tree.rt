@@ -2,8 +2,9 @@
 ghost use Rattle.std.specs.Prelude.{◌<◌};
 
 use crate::made::{Given, Signed, clause, formula};
+use crate::whole::is_whole;
 use bg_cert::{Node, accepts, used};
-use bg_formula::{Clauses, is_whole};
+use bg_formula::Clauses;
 use bg_tree::{Beyond, Budget, Outcome, Why, search};
 use std::alloc::{AllocError, Global};
 use std::test::Fail;
@@ -197,14 +198,21 @@ fn a_certificate_names_the_candidates_that_it_uses(rt: HostRuntime) -> Result<()
     Ok(())
 }
 
+/// More clauses, behind those of a formula.
+fn push_all(alloc: Global, f: &mut Clauses, clauses: &[&[(u32, bool)]]) -> Result<(), AllocError> {
+    for literals in clauses {
+        f.clauses.push(clause(alloc, literals)?)?;
+    }
+    Ok(())
+}
+
 /// A chain of so many implications from a true variable to a false one, written from its end on.
 fn chain(alloc: Global, links: u32) -> Result<Clauses, Fail> {
     let mut f = formula(alloc, &[], links.saturating_add(1), &[&[(0, true)]])?;
-    f.clauses.push(clause(alloc, &[(links, false)])?)?;
+    push_all(alloc, &mut f, &[&[(links, false)]])?;
     for k in 0..links {
         let last = links - k;
-        f.clauses
-            .push(clause(alloc, &[(last - 1, false), (last, true)])?)?;
+        push_all(alloc, &mut f, &[&[(last - 1, false), (last, true)]])?;
     }
     Ok(f)
 }
@@ -213,13 +221,12 @@ fn chain(alloc: Global, links: u32) -> Result<Clauses, Fail> {
 fn push_way(alloc: Global, f: &mut Clauses, way: u32, k: u32) -> Result<(), AllocError>
     requires { k < 100 }
 {
-    f.clauses
-        .push(clause(alloc, &[(way, false), (102 + k, true)])?)?;
-    f.clauses
-        .push(clause(alloc, &[(way, false), (k, false), (k + 1, true)])?)?;
-    f.clauses
-        .push(clause(alloc, &[(way, false), (k, true), (k + 1, false)])?)?;
-    Ok(())
+    let clauses: [&[(u32, bool)]; 3] = [
+        &[(way, false), (102 + k, true)],
+        &[(way, false), (k, false), (k + 1, true)],
+        &[(way, false), (k, true), (k + 1, false)],
+    ];
+    push_all(alloc, f, &clauses)
 }
 
 /// Two ways lead from each of a hundred blocks to the next one.
@@ -228,7 +235,11 @@ fn ways(alloc: Global) -> Result<Clauses, Fail> {
     let mut f = formula(alloc, &[], 402, &ends)?;
     for k in 0..100_u32 {
         let (left, right) = (202 + k, 302 + k);
-        f.clauses.push(clause(alloc, &[(101 + k, false), (left, true), (right, true)])?)?;
+        push_all(
+            alloc,
+            &mut f,
+            &[&[(101 + k, false), (left, true), (right, true)]],
+        )?;
         push_way(alloc, &mut f, left, k)?;
         push_way(alloc, &mut f, right, k)?;
     }

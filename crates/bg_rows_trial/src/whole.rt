@@ -1,10 +1,9 @@
-//! Whether what names an atom or a term names one that is there.
+//! Whether a formula made by hand names atoms and terms that are there.
 ghost use Rattle.std.specs.Prelude.{◌≡◌, map};
 ghost use Rattle.bg_formula.specs.Atoms.{atom_of};
 ghost use Rattle.bg_formula.specs.Formulas.{formula_of, literals_below, clauses_below, units_below, entries_below, atom_below, rows_below, is_whole};
 
-use crate::atom::{Atom, Literal};
-use crate::clauses::Clauses;
+use bg_formula::{Atom, Clauses, Literal};
 use bg_rows::Entry;
 
 fn literals_below(atoms: usize, clause: &[Literal]) -> bool
