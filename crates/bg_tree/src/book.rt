@@ -9,7 +9,7 @@ use std::alloc::{AllocError, Global};
 /// What is known of the open path's node: the path is the root or a first child; a second child behind
 /// a closed leaf; or a second child behind another first one, of a node that is paid for, or whose
 /// second child is due to be closed.
-#[derive(Clone, Copy, PartialEq, Eq, Debug)]
+#[derive(Clone, Copy)]
 pub enum Head {
     First,
     Next,
@@ -19,7 +19,7 @@ pub enum Head {
 
 /// How many nodes may count yet, besides those paid for; the open path's node; and of each path that
 /// waits whether its node is paid for.
-#[derive(Debug, Drop)]
+#[derive(Drop)]
 pub struct Book {
     pub left: u32,
     pub head: Head,

@@ -5,6 +5,7 @@ ghost use Rattle.bg_cert.specs.Certs.{root};
 ghost use Rattle.bg_cert.specs.Walks.{IsWalk, atoms_on, stack_of, has};
 ghost use Rattle.bg_tree.specs.declared.book.Head.TheVariants.{First};
 ghost use Rattle.bg_pick.specs.Index.{IsIndex};
+ghost use Rattle.bg_pick.specs.Problems.{formula_in, set_in};
 ghost use Rattle.bg_tree.specs.Trees.{IsOutcome};
 
 use crate::book::{Book, Head};
@@ -14,7 +15,7 @@ use crate::whole::whole;
 use bg_cert::first_walk;
 use bg_conflict::new_ledger;
 use bg_formula::Clauses;
-use bg_pick::{Index, first_guide, index_of, new_probe};
+use bg_pick::{Problem, first_guide, index_of, new_probe};
 use std::alloc::{AllocError, Global};
 
 /// The search at the root, over so many atoms, where so many nodes may count.
@@ -48,20 +49,18 @@ fn first_search(alloc: Global, atoms: usize, nodes: u32) -> Result<Search, Alloc
 /// The search, where the index of the formula is made.
 fn searched(
     alloc: Global,
-    f: &Clauses,
-    set: &[bool],
+    problem: &Problem<'_>,
     budget: Budget,
-    i: &Index,
     aids: &mut Aids,
 ) -> Result<Outcome, AllocError>
-    requires whole { is_whole (formula_of f.now) ≡ true }
-    requires named { IsIndex (formula_of f.now) (has set.now) i.now }
-    ensures { IfOk result (λ outcome. IsOutcome (formula_of f.now) (has set.now) budget outcome) }
+    requires whole { is_whole (formula_in problem.now) ≡ true }
+    requires named { IsIndex (formula_in problem.now) (set_in problem.now) problem.now.index.now }
+    ensures { IfOk result (λ outcome. IsOutcome (formula_in problem.now) (set_in problem.now) budget outcome) }
 {
-    let mut s = first_search(alloc, f.atoms.len(), budget.nodes)?;
+    let mut s = first_search(alloc, problem.formula.atoms.len(), budget.nodes)?;
     let mut guide = first_guide(alloc);
     while s.walk.is_open {
-        if let Some(halt) = step(alloc, f, set, i, &mut s, &mut guide, aids, budget.rows)? {
+        if let Some(halt) = step(alloc, problem, &mut s, &mut guide, aids, budget.rows)? {
             return Ok(outcome_of(s.walk.trail.decisions, halt));
         }
     }
@@ -86,10 +85,15 @@ pub fn search(
     requires { is_whole (formula_of f.now) ≡ true }
     ensures { IfOk result (λ outcome. IsOutcome (formula_of f.now) (has set.now) budget outcome) }
 {
-    let i = index_of(alloc, f, set)?;
+    let index = index_of(alloc, f, set)?;
     let mut aids = Aids {
         probe: new_probe(alloc, f.atoms.len())?,
         ledger: new_ledger(alloc, f)?,
     };
-    searched(alloc, f, set, budget, &i, &mut aids)
+    let problem = Problem {
+        formula: f,
+        set,
+        index: &index,
+    };
+    searched(alloc, &problem, budget, &mut aids)
 }

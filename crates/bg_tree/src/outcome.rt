@@ -9,7 +9,7 @@ use bg_point::{Far, Spot};
 use bg_rows::Step;
 
 /// How many nodes of a tree may count, and how many different rows an elimination may keep.
-#[derive(Clone, Copy, PartialEq, Eq, Debug)]
+#[derive(Clone, Copy)]
 pub struct Budget {
     pub nodes: u32,
     pub rows: u32,
@@ -17,7 +17,7 @@ pub struct Budget {
 
 /// A path that decides every atom and makes no clause and no unit of the set false, with an order
 /// that solves its rows and a near point that meets them.
-#[derive(Debug, Drop)]
+#[derive(Drop)]
 pub struct Leaf {
     pub path: Vec<Decision>,
     pub order: Order,
@@ -26,14 +26,14 @@ pub struct Leaf {
 
 /// An operation that leaves 128 bits: of a further elimination on kept rows, or of the next value
 /// of an order that solves the rows.
-#[derive(Debug, Drop)]
+#[derive(Drop)]
 pub enum Beyond {
     Elimination(Order, Further),
     Value(Order, Vec<Spot>, Far),
 }
 
 /// Why the search ends at a path that decides every atom.
-#[derive(Debug, Drop)]
+#[derive(Drop)]
 pub enum Halt {
     Point(Order, Vec<Spot>),
     Rows(Order),
@@ -42,7 +42,7 @@ pub enum Halt {
 
 /// What the rows of a path tell that decides every atom: a derivation of a false row, a gap between
 /// two whole numbers, or that the search ends.
-#[derive(Debug, Drop)]
+#[derive(Drop)]
 pub enum End {
     Refuted(Vec<Step>),
     Split(Kept),
@@ -50,7 +50,7 @@ pub enum End {
 }
 
 /// Why the search finds neither a certificate nor a complete leaf.
-#[derive(Debug, Drop)]
+#[derive(Drop)]
 pub enum Why {
     /// A tree with an open leaf, in which exactly the budget's number of nodes counts, or which has 20 times as many inner nodes;
     /// and the budget.
@@ -64,7 +64,7 @@ pub enum Why {
 
 /// What the search finds: a certificate, which the checker accepts; a complete leaf; or why neither
 /// was found.
-#[derive(Debug, Drop)]
+#[derive(Drop)]
 pub enum Outcome {
     Closed(Vec<Node>),
     Leaf(Leaf),

@@ -1,13 +1,14 @@
 //! The search's steps: each makes one part of the tree.
 ghost use Rattle.std.specs.Prelude.{◌≡◌, ◌<◌, ◌++◌, ◌∷◌, [], IfOk, OnOk, length, true, false, None, IsTrue};
-ghost use Rattle.bg_formula.specs.Formulas.{formula_of, is_whole};
+ghost use Rattle.bg_formula.specs.Formulas.{is_whole};
 ghost use Rattle.bg_cert.specs.Certs.{node_of, closes};
 ghost use Rattle.bg_cert.specs.Causes.{any_false, units_of};
 ghost use Rattle.bg_cert.specs.declared.cert.Decision.TheVariants.{Atom, AtMost};
-ghost use Rattle.bg_cert.specs.Walks.{IsWalk, has, path_of, stack_of, others_of, decided_on, atoms_on};
+ghost use Rattle.bg_cert.specs.Walks.{IsWalk, path_of, stack_of, others_of, decided_on, atoms_on};
 ghost use Rattle.bg_pick.specs.Index.{IsIndex};
 ghost use Rattle.bg_pick.specs.Marks.{marks_of, IsMark, AllReady};
 ghost use Rattle.bg_pick.specs.Picks.{MaySplit, IsComplete};
+ghost use Rattle.bg_pick.specs.Problems.{formula_in, set_in};
 ghost use Rattle.bg_tree.specs.Ways.{ArePaths};
 ghost use Rattle.bg_tree.specs.declared.book.Head.TheVariants.{Due};
 ghost use Rattle.bg_tree.specs.Books.{IsOwed, is_paid};
@@ -19,14 +20,13 @@ use crate::part::{Kept, Part};
 use crate::settle::{refuted, settle};
 use bg_cert::{Decision, Node, Walk, close, open_both};
 use bg_conflict::Ledger;
-use bg_formula::Clauses;
-use bg_pick::{Guide, Index, Mark, Pick, Probe, fails, go_on, next_at, split};
+use bg_pick::{Choice, Guide, Mark, Pick, Probe, Problem, fails, go_on, next_at, split};
 use bg_point::Gap;
 use std::alloc::{AllocError, Global};
 
 /// The search's state: the paths, the tree so far, the inner nodes that are left, which of them may
 /// count, and whether a leaf was left open.
-#[derive(Debug, Drop)]
+#[derive(Drop)]
 pub struct Search {
     pub walk: Walk,
     pub parts: Vec<Part>,
@@ -36,21 +36,21 @@ pub struct Search {
 }
 
 /// What helps to choose and to close: a probe for looks ahead, and the nearest rows of the path.
-#[derive(Debug, Drop)]
+#[derive(Drop)]
 pub struct Aids {
     pub probe: Probe,
     pub ledger: Ledger,
 }
 
 /// Closes the open path by a leaf whose claim holds.
-fn emit_leaf(f: &Clauses, set: &[bool], s: &mut Search, node: Node) -> Result<(), AllocError>
+fn emit_leaf(problem: &Problem<'_>, s: &mut Search, node: Node) -> Result<(), AllocError>
     requires is_walk { IsWalk s.old.walk }
     requires is_open { IsTrue s.old.walk.is_open }
-    requires kept { KeepsCount (formula_of f.now) (has set.now) s.old }
+    requires kept { KeepsCount (formula_in problem.now) (set_in problem.now) s.old }
     requires due { s.old.seen ≡ true → s.old.book.head ≡ Due }
-    requires holds { closes (formula_of f.now) (has set.now) (path_of (formula_of f.now) (decided_on s.old.walk)) (node_of node) ≡ true }
-    ensures moves { OnOk result (Moves (formula_of f.now) (has set.now) s.old s.new) }
-    ensures stack { OnOk result (stack_of (formula_of f.now) s.new.walk ≡ others_of (formula_of f.now) s.old.walk) }
+    requires holds { closes (formula_in problem.now) (set_in problem.now) (path_of (formula_in problem.now) (decided_on s.old.walk)) (node_of node) ≡ true }
+    ensures moves { OnOk result (Moves (formula_in problem.now) (set_in problem.now) s.old s.new) }
+    ensures stack { OnOk result (stack_of (formula_in problem.now) s.new.walk ≡ others_of (formula_in problem.now) s.old.walk) }
 {
     s.parts.push(Part::Plain(node))?;
     close(&mut s.walk)?;
@@ -59,14 +59,14 @@ fn emit_leaf(f: &Clauses, set: &[bool], s: &mut Search, node: Node) -> Result<()
 }
 
 /// Leaves the open path open, where no node is left.
-fn emit_open(f: &Clauses, set: &[bool], s: &mut Search) -> Result<(), AllocError>
+fn emit_open(problem: &Problem<'_>, s: &mut Search) -> Result<(), AllocError>
     requires is_walk { IsWalk s.old.walk }
     requires is_open { IsTrue s.old.walk.is_open }
-    requires is_fine { any_false (decided_on s.old.walk) ((formula_of f.now).clauses ++ units_of (formula_of f.now) (has set.now)) ≡ false }
-    requires kept { KeepsCount (formula_of f.now) (has set.now) s.old }
+    requires is_fine { any_false (decided_on s.old.walk) ((formula_in problem.now).clauses ++ units_of (formula_in problem.now) (set_in problem.now)) ≡ false }
+    requires kept { KeepsCount (formula_in problem.now) (set_in problem.now) s.old }
     requires is_spent { IsSpent s.old }
-    ensures moves { OnOk result (Moves (formula_of f.now) (has set.now) s.old s.new) }
-    ensures stack { OnOk result (stack_of (formula_of f.now) s.new.walk ≡ others_of (formula_of f.now) s.old.walk) }
+    ensures moves { OnOk result (Moves (formula_in problem.now) (set_in problem.now) s.old s.new) }
+    ensures stack { OnOk result (stack_of (formula_in problem.now) s.new.walk ≡ others_of (formula_in problem.now) s.old.walk) }
 {
     s.parts.push(Part::Open)?;
     close(&mut s.walk)?;
@@ -77,22 +77,21 @@ fn emit_open(f: &Clauses, set: &[bool], s: &mut Search) -> Result<(), AllocError
 
 /// Splits an atom by the rule. The node is paid for, or its second child is false.
 fn emit_split(
-    f: &Clauses,
-    set: &[bool],
+    problem: &Problem<'_>,
     s: &mut Search,
     a: usize,
     is_paid: bool,
 ) -> Result<(), AllocError>
     requires is_walk { IsWalk s.old.walk }
     requires is_open { IsTrue s.old.walk.is_open }
-    requires is_sized { atoms_on s.old.walk ≡ length f.now.atoms.items }
-    requires may { MaySplit (formula_of f.now) (has set.now) (decided_on s.old.walk) a }
-    requires kept { KeepsCount (formula_of f.now) (has set.now) s.old }
+    requires is_sized { atoms_on s.old.walk ≡ length problem.now.formula.now.atoms.items }
+    requires may { MaySplit (formula_in problem.now) (set_in problem.now) (decided_on s.old.walk) a }
+    requires kept { KeepsCount (formula_in problem.now) (set_in problem.now) s.old }
     requires is_left { 0 < s.old.book.left }
     requires is_inner { 0 < s.old.inner }
-    requires owed { IsOwed (formula_of f.now) (has set.now) (path_of (formula_of f.now) (decided_on s.old.walk ++ (Atom a false ∷ []))) is_paid }
-    ensures moves { OnOk result (Moves (formula_of f.now) (has set.now) s.old s.new) }
-    ensures stack { OnOk result (stack_of (formula_of f.now) s.new.walk ≡ path_of (formula_of f.now) (decided_on s.old.walk ++ (Atom a true ∷ [])) ∷ path_of (formula_of f.now) (decided_on s.old.walk ++ (Atom a false ∷ [])) ∷ others_of (formula_of f.now) s.old.walk) }
+    requires owed { IsOwed (formula_in problem.now) (set_in problem.now) (path_of (formula_in problem.now) (decided_on s.old.walk ++ (Atom a false ∷ []))) is_paid }
+    ensures moves { OnOk result (Moves (formula_in problem.now) (set_in problem.now) s.old s.new) }
+    ensures stack { OnOk result (stack_of (formula_in problem.now) s.new.walk ≡ path_of (formula_in problem.now) (decided_on s.old.walk ++ (Atom a true ∷ [])) ∷ path_of (formula_in problem.now) (decided_on s.old.walk ++ (Atom a false ∷ [])) ∷ others_of (formula_in problem.now) s.old.walk) }
 {
     s.parts.push(Part::Plain(Node::Split(a as u128)))?;
     open_both(
@@ -113,15 +112,15 @@ fn at_gap(gap: &Gap, s: bool) -> Decision
 }
 
 /// Splits the bound at a gap.
-fn emit_bound(f: &Clauses, set: &[bool], s: &mut Search, kept: Kept) -> Result<(), AllocError>
+fn emit_bound(problem: &Problem<'_>, s: &mut Search, kept: Kept) -> Result<(), AllocError>
     requires is_walk { IsWalk s.old.walk }
     requires is_open { IsTrue s.old.walk.is_open }
-    requires may { IsBound (formula_of f.now) (has set.now) (path_of (formula_of f.now) (decided_on s.old.walk)) kept }
-    requires kept { KeepsCount (formula_of f.now) (has set.now) s.old }
+    requires may { IsBound (formula_in problem.now) (set_in problem.now) (path_of (formula_in problem.now) (decided_on s.old.walk)) kept }
+    requires kept { KeepsCount (formula_in problem.now) (set_in problem.now) s.old }
     requires is_left { 0 < s.old.book.left }
     requires is_inner { 0 < s.old.inner }
-    ensures moves { OnOk result (Moves (formula_of f.now) (has set.now) s.old s.new) }
-    ensures stack { OnOk result (stack_of (formula_of f.now) s.new.walk ≡ path_of (formula_of f.now) (decided_on s.old.walk ++ (AtMost kept.gap.variable kept.gap.below true ∷ [])) ∷ path_of (formula_of f.now) (decided_on s.old.walk ++ (AtMost kept.gap.variable kept.gap.below false ∷ [])) ∷ others_of (formula_of f.now) s.old.walk) }
+    ensures moves { OnOk result (Moves (formula_in problem.now) (set_in problem.now) s.old s.new) }
+    ensures stack { OnOk result (stack_of (formula_in problem.now) s.new.walk ≡ path_of (formula_in problem.now) (decided_on s.old.walk ++ (AtMost kept.gap.variable kept.gap.below true ∷ [])) ∷ path_of (formula_in problem.now) (decided_on s.old.walk ++ (AtMost kept.gap.variable kept.gap.below false ∷ [])) ∷ others_of (formula_in problem.now) s.old.walk) }
 {
     let inner = s.inner - 1;
     let first = at_gap(&kept.gap, true);
@@ -135,120 +134,96 @@ fn emit_bound(f: &Clauses, set: &[bool], s: &mut Search, kept: Kept) -> Result<(
 
 /// Closes the open path, and goes on with the next path and its mark.
 fn close_by(
-    f: &Clauses,
-    set: &[bool],
-    i: &Index,
+    problem: &Problem<'_>,
     s: &mut Search,
     guide: &mut Guide,
     node: Node,
 ) -> Result<(), AllocError>
     requires is_walk { IsWalk s.old.walk }
     requires is_open { IsTrue s.old.walk.is_open }
-    requires kept { KeepsCount (formula_of f.now) (has set.now) s.old }
+    requires kept { KeepsCount (formula_in problem.now) (set_in problem.now) s.old }
     requires due { s.old.seen ≡ true → s.old.book.head ≡ Due }
-    requires holds { closes (formula_of f.now) (has set.now) (path_of (formula_of f.now) (decided_on s.old.walk)) (node_of node) ≡ true }
-    requires others { OthersReady (formula_of f.now) (has set.now) i.now s.old.walk guide.old }
-    ensures moves { OnOk result (Moves (formula_of f.now) (has set.now) s.old s.new) }
-    ensures ready { OnOk result (AllReady (formula_of f.now) (has set.now) i.now (stack_of (formula_of f.now) s.new.walk) (marks_of guide.new)) }
+    requires holds { closes (formula_in problem.now) (set_in problem.now) (path_of (formula_in problem.now) (decided_on s.old.walk)) (node_of node) ≡ true }
+    requires others { OthersReady (formula_in problem.now) (set_in problem.now) problem.now.index.now s.old.walk guide.old }
+    ensures moves { OnOk result (Moves (formula_in problem.now) (set_in problem.now) s.old s.new) }
+    ensures ready { OnOk result (AllReady (formula_in problem.now) (set_in problem.now) problem.now.index.now (stack_of (formula_in problem.now) s.new.walk) (marks_of guide.new)) }
 {
-    emit_leaf(f, set, s, node)?;
+    emit_leaf(problem, s, node)?;
     go_on(guide);
     Ok(())
 }
 
 /// Leaves the open path open, where no node is left, and goes on with the next path and its mark.
-fn leave(
-    f: &Clauses,
-    set: &[bool],
-    i: &Index,
-    s: &mut Search,
-    guide: &mut Guide,
-) -> Result<(), AllocError>
+fn leave(problem: &Problem<'_>, s: &mut Search, guide: &mut Guide) -> Result<(), AllocError>
     requires is_walk { IsWalk s.old.walk }
     requires is_open { IsTrue s.old.walk.is_open }
-    requires kept { KeepsCount (formula_of f.now) (has set.now) s.old }
-    requires is_fine { any_false (decided_on s.old.walk) ((formula_of f.now).clauses ++ units_of (formula_of f.now) (has set.now)) ≡ false }
+    requires kept { KeepsCount (formula_in problem.now) (set_in problem.now) s.old }
+    requires is_fine { any_false (decided_on s.old.walk) ((formula_in problem.now).clauses ++ units_of (formula_in problem.now) (set_in problem.now)) ≡ false }
     requires is_spent { IsSpent s.old }
-    requires others { OthersReady (formula_of f.now) (has set.now) i.now s.old.walk guide.old }
-    ensures moves { OnOk result (Moves (formula_of f.now) (has set.now) s.old s.new) }
-    ensures ready { OnOk result (AllReady (formula_of f.now) (has set.now) i.now (stack_of (formula_of f.now) s.new.walk) (marks_of guide.new)) }
+    requires others { OthersReady (formula_in problem.now) (set_in problem.now) problem.now.index.now s.old.walk guide.old }
+    ensures moves { OnOk result (Moves (formula_in problem.now) (set_in problem.now) s.old s.new) }
+    ensures ready { OnOk result (AllReady (formula_in problem.now) (set_in problem.now) problem.now.index.now (stack_of (formula_in problem.now) s.new.walk) (marks_of guide.new)) }
 {
-    emit_open(f, set, s)?;
+    emit_open(problem, s)?;
     go_on(guide);
     Ok(())
 }
 
 /// Whether a clause or a unit is false where the atom is denied. The search stays as it is.
-fn peek(
-    f: &Clauses,
-    set: &[bool],
-    i: &Index,
-    s: &mut Search,
-    mark: &Mark,
-    a: usize,
-) -> Result<bool, AllocError>
+fn peek(problem: &Problem<'_>, s: &mut Search, mark: &Mark, a: usize) -> Result<bool, AllocError>
     requires is_walk { IsWalk s.old.walk }
     requires is_open { IsTrue s.old.walk.is_open }
-    requires is_sized { atoms_on s.old.walk ≡ length f.now.atoms.items }
-    requires named { IsIndex (formula_of f.now) (has set.now) i.now }
-    requires may { MaySplit (formula_of f.now) (has set.now) (decided_on s.old.walk) a }
-    requires mark { IsMark (formula_of f.now) (has set.now) i.now (decided_on s.old.walk) mark.now }
+    requires is_sized { atoms_on s.old.walk ≡ length problem.now.formula.now.atoms.items }
+    requires named { IsIndex (formula_in problem.now) (set_in problem.now) problem.now.index.now }
+    requires may { MaySplit (formula_in problem.now) (set_in problem.now) (decided_on s.old.walk) a }
+    requires mark { IsMark (formula_in problem.now) (set_in problem.now) problem.now.index.now (decided_on s.old.walk) mark.now }
     ensures same { OnOk result (IsSame s.old s.new) }
-    ensures told { IfOk result (λ yes. yes ≡ any_false (decided_on s.old.walk ++ (Atom a false ∷ [])) ((formula_of f.now).clauses ++ units_of (formula_of f.now) (has set.now))) }
+    ensures told { IfOk result (λ yes. yes ≡ any_false (decided_on s.old.walk ++ (Atom a false ∷ [])) ((formula_in problem.now).clauses ++ units_of (formula_in problem.now) (set_in problem.now))) }
 {
-    fails(f, set, i, &mut s.walk.trail, mark, a, false)
+    fails(problem, &mut s.walk.trail, mark, a, false)
 }
 
 /// Splits an atom by the rule. A node whose second child is false isn't paid for.
-fn fork(
-    f: &Clauses,
-    set: &[bool],
-    i: &Index,
-    s: &mut Search,
-    mark: &Mark,
-    a: usize,
-) -> Result<(), AllocError>
+fn fork(problem: &Problem<'_>, s: &mut Search, mark: &Mark, a: usize) -> Result<(), AllocError>
     requires is_walk { IsWalk s.old.walk }
     requires is_open { IsTrue s.old.walk.is_open }
-    requires is_sized { atoms_on s.old.walk ≡ length f.now.atoms.items }
-    requires named { IsIndex (formula_of f.now) (has set.now) i.now }
-    requires may { MaySplit (formula_of f.now) (has set.now) (decided_on s.old.walk) a }
-    requires mark { IsMark (formula_of f.now) (has set.now) i.now (decided_on s.old.walk) mark.now }
-    requires kept { KeepsCount (formula_of f.now) (has set.now) s.old }
+    requires is_sized { atoms_on s.old.walk ≡ length problem.now.formula.now.atoms.items }
+    requires named { IsIndex (formula_in problem.now) (set_in problem.now) problem.now.index.now }
+    requires may { MaySplit (formula_in problem.now) (set_in problem.now) (decided_on s.old.walk) a }
+    requires mark { IsMark (formula_in problem.now) (set_in problem.now) problem.now.index.now (decided_on s.old.walk) mark.now }
+    requires kept { KeepsCount (formula_in problem.now) (set_in problem.now) s.old }
     requires is_left { 0 < s.old.book.left }
     requires is_inner { 0 < s.old.inner }
-    ensures moves { OnOk result (Moves (formula_of f.now) (has set.now) s.old s.new) }
-    ensures stack { OnOk result (stack_of (formula_of f.now) s.new.walk ≡ path_of (formula_of f.now) (decided_on s.old.walk ++ (Atom a true ∷ [])) ∷ path_of (formula_of f.now) (decided_on s.old.walk ++ (Atom a false ∷ [])) ∷ others_of (formula_of f.now) s.old.walk) }
+    ensures moves { OnOk result (Moves (formula_in problem.now) (set_in problem.now) s.old s.new) }
+    ensures stack { OnOk result (stack_of (formula_in problem.now) s.new.walk ≡ path_of (formula_in problem.now) (decided_on s.old.walk ++ (Atom a true ∷ [])) ∷ path_of (formula_in problem.now) (decided_on s.old.walk ++ (Atom a false ∷ [])) ∷ others_of (formula_in problem.now) s.old.walk) }
 {
-    let is_false = peek(f, set, i, s, mark, a)?;
-    emit_split(f, set, s, a, !is_false)?;
+    let is_false = peek(problem, s, mark, a)?;
+    emit_split(problem, s, a, !is_false)?;
     Ok(())
 }
 
 /// Splits an atom by the rule, or leaves the path open where no node is left.
 fn divide(
-    f: &Clauses,
-    set: &[bool],
-    i: &Index,
+    problem: &Problem<'_>,
     s: &mut Search,
     guide: &mut Guide,
     a: usize,
 ) -> Result<(), AllocError>
     requires is_walk { IsWalk s.old.walk }
     requires is_open { IsTrue s.old.walk.is_open }
-    requires is_sized { atoms_on s.old.walk ≡ length f.now.atoms.items }
-    requires named { IsIndex (formula_of f.now) (has set.now) i.now }
-    requires may { MaySplit (formula_of f.now) (has set.now) (decided_on s.old.walk) a }
-    requires mark { IsMark (formula_of f.now) (has set.now) i.now (decided_on s.old.walk) guide.old.mark }
-    requires others { OthersReady (formula_of f.now) (has set.now) i.now s.old.walk guide.old }
-    requires kept { KeepsCount (formula_of f.now) (has set.now) s.old }
-    ensures moves { OnOk result (Moves (formula_of f.now) (has set.now) s.old s.new) }
-    ensures ready { OnOk result (AllReady (formula_of f.now) (has set.now) i.now (stack_of (formula_of f.now) s.new.walk) (marks_of guide.new)) }
+    requires is_sized { atoms_on s.old.walk ≡ length problem.now.formula.now.atoms.items }
+    requires named { IsIndex (formula_in problem.now) (set_in problem.now) problem.now.index.now }
+    requires may { MaySplit (formula_in problem.now) (set_in problem.now) (decided_on s.old.walk) a }
+    requires mark { IsMark (formula_in problem.now) (set_in problem.now) problem.now.index.now (decided_on s.old.walk) guide.old.mark }
+    requires others { OthersReady (formula_in problem.now) (set_in problem.now) problem.now.index.now s.old.walk guide.old }
+    requires kept { KeepsCount (formula_in problem.now) (set_in problem.now) s.old }
+    ensures moves { OnOk result (Moves (formula_in problem.now) (set_in problem.now) s.old s.new) }
+    ensures ready { OnOk result (AllReady (formula_in problem.now) (set_in problem.now) problem.now.index.now (stack_of (formula_in problem.now) s.new.walk) (marks_of guide.new)) }
 {
     if s.inner == 0 || s.book.left == 0 {
-        leave(f, set, i, s, guide)
+        leave(problem, s, guide)
     } else {
-        fork(f, set, i, s, &guide.mark, a)?;
+        fork(problem, s, &guide.mark, a)?;
         split(guide)?;
         Ok(())
     }
@@ -256,94 +231,95 @@ fn divide(
 
 /// Splits the bound at a gap, or leaves the path open where no node is left.
 fn halve(
-    f: &Clauses,
-    set: &[bool],
-    i: &Index,
+    problem: &Problem<'_>,
     s: &mut Search,
     guide: &mut Guide,
     kept: Kept,
 ) -> Result<(), AllocError>
     requires is_walk { IsWalk s.old.walk }
     requires is_open { IsTrue s.old.walk.is_open }
-    requires may { IsBound (formula_of f.now) (has set.now) (path_of (formula_of f.now) (decided_on s.old.walk)) kept }
-    requires mark { IsMark (formula_of f.now) (has set.now) i.now (decided_on s.old.walk) guide.old.mark }
-    requires others { OthersReady (formula_of f.now) (has set.now) i.now s.old.walk guide.old }
-    requires kept { KeepsCount (formula_of f.now) (has set.now) s.old }
-    ensures moves { OnOk result (Moves (formula_of f.now) (has set.now) s.old s.new) }
-    ensures ready { OnOk result (AllReady (formula_of f.now) (has set.now) i.now (stack_of (formula_of f.now) s.new.walk) (marks_of guide.new)) }
+    requires may { IsBound (formula_in problem.now) (set_in problem.now) (path_of (formula_in problem.now) (decided_on s.old.walk)) kept }
+    requires mark { IsMark (formula_in problem.now) (set_in problem.now) problem.now.index.now (decided_on s.old.walk) guide.old.mark }
+    requires others { OthersReady (formula_in problem.now) (set_in problem.now) problem.now.index.now s.old.walk guide.old }
+    requires kept { KeepsCount (formula_in problem.now) (set_in problem.now) s.old }
+    ensures moves { OnOk result (Moves (formula_in problem.now) (set_in problem.now) s.old s.new) }
+    ensures ready { OnOk result (AllReady (formula_in problem.now) (set_in problem.now) problem.now.index.now (stack_of (formula_in problem.now) s.new.walk) (marks_of guide.new)) }
 {
     if s.inner > 0 && s.book.left > 0 {
-        emit_bound(f, set, s, kept)?;
+        emit_bound(problem, s, kept)?;
         split(guide)?;
         Ok(())
     } else {
-        leave(f, set, i, s, guide)
+        leave(problem, s, guide)
     }
 }
 
 /// A step at a path that decides every atom: what its rows tell.
 fn finish(
     alloc: Global,
-    f: &Clauses,
-    set: &[bool],
-    i: &Index,
+    problem: &Problem<'_>,
     s: &mut Search,
     guide: &mut Guide,
     rows: u32,
 ) -> Result<Option<Halt>, AllocError>
     requires is_walk { IsWalk s.old.walk }
     requires is_open { IsTrue s.old.walk.is_open }
-    requires whole { is_whole (formula_of f.now) ≡ true }
-    requires complete { IsComplete (formula_of f.now) (has set.now) (decided_on s.old.walk) }
-    requires kept { KeepsCount (formula_of f.now) (has set.now) s.old }
+    requires whole { is_whole (formula_in problem.now) ≡ true }
+    requires complete { IsComplete (formula_in problem.now) (set_in problem.now) (decided_on s.old.walk) }
+    requires kept { KeepsCount (formula_in problem.now) (set_in problem.now) s.old }
     requires unseen { s.old.seen ≡ false }
-    requires mark { IsMark (formula_of f.now) (has set.now) i.now (decided_on s.old.walk) guide.old.mark }
-    requires others { OthersReady (formula_of f.now) (has set.now) i.now s.old.walk guide.old }
-    requires paths { ArePaths (formula_of f.now) (has set.now) (stack_of (formula_of f.now) s.old.walk) }
-    ensures steps { IfOk result (λ halt. Steps (formula_of f.now) (has set.now) rows s.old s.new halt) }
-    ensures ready { IfOk result (λ halt. halt ≡ None → AllReady (formula_of f.now) (has set.now) i.now (stack_of (formula_of f.now) s.new.walk) (marks_of guide.new)) }
+    requires mark { IsMark (formula_in problem.now) (set_in problem.now) problem.now.index.now (decided_on s.old.walk) guide.old.mark }
+    requires others { OthersReady (formula_in problem.now) (set_in problem.now) problem.now.index.now s.old.walk guide.old }
+    requires paths { ArePaths (formula_in problem.now) (set_in problem.now) (stack_of (formula_in problem.now) s.old.walk) }
+    ensures steps { IfOk result (λ halt. Steps (formula_in problem.now) (set_in problem.now) rows s.old s.new halt) }
+    ensures ready { IfOk result (λ halt. halt ≡ None → AllReady (formula_in problem.now) (set_in problem.now) problem.now.index.now (stack_of (formula_in problem.now) s.new.walk) (marks_of guide.new)) }
 {
-    match settle(alloc, f, &s.walk.trail, rows)? {
+    match settle(alloc, problem.formula, &s.walk.trail, rows)? {
         End::Refuted(steps) => {
-            close_by(f, set, i, s, guide, Node::Rows(steps))?;
+            close_by(problem, s, guide, Node::Rows(steps))?;
             Ok(None)
         }
         End::Split(kept) => {
-            halve(f, set, i, s, guide, kept)?;
+            halve(problem, s, guide, kept)?;
             Ok(None)
         }
         End::Halted(halt) => Ok(Some(halt)),
     }
 }
 
-/// A step at a path where an atom may be split: what few rows tell, else the split. Of an atom that
-/// isn't `free`, a unit's, only one value stays open.
+/// A step at a path where an atom may be split: what few rows tell, else the split. Of a unit's atom
+/// only one value stays open.
 fn advance(
     alloc: Global,
-    f: &Clauses,
-    set: &[bool],
-    i: &Index,
+    problem: &Problem<'_>,
     s: &mut Search,
     guide: &mut Guide,
     ledger: &mut Ledger,
-    a: usize,
-    free: bool,
+    choice: Choice,
 ) -> Result<(), AllocError>
     requires is_walk { IsWalk s.old.walk }
     requires is_open { IsTrue s.old.walk.is_open }
-    requires is_sized { atoms_on s.old.walk ≡ length f.now.atoms.items }
-    requires named { IsIndex (formula_of f.now) (has set.now) i.now }
-    requires may { MaySplit (formula_of f.now) (has set.now) (decided_on s.old.walk) a }
-    requires mark { IsMark (formula_of f.now) (has set.now) i.now (decided_on s.old.walk) guide.old.mark }
-    requires others { OthersReady (formula_of f.now) (has set.now) i.now s.old.walk guide.old }
-    requires kept { KeepsCount (formula_of f.now) (has set.now) s.old }
+    requires is_sized { atoms_on s.old.walk ≡ length problem.now.formula.now.atoms.items }
+    requires named { IsIndex (formula_in problem.now) (set_in problem.now) problem.now.index.now }
+    requires may { MaySplit (formula_in problem.now) (set_in problem.now) (decided_on s.old.walk) choice.atom }
+    requires mark { IsMark (formula_in problem.now) (set_in problem.now) problem.now.index.now (decided_on s.old.walk) guide.old.mark }
+    requires others { OthersReady (formula_in problem.now) (set_in problem.now) problem.now.index.now s.old.walk guide.old }
+    requires kept { KeepsCount (formula_in problem.now) (set_in problem.now) s.old }
     requires unseen { s.old.seen ≡ false }
-    ensures moves { OnOk result (Moves (formula_of f.now) (has set.now) s.old s.new) }
-    ensures ready { OnOk result (AllReady (formula_of f.now) (has set.now) i.now (stack_of (formula_of f.now) s.new.walk) (marks_of guide.new)) }
+    ensures moves { OnOk result (Moves (formula_in problem.now) (set_in problem.now) s.old s.new) }
+    ensures ready { OnOk result (AllReady (formula_in problem.now) (set_in problem.now) problem.now.index.now (stack_of (formula_in problem.now) s.new.walk) (marks_of guide.new)) }
 {
-    match refuted(alloc, f, &s.walk.trail, ledger, &mut guide.mark, free)? {
-        Some(steps) => close_by(f, set, i, s, guide, Node::Rows(steps)),
-        None => divide(f, set, i, s, guide, a),
+    let whole = !choice.is_forced;
+    match refuted(
+        alloc,
+        problem.formula,
+        &s.walk.trail,
+        ledger,
+        &mut guide.mark,
+        whole,
+    )? {
+        Some(steps) => close_by(problem, s, guide, Node::Rows(steps)),
+        None => divide(problem, s, guide, choice.atom),
     }
 }
 
@@ -362,9 +338,7 @@ fn is_paid(book: &Book) -> bool
 /// search ends.
 pub fn step(
     alloc: Global,
-    f: &Clauses,
-    set: &[bool],
-    i: &Index,
+    problem: &Problem<'_>,
     s: &mut Search,
     guide: &mut Guide,
     aids: &mut Aids,
@@ -372,32 +346,28 @@ pub fn step(
 ) -> Result<Option<Halt>, AllocError>
     requires is_walk { IsWalk s.old.walk }
     requires is_open { IsTrue s.old.walk.is_open }
-    requires is_sized { atoms_on s.old.walk ≡ length f.now.atoms.items }
-    requires whole { is_whole (formula_of f.now) ≡ true }
-    requires named { IsIndex (formula_of f.now) (has set.now) i.now }
-    requires ready { AllReady (formula_of f.now) (has set.now) i.now (stack_of (formula_of f.now) s.old.walk) (marks_of guide.old) }
-    requires kept { KeepsCount (formula_of f.now) (has set.now) s.old }
-    requires paths { ArePaths (formula_of f.now) (has set.now) (stack_of (formula_of f.now) s.old.walk) }
-    ensures steps { IfOk result (λ halt. Steps (formula_of f.now) (has set.now) rows s.old s.new halt) }
-    ensures ready { IfOk result (λ halt. halt ≡ None → AllReady (formula_of f.now) (has set.now) i.now (stack_of (formula_of f.now) s.new.walk) (marks_of guide.new)) }
+    requires is_sized { atoms_on s.old.walk ≡ length problem.now.formula.now.atoms.items }
+    requires whole { is_whole (formula_in problem.now) ≡ true }
+    requires named { IsIndex (formula_in problem.now) (set_in problem.now) problem.now.index.now }
+    requires ready { AllReady (formula_in problem.now) (set_in problem.now) problem.now.index.now (stack_of (formula_in problem.now) s.old.walk) (marks_of guide.old) }
+    requires kept { KeepsCount (formula_in problem.now) (set_in problem.now) s.old }
+    requires paths { ArePaths (formula_in problem.now) (set_in problem.now) (stack_of (formula_in problem.now) s.old.walk) }
+    ensures steps { IfOk result (λ halt. Steps (formula_in problem.now) (set_in problem.now) rows s.old s.new halt) }
+    ensures ready { IfOk result (λ halt. halt ≡ None → AllReady (formula_in problem.now) (set_in problem.now) problem.now.index.now (stack_of (formula_in problem.now) s.new.walk) (marks_of guide.new)) }
 {
     if s.seen && is_paid(&s.book) {
-        leave(f, set, i, s, guide)?;
+        leave(problem, s, guide)?;
         return Ok(None);
     }
-    match next_at(f, set, i, &s.walk.trail, &mut guide.mark, &mut aids.probe) {
+    match next_at(problem, &s.walk.trail, &mut guide.mark, &mut aids.probe) {
         Pick::Close(node) => {
-            close_by(f, set, i, s, guide, node)?;
+            close_by(problem, s, guide, node)?;
             Ok(None)
         }
-        Pick::Force(a) => {
-            advance(alloc, f, set, i, s, guide, &mut aids.ledger, a, false)?;
+        Pick::Split(choice) => {
+            advance(alloc, problem, s, guide, &mut aids.ledger, choice)?;
             Ok(None)
         }
-        Pick::Split(a) => {
-            advance(alloc, f, set, i, s, guide, &mut aids.ledger, a, true)?;
-            Ok(None)
-        }
-        Pick::Leaf => finish(alloc, f, set, i, s, guide, rows),
+        Pick::Leaf => finish(alloc, problem, s, guide, rows),
     }
 }

@@ -10,8 +10,8 @@ use Rattle.bg_tree.proofs.find.searched.Goals as goal
 
 pub loop-s-preserved : goal.loop-s-preserved
 loop-s-preserved c =
-    let f = formula_of c.args.f.now in
-    let set = has c.args.set.now in
+    let f = formula_of c.args.problem.now.formula.now in
+    let set = has c.args.problem.now.set.now in
     let m : Moves f set c.loop-s.s c.step.new.s = moved f set c.args.budget.rows c.loop-s.s c.step.new.s c.in_ok-halt.field-0 c.in_default.is c.in_ok-halt.ensures.steps in
     record {
       walks = m.walks;
@@ -29,21 +29,21 @@ pub returns-in-Some : goal.returns-in-Some
 returns-in-Some c =
     let e = c.in_ok-halt.ensures.steps in
     let s = rw c.in-Some.is at e in
-    rw c.outcome_of.ensures (halted (formula_of c.args.f.now) (has c.args.set.now) c.args.budget c.loop-s.s c.step.new.s c.in-Some.halt s c.loop-s.invariant.paths c.loop-s-test.true)
+    rw c.outcome_of.ensures (halted (formula_of c.args.problem.now.formula.now) (has c.args.problem.now.set.now) c.args.budget c.loop-s.s c.step.new.s c.in-Some.halt s c.loop-s.invariant.paths c.loop-s-test.true)
 
 pub returns-then-s : goal.returns-then-s
 returns-then-s c =
-    let t = told_all (formula_of c.args.f.now) (has c.args.set.now) c.args.budget.nodes c.loop-s.s c.loop-s.invariant.told c.loop-s.invariant.tallied c.loop-s.invariant.kept c.loop-s.invariant.within c.loop-s-test.false c.if-s.true in
+    let t = told_all (formula_of c.args.problem.now.formula.now) (has c.args.problem.now.set.now) c.args.budget.nodes c.loop-s.s c.loop-s.invariant.told c.loop-s.invariant.tallied c.loop-s.invariant.kept c.loop-s.invariant.within c.loop-s-test.false c.if-s.true in
     (refl, t.0, t.1)
 
 pub returns : goal.returns
 returns c =
-    whole_all (formula_of c.args.f.now) (has c.args.set.now) c.loop-s.s c.in_ok-whole.field-0.items c.loop-s.invariant.whole c.loop-s-test.false c.if-s.false c.in_ok-whole.ensures
+    whole_all (formula_of c.args.problem.now.formula.now) (has c.args.problem.now.set.now) c.loop-s.s c.in_ok-whole.field-0.items c.loop-s.invariant.whole c.loop-s-test.false c.if-s.false c.in_ok-whole.ensures
 
 pub loop-s-init : goal.loop-s-init
 loop-s-init c =
-    let f = formula_of c.args.f.now in
-    let set = has c.args.set.now in
+    let f = formula_of c.args.problem.now.formula.now in
+    let set = has c.args.problem.now.set.now in
     let e = c.in_ok-s.ensures in
     record {
       walks = e.walks;
@@ -54,5 +54,5 @@ loop-s-init c =
       within = rw e.inner (omega arith);
       whole = whole_first f set c.in_ok-s.s e.parts (e.stack f);
       paths = paths_first f set c.in_ok-s.s.walk (e.stack f);
-      ready = first_ready f set c.args.i.now _ _ c.requires.named (e.stack f) c.first_guide-guide.ensures;
+      ready = first_ready f set c.args.problem.now.index.now _ _ c.requires.named (e.stack f) c.first_guide-guide.ensures;
     }

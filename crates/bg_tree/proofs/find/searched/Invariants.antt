@@ -11,14 +11,14 @@ abbrev pub invariant-loop-s : goal.invariant-loop-s
 invariant-loop-s l =
     record {
       walks : IsWalk l.s.walk;
-      sized : atoms_on l.s.walk ≡ length l.f.atoms.items;
-      told : Told (formula_of l.f) (has l.set) (20 * l.budget.nodes) l.s;
-      tallied : Tallied (formula_of l.f) (has l.set) l.budget.nodes l.s;
-      kept : KeepsCount (formula_of l.f) (has l.set) l.s;
+      sized : atoms_on l.s.walk ≡ length l.problem.formula.now.atoms.items;
+      told : Told (formula_of l.problem.formula.now) (has l.problem.set.now) (20 * l.budget.nodes) l.s;
+      tallied : Tallied (formula_of l.problem.formula.now) (has l.problem.set.now) l.budget.nodes l.s;
+      kept : KeepsCount (formula_of l.problem.formula.now) (has l.problem.set.now) l.s;
       within : l.s.inner ≤ 20 * l.budget.nodes;
-      whole : Whole (formula_of l.f) (has l.set) l.s;
-      paths : ArePaths (formula_of l.f) (has l.set) (stack_of (formula_of l.f) l.s.walk);
-      ready : AllReady (formula_of l.f) (has l.set) l.i (stack_of (formula_of l.f) l.s.walk) (marks_of l.guide);
+      whole : Whole (formula_of l.problem.formula.now) (has l.problem.set.now) l.s;
+      paths : ArePaths (formula_of l.problem.formula.now) (has l.problem.set.now) (stack_of (formula_of l.problem.formula.now) l.s.walk);
+      ready : AllReady (formula_of l.problem.formula.now) (has l.problem.set.now) l.problem.index.now (stack_of (formula_of l.problem.formula.now) l.s.walk) (marks_of l.guide);
     }
 
 abbrev pub decreases-loop-s : goal.decreases-loop-s

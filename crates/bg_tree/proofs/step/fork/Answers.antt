@@ -5,4 +5,4 @@ use Rattle.bg_tree.proofs.step.fork.Goals as goal
 
 pub returns-clause-moves : goal.returns-clause-moves
 returns-clause-moves c =
-    same_moves (formula_of c.args.f.now) (has c.args.set.now) c.args.s.now c.peek.new.s c.emit_split.new.s c.in_ok-is_false.ensures.same c.in_ok-emit_split.ensures.moves
+    same_moves (formula_of c.args.problem.now.formula.now) (has c.args.problem.now.set.now) c.args.s.now c.peek.new.s c.emit_split.new.s c.in_ok-is_false.ensures.same c.in_ok-emit_split.ensures.moves
