@@ -7,8 +7,11 @@ use Rattle.bg_places.specs.declared.place.Place.{Place}
 use Rattle.bg_places.specs.Views.{placed_of, placed_in}
 use Rattle.bg_tree.specs.declared.outcome.Budget.{Budget}
 use Rattle.bg_check.specs.declared.verdict.Judged.{Judged}
+use Rattle.bg_places.specs.Placed.{Placed}
+use Rattle.bg_check.specs.declared.prepared.Prepared.{Prepared}
+use Rattle.bg_check.specs.Prepared.{IsPrepared, ArePrepared}
 use Rattle.bg_check.proofs.Prepares.{get_some}
-use Rattle.bg_check.specs.Numbered.{OfNumber}
+use Rattle.bg_check.proofs.Numbered.{OfNumber}
 use Rattle.bg_check.specs.Verdicts.{IsRight, placed_at, AreRightAt, AreRightOf, AreRightFrom}
 
 -- one more verdict
@@ -30,10 +33,15 @@ places_more js j ps n x h l e = appended js ∙ (ap (λ xs. xs ++ (placed_at j �
         let s : suc m + 1 ≡ suc (m + 1) = omega arith in
         ap (λ c. placed_in (take c (q ∷ qs))) s ∙ ap (λ xs. placed_of q ∷ xs) (next qs m (omega arith))
 
-pub number_at : (k : ℕ) (ps : List Place) (n : ℕ) (x : Place) → OfNumber k (placed_in ps) → n < length ps → (get_or ps n x).implementation ≡ k
-number_at k [] n x h l = absurd (omega arith)
-number_at k (q ∷ ps) zero x h l = h.0
-number_at k (q ∷ ps) (suc n) x h l = number_at k ps n x h.1 (omega arith)
+-- places of an implementation that is prepared
+pub are_prepared : (p : r.Program) (w : Prepared) (k : ℕ) (xs : List Placed) → IsPrepared p k w → OfNumber k xs → ArePrepared p w xs
+are_prepared p w k [] h n = tt
+are_prepared p w k (x ∷ xs) h n = (subst (λ i. IsPrepared p i w) (sym n.0) h, are_prepared p w k xs h n.1)
+
+pub prepared_at : (p : r.Program) (w : Prepared) (ps : List Place) (n : ℕ) (x : Place) → ArePrepared p w (placed_in ps) → n < length ps → IsPrepared p (get_or ps n x).implementation w
+prepared_at p w [] n x h l = absurd (omega arith)
+prepared_at p w (q ∷ ps) zero x h l = h.0
+prepared_at p w (q ∷ ps) (suc n) x h l = prepared_at p w ps n x h.1 (omega arith)
 
 -- one more implementation
 pub from_more : (budget : Budget) (p : r.Program) (set : ℕ → Bool) (k : ℕ) (ms : List r.Impl) (os : List (List Judged)) (m : r.Impl) (js : List Judged) → AreRightFrom budget p set k ms os → AreRightOf budget p set (k + length ms) m js → AreRightFrom budget p set k (ms ++ (m ∷ [])) (os ++ (js ∷ []))

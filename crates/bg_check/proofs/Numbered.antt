@@ -6,8 +6,12 @@ use Rattle.bg_base.specs.declared.pos.Pos.{Pos}
 use Rattle.bg_ast.specs.Resolved as r
 use Rattle.bg_ast.specs.Execution.{Spot, AtAssert, AtEntry, AfterTurn, AtCall, AtReturn, Place}
 use Rattle.bg_sense.proofs.Members.{In, in_either}
-use Rattle.bg_check.specs.Numbered.{OfNumber}
 use Rattle.bg_places.specs.Placed.{Placed, place_in, placed_clause, placed_clauses, requires_of, ensures_of, placed_st, placed_sts, placed_arms, placed_impl, placed_from}
+
+-- each is one of the implementation with this number
+abbrev pub OfNumber : ℕ → List Placed → Type 0
+OfNumber m [] = Unit {0}
+OfNumber m (a ∷ xs) = (a.place.implementation ≡ m) × OfNumber m xs
 
 number_append : (m : ℕ) (xs ys : List Placed) → OfNumber m xs → OfNumber m ys → OfNumber m (xs ++ ys)
 number_append m [] ys h k = k

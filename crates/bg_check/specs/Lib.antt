@@ -1,4 +1,3 @@
-pub mod Numbered
 pub mod Leaves
 pub mod Cuts
 pub mod LeafRuns

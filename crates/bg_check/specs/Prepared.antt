@@ -1,5 +1,5 @@
 -- What is made once of each implementation.
-use Rattle.std.specs.Prelude.{◌≡◌, ℕ, ◌++◌, List, Some, map, length, slice_get}
+use Rattle.std.specs.Prelude.{◌≡◌, ℕ, List, [], ◌∷◌, ◌++◌, Some, map, length, slice_get}
 use Rattle.bg_ast.specs.Resolved as r
 use Rattle.bg_ast.specs.Meaning.{meaning_of, named_of, impl_of, proc_of}
 use Rattle.bg_formula.specs.Atoms.{view_linear}
@@ -8,6 +8,7 @@ use Rattle.bg_blocks.specs.Views.{block_of}
 use Rattle.bg_blocks.specs.EmittedViews.{frame_of}
 use Rattle.bg_blocks.specs.Whole.{AreBlocks}
 use Rattle.bg_blocks.specs.declared.block.Block.{Block}
+use Rattle.bg_places.specs.Placed.{Placed}
 use Rattle.bg_passive.specs.Incarnations.{passives}
 use Rattle.bg_passive.specs.Arrivals.{arrived}
 use Rattle.bg_incarnate.specs.Views.{passive_block_of}
@@ -44,3 +45,8 @@ pub record IsPrepared (p : r.Program) (number : ℕ) (w : Prepared) : Type 0 whe
   pub passive : IsPassive p (frame_declared implementation procedure) w.blocks.items w.passive
   pub sorts : w.sorts.items ≡ sorts_in (meaning_of p) number (impl_of (named_of p.types) implementation) (proc_of (named_of p.types) procedure)
   pub own : IsOwn (meaning_of p) number (impl_of (named_of p.types) implementation) (proc_of (named_of p.types) procedure) (encoding_of w.atoms)
+
+-- each is a place of the implementation that is prepared
+abbrev pub ArePrepared : r.Program → Prepared → List Placed → Type 0
+ArePrepared p w [] = Unit {0}
+ArePrepared p w (a ∷ xs) = IsPrepared p a.place.implementation w × ArePrepared p w xs

@@ -8,41 +8,37 @@ ghost use Rattle.bg_check.specs.Dropped.{FailsWithin, IsDropped};
 ghost use Rattle.bg_check.specs.Prepared.{IsPrepared};
 ghost use Rattle.bg_check.specs.Verdicts.{IsUsed};
 
-use crate::prepared::Prepared;
-use bg_ast::resolved::Resolved;
+use crate::question::Question;
 use bg_model::Counterexample;
-use bg_places::Place;
 use bg_replay::laws::replays_are_induction_runs;
-use bg_replay::{Ending, replay};
+use bg_replay::{Code, Ending, Start, replay};
 use std::alloc::{AllocError, Global};
 
 /// Drops the last choice where the run fails without it too, and says whether it did.
 fn drop_last(
     alloc: Global,
-    program: &Resolved,
-    prepared: &Prepared<'_>,
-    place: &Place,
-    set: &[bool],
+    question: Question<'_>,
     cex: &mut Counterexample,
 ) -> Result<bool, AllocError>
-    requires prepared { IsPrepared (program_of program.now) place.now.implementation prepared.now }
-    requires fails { FailsWithin (meaning_of (program_of program.now)) (has set.now) (placed_of place.now).place cex.old }
-    ensures { IfOk result (λ dropped. IsDropped (meaning_of (program_of program.now)) (has set.now) (placed_of place.now).place cex.old dropped cex.new) }
+    requires prepared { IsPrepared (program_of question.entry.program.now) question.entry.place.now.implementation question.entry.prepared.now }
+    requires fails { FailsWithin (meaning_of (program_of question.entry.program.now)) (has question.entry.set.now) (placed_of question.entry.place.now).place cex.old }
+    ensures { IfOk result (λ dropped. IsDropped (meaning_of (program_of question.entry.program.now)) (has question.entry.set.now) (placed_of question.entry.place.now).place cex.old dropped cex.new) }
 {
     replays_are_induction_runs();
     let Some((_, front)) = cex.choices.split_last() else {
         return Ok(false);
     };
-    let ending = replay(
-        alloc,
-        program,
-        &prepared.blocks,
-        set,
-        place.implementation,
-        &cex.globals,
-        &cex.frame,
-        front,
-    )?;
+    let code = Code {
+        program: question.program,
+        blocks: &question.prepared.blocks,
+        set: question.set,
+    };
+    let start = Start {
+        globals: &cex.globals,
+        frame: &cex.frame,
+        choices: front,
+    };
+    let ending = replay(alloc, code, question.place.implementation, start)?;
     match ending {
         Ending::Failed(_) => {
             cex.choices.pop();
@@ -55,18 +51,15 @@ fn drop_last(
 /// The same run, with no choice left over.
 pub fn used_up(
     alloc: Global,
-    program: &Resolved,
-    prepared: &Prepared<'_>,
-    place: &Place,
-    set: &[bool],
+    question: Question<'_>,
     cex: Counterexample,
 ) -> Result<Counterexample, AllocError>
-    requires prepared { IsPrepared (program_of program.now) place.now.implementation prepared.now }
-    requires fails { FailsWithin (meaning_of (program_of program.now)) (has set.now) (placed_of place.now).place cex }
-    ensures fails { IfOk result (λ made. FailsWithin (meaning_of (program_of program.now)) (has set.now) (placed_of place.now).place made) }
-    ensures used { IfOk result (λ made. IsUsed (meaning_of (program_of program.now)) (has set.now) (placed_of place.now).place made) }
+    requires prepared { IsPrepared (program_of question.entry.program.now) question.entry.place.now.implementation question.entry.prepared.now }
+    requires fails { FailsWithin (meaning_of (program_of question.entry.program.now)) (has question.entry.set.now) (placed_of question.entry.place.now).place cex }
+    ensures fails { IfOk result (λ made. FailsWithin (meaning_of (program_of question.entry.program.now)) (has question.entry.set.now) (placed_of question.entry.place.now).place made) }
+    ensures used { IfOk result (λ made. IsUsed (meaning_of (program_of question.entry.program.now)) (has question.entry.set.now) (placed_of question.entry.place.now).place made) }
 {
     let mut left = cex;
-    while drop_last(alloc, program, prepared, place, set, &mut left)? {}
+    while drop_last(alloc, question, &mut left)? {}
     Ok(left)
 }

@@ -16,11 +16,11 @@ ghost use Rattle.bg_check.specs.Made.{ClausesOf, IsMade};
 ghost use Rattle.bg_check.specs.Verdicts.{IsFailure, IsRight};
 
 use crate::leaf::{leaf_truths, leaf_values};
-use crate::prepared::{Prepared, count_candidates};
+use crate::prepared::count_candidates;
+use crate::question::Question;
 use crate::replayed::replayed;
 use crate::slicing::place_atoms;
 use crate::verdict::{Cause, Verdict};
-use bg_ast::resolved::Resolved;
 use bg_atoms::Atoms;
 use bg_base::OutOfRange;
 use bg_clause::laws::{atoms_of_clauses, clauses_fail_alike};
@@ -32,9 +32,8 @@ use bg_faithful::laws::{
 };
 use bg_formula::Clauses;
 use bg_linear::laws::scalar_values_hold;
-use bg_model::{Counterexample, counterexample};
+use bg_model::{Counterexample, Routine, Valuation, counterexample};
 use bg_passive::laws::arrivals_fit;
-use bg_places::Place;
 use bg_rows::Refused;
 use bg_sense::laws::typed_programs_have_typed_bodies;
 use bg_tree::laws::leaves_are_met;
@@ -49,27 +48,21 @@ pub enum Made {
 }
 
 /// The clauses of a place.
-fn place_clauses(
-    alloc: Global,
-    program: &Resolved,
-    prepared: &Prepared<'_>,
-    atoms: &Atoms,
-    place: &Place,
-) -> Result<Made, AllocError>
-    requires typed { IsTyped (meaning_of (program_of program.now)) }
-    requires scalars { is_over_scalars true (meaning_of (program_of program.now)) ≡ true }
-    requires prepared { IsPrepared (program_of program.now) place.now.implementation prepared.now }
-    requires slice { IsSliceFor (program_of program.now) place.now.implementation prepared.now (spot_of place.now.spot) atoms.now }
-    ensures { IfOk result (λ made. IsMade (meaning_of (program_of program.now)) atoms.now (placed_of place.now).place made) }
+fn place_clauses(alloc: Global, question: Question<'_>, atoms: &Atoms) -> Result<Made, AllocError>
+    requires typed { IsTyped (meaning_of (program_of question.entry.program.now)) }
+    requires scalars { is_over_scalars true (meaning_of (program_of question.entry.program.now)) ≡ true }
+    requires prepared { IsPrepared (program_of question.entry.program.now) question.entry.place.now.implementation question.entry.prepared.now }
+    requires slice { IsSliceFor (program_of question.entry.program.now) question.entry.place.now.implementation question.entry.prepared.now (spot_of question.entry.place.now.spot) atoms.now }
+    ensures { IfOk result (λ made. IsMade (meaning_of (program_of question.entry.program.now)) atoms.now (placed_of question.entry.place.now).place made) }
 {
-    let candidates = count_candidates(program)?;
+    let candidates = count_candidates(question.program)?;
     let names = Names {
         first: atoms.first,
         candidates,
         terms: atoms.terms,
         rows: &atoms.rows,
     };
-    match clauses(alloc, &names, place.spot, &atoms.blocks) {
+    match clauses(alloc, &names, question.place.spot, &atoms.blocks) {
         Ok(f) => Ok(Made::Clauses(f)),
         Err(Refused::Range(o)) => Ok(Made::Outside(o)),
         Err(Refused::Memory) => Err(AllocError),
@@ -77,23 +70,20 @@ fn place_clauses(
 }
 
 /// The counterexample of a complete leaf of a place's clauses.
-fn failing(
+fn failing<'q>(
     alloc: Global,
-    program: &Resolved,
-    prepared: &Prepared<'_>,
-    atoms: &Atoms,
-    place: &Place,
-    set: &[bool],
+    question: Question<'q>,
+    atoms: &'q Atoms,
     f: &Clauses,
     leaf: &Leaf,
 ) -> Result<Counterexample, AllocError>
-    requires typed { IsTyped (meaning_of (program_of program.now)) }
-    requires scalars { is_over_scalars true (meaning_of (program_of program.now)) ≡ true }
-    requires prepared { IsPrepared (program_of program.now) place.now.implementation prepared.now }
-    requires slice { IsSliceFor (program_of program.now) place.now.implementation prepared.now (spot_of place.now.spot) atoms.now }
-    requires clauses { ClausesOf (meaning_of (program_of program.now)) atoms.now (placed_of place.now).place (formula_of f.now) }
-    requires leaf { IsLeaf (formula_of f.now) (has set.now) leaf.now }
-    ensures { IfOk result (λ cex. HasLeaf (meaning_of (program_of program.now)) (has set.now) (placed_of place.now).place cex × IsFailure (meaning_of (program_of program.now)) (has set.now) (placed_of place.now).place cex) }
+    requires typed { IsTyped (meaning_of (program_of question.entry.program.now)) }
+    requires scalars { is_over_scalars true (meaning_of (program_of question.entry.program.now)) ≡ true }
+    requires prepared { IsPrepared (program_of question.entry.program.now) question.entry.place.now.implementation question.entry.prepared.now }
+    requires slice { IsSliceFor (program_of question.entry.program.now) question.entry.place.now.implementation question.entry.prepared.now (spot_of question.entry.place.now.spot) atoms.now }
+    requires clauses { ClausesOf (meaning_of (program_of question.entry.program.now)) atoms.now (placed_of question.entry.place.now).place (formula_of f.now) }
+    requires leaf { IsLeaf (formula_of f.now) (has question.entry.set.now) leaf.now }
+    ensures { IfOk result (λ cex. HasLeaf (meaning_of (program_of question.entry.program.now)) (has question.entry.set.now) (placed_of question.entry.place.now).place cex × IsFailure (meaning_of (program_of question.entry.program.now)) (has question.entry.set.now) (placed_of question.entry.place.now).place cex) }
 {
     typed_programs_have_typed_bodies();
     arrivals_fit();
@@ -106,14 +96,20 @@ fn failing(
     no_interpretation_is_needed_for_scalars();
     scalar_values_hold();
     let truths = leaf_truths(alloc, f.atoms.len(), &leaf.path)?;
+    let prepared = question.prepared;
     let values = leaf_values(alloc, &prepared.sorts, &truths, &leaf.spots)?;
-    let frame = prepared.frame;
-    let blocks = &prepared.blocks;
-    let firsts = &prepared.passive.firsts;
-    let forms = &atoms.blocks;
-    match counterexample(
-        alloc, program, frame, blocks, firsts, forms, place.spot, set, &truths, &values,
-    )? {
+    let routine = Routine {
+        program: question.program,
+        frame: prepared.frame,
+        blocks: &prepared.blocks,
+        firsts: &prepared.passive.firsts,
+        forms: &atoms.blocks,
+    };
+    let valuation = Valuation {
+        truths: &truths,
+        values: &values,
+    };
+    match counterexample(alloc, routine, question.place.spot, question.set, valuation)? {
         Some(cex) => Ok(cex),
         None => unreachable!(),
     }
@@ -122,54 +118,46 @@ fn failing(
 /// What is known of a place that has these clauses.
 fn search_place(
     alloc: Global,
-    program: &Resolved,
-    prepared: &Prepared<'_>,
+    question: Question<'_>,
     atoms: &Atoms,
-    place: &Place,
-    set: &[bool],
     budget: Budget,
     f: &Clauses,
 ) -> Result<Verdict, AllocError>
-    requires typed { IsTyped (meaning_of (program_of program.now)) }
-    requires scalars { is_over_scalars true (meaning_of (program_of program.now)) ≡ true }
-    requires prepared { IsPrepared (program_of program.now) place.now.implementation prepared.now }
-    requires slice { IsSliceFor (program_of program.now) place.now.implementation prepared.now (spot_of place.now.spot) atoms.now }
-    requires clauses { ClausesOf (meaning_of (program_of program.now)) atoms.now (placed_of place.now).place (formula_of f.now) }
-    ensures { IfOk result (λ verdict. IsRight budget (meaning_of (program_of program.now)) (has set.now) (placed_of place.now).place verdict) }
+    requires typed { IsTyped (meaning_of (program_of question.entry.program.now)) }
+    requires scalars { is_over_scalars true (meaning_of (program_of question.entry.program.now)) ≡ true }
+    requires prepared { IsPrepared (program_of question.entry.program.now) question.entry.place.now.implementation question.entry.prepared.now }
+    requires slice { IsSliceFor (program_of question.entry.program.now) question.entry.place.now.implementation question.entry.prepared.now (spot_of question.entry.place.now.spot) atoms.now }
+    requires clauses { ClausesOf (meaning_of (program_of question.entry.program.now)) atoms.now (placed_of question.entry.place.now).place (formula_of f.now) }
+    ensures { IfOk result (λ verdict. IsRight budget (meaning_of (program_of question.entry.program.now)) (has question.entry.set.now) (placed_of question.entry.place.now).place verdict) }
 {
     clauses_over_scalars_are_whole();
-    match search(alloc, f, set, budget)? {
+    match search(alloc, f, question.set, budget)? {
         Outcome::Closed(nodes) => Ok(Verdict::Proved(nodes)),
         Outcome::Unknown(why) => Ok(Verdict::Unknown(Cause::Search(why))),
         Outcome::Leaf(leaf) => {
-            let cex = failing(alloc, program, prepared, atoms, place, set, f, &leaf)?;
-            replayed(alloc, program, prepared, place, set, cex)
+            let cex = failing(alloc, question, atoms, f, &leaf)?;
+            replayed(alloc, question, cex)
         }
     }
 }
 
-/// What is known of a place of a typed program over truth values and whole numbers, under a set of candidates, where its
-/// implementation is prepared. In a search at most the budget's nodes count, and it keeps at most its rows.
+/// What is known of a place of a typed program over truth values and whole numbers, under a set of candidates. In a search at most
+/// the budget's nodes count, and it keeps at most its rows.
 ///
 /// Only want of memory is an error; 2^32 atoms count as such.
 pub fn check_place(
     alloc: Global,
-    program: &Resolved,
-    prepared: &Prepared<'_>,
-    place: &Place,
-    set: &[bool],
+    question: Question<'_>,
     budget: Budget,
 ) -> Result<Verdict, AllocError>
-    requires typed { IsTyped (meaning_of (program_of program.now)) }
-    requires scalars { is_over_scalars true (meaning_of (program_of program.now)) ≡ true }
-    requires prepared { IsPrepared (program_of program.now) place.now.implementation prepared.now }
-    ensures { IfOk result (λ verdict. IsRight budget (meaning_of (program_of program.now)) (has set.now) (placed_of place.now).place verdict) }
+    requires typed { IsTyped (meaning_of (program_of question.entry.program.now)) }
+    requires scalars { is_over_scalars true (meaning_of (program_of question.entry.program.now)) ≡ true }
+    requires prepared { IsPrepared (program_of question.entry.program.now) question.entry.place.now.implementation question.entry.prepared.now }
+    ensures { IfOk result (λ verdict. IsRight budget (meaning_of (program_of question.entry.program.now)) (has question.entry.set.now) (placed_of question.entry.place.now).place verdict) }
 {
-    let atoms = place_atoms(alloc, program, prepared, place)?;
-    match place_clauses(alloc, program, prepared, &atoms, place)? {
+    let atoms = place_atoms(alloc, question.program, question.prepared, question.place)?;
+    match place_clauses(alloc, question, &atoms)? {
         Made::Outside(o) => Ok(Verdict::Unknown(Cause::Form(o))),
-        Made::Clauses(f) => {
-            search_place(alloc, program, prepared, &atoms, place, set, budget, &f)
-        }
+        Made::Clauses(f) => search_place(alloc, question, &atoms, budget, &f),
     }
 }

@@ -8,12 +8,12 @@ ghost use Rattle.bg_blocks.specs.Callees.{IsModified};
 ghost use Rattle.bg_places.specs.Views.{placed_of, placed_in};
 ghost use Rattle.bg_cert.specs.Walks.{has};
 ghost use Rattle.bg_fits.specs.Scalars.{is_over_scalars};
-ghost use Rattle.bg_check.specs.Numbered.{OfNumber};
-ghost use Rattle.bg_check.specs.Prepared.{IsPrepared};
+ghost use Rattle.bg_check.specs.Prepared.{IsPrepared, ArePrepared};
 ghost use Rattle.bg_check.specs.Verdicts.{IsRight, placed_at, AreRightAt, AreRightOf, AreRight, judged};
 
 use crate::place::check_place;
 use crate::prepared::{Prepared, prepare};
+use crate::question::Question;
 use crate::verdict::Judged;
 use bg_ast::resolved::{Resolved, Variable};
 use bg_blocks::callees_of;
@@ -21,50 +21,45 @@ use bg_places::{Place, places_of};
 use bg_tree::Budget;
 use std::alloc::{AllocError, Global};
 
-/// What is known of a place of the implementation with this number.
-fn judge(
-    alloc: Global,
-    program: &Resolved,
-    prepared: &Prepared<'_>,
-    number: usize,
-    place: &Place,
-    set: &[bool],
-    budget: Budget,
-) -> Result<Judged, AllocError>
-    requires typed { IsTyped (meaning_of (program_of program.now)) }
-    requires scalars { is_over_scalars true (meaning_of (program_of program.now)) ≡ true }
-    requires prepared { IsPrepared (program_of program.now) number prepared.now }
-    requires here { place.now.implementation ≡ number }
-    ensures place { IfOk result (λ j. j.place ≡ place.now) }
-    ensures right { IfOk result (λ j. IsRight budget (meaning_of (program_of program.now)) (has set.now) (placed_at j).place j.verdict) }
+/// What is known of a place.
+fn judge(alloc: Global, question: Question<'_>, budget: Budget) -> Result<Judged, AllocError>
+    requires typed { IsTyped (meaning_of (program_of question.entry.program.now)) }
+    requires scalars { is_over_scalars true (meaning_of (program_of question.entry.program.now)) ≡ true }
+    requires prepared { IsPrepared (program_of question.entry.program.now) question.entry.place.now.implementation question.entry.prepared.now }
+    ensures place { IfOk result (λ j. j.place ≡ question.entry.place.now) }
+    ensures right { IfOk result (λ j. IsRight budget (meaning_of (program_of question.entry.program.now)) (has question.entry.set.now) (placed_at j).place j.verdict) }
 {
-    let verdict = check_place(alloc, program, prepared, place, set, budget)?;
+    let verdict = check_place(alloc, question, budget)?;
     Ok(Judged {
-        place: *place,
+        place: *question.place,
         verdict,
     })
 }
 
-/// What is known of each of these places of the implementation with this number.
-fn judge_places(
+/// What is known of each of these places of the implementation that is prepared.
+fn judge_places<'q>(
     alloc: Global,
-    program: &Resolved,
-    prepared: &Prepared<'_>,
-    number: usize,
-    places: &[Place],
-    set: &[bool],
+    program: &'q Resolved,
+    prepared: &'q Prepared<'q>,
+    places: &'q [Place],
+    set: &'q [bool],
     budget: Budget,
 ) -> Result<Vec<Judged>, AllocError>
     requires typed { IsTyped (meaning_of (program_of program.now)) }
     requires scalars { is_over_scalars true (meaning_of (program_of program.now)) ≡ true }
-    requires prepared { IsPrepared (program_of program.now) number prepared.now }
-    requires numbered { OfNumber number (placed_in places.now) }
+    requires prepared { ArePrepared (program_of program.now) prepared.now (placed_in places.now) }
     ensures places { IfOk result (λ made. map placed_at made.items ≡ placed_in places.now) }
     ensures right { IfOk result (λ made. AreRightAt budget (meaning_of (program_of program.now)) (has set.now) made.items) }
 {
     let mut made = Vec::new(alloc);
     for place in places {
-        let one = judge(alloc, program, prepared, number, place, set, budget)?;
+        let question = Question {
+            program,
+            prepared,
+            place,
+            set,
+        };
+        let one = judge(alloc, question, budget)?;
         made.push(one)?;
     }
     Ok(made)
@@ -87,7 +82,7 @@ fn judge_implementation(
 {
     let prepared = prepare(alloc, program, callees, number)?;
     let places = places_of(alloc, program, number)?;
-    judge_places(alloc, program, &prepared, number, &places, set, budget)
+    judge_places(alloc, program, &prepared, &places, set, budget)
 }
 
 /// What is known of each place of a typed program over truth values and whole numbers, by implementation and place, under the

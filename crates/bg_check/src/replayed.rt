@@ -12,49 +12,45 @@ ghost use Rattle.bg_check.specs.Prepared.{IsPrepared};
 ghost use Rattle.bg_check.specs.Verdicts.{IsFailure, IsRight};
 
 use crate::dropping::used_up;
-use crate::prepared::Prepared;
+use crate::question::Question;
 use crate::verdict::{Cause, Verdict};
-use bg_ast::resolved::Resolved;
 use bg_block_types::laws::blocks_are_typed;
 use bg_model::Counterexample;
-use bg_places::Place;
 use bg_replay::laws::replays_are_induction_runs;
-use bg_replay::{Ending, replay};
+use bg_replay::{Code, Ending, Start, replay};
 use std::alloc::{AllocError, Global};
 
 /// A place is refuted by a run that fails there, that of a complete leaf of its clauses, unless an operation on its way leaves 128 bits;
 /// choices that the run doesn't take are dropped.
 pub fn replayed(
     alloc: Global,
-    program: &Resolved,
-    prepared: &Prepared<'_>,
-    place: &Place,
-    set: &[bool],
+    question: Question<'_>,
     cex: Counterexample,
 ) -> Result<Verdict, AllocError>
-    requires typed { IsTyped (meaning_of (program_of program.now)) }
-    requires scalars { is_over_scalars true (meaning_of (program_of program.now)) ≡ true }
-    requires prepared { IsPrepared (program_of program.now) place.now.implementation prepared.now }
-    requires leaf { HasLeaf (meaning_of (program_of program.now)) (has set.now) (placed_of place.now).place cex }
-    requires fails { IsFailure (meaning_of (program_of program.now)) (has set.now) (placed_of place.now).place cex }
-    ensures { IfOk result (λ verdict. (budget : Budget) → IsRight budget (meaning_of (program_of program.now)) (has set.now) (placed_of place.now).place verdict) }
+    requires typed { IsTyped (meaning_of (program_of question.entry.program.now)) }
+    requires scalars { is_over_scalars true (meaning_of (program_of question.entry.program.now)) ≡ true }
+    requires prepared { IsPrepared (program_of question.entry.program.now) question.entry.place.now.implementation question.entry.prepared.now }
+    requires leaf { HasLeaf (meaning_of (program_of question.entry.program.now)) (has question.entry.set.now) (placed_of question.entry.place.now).place cex }
+    requires fails { IsFailure (meaning_of (program_of question.entry.program.now)) (has question.entry.set.now) (placed_of question.entry.place.now).place cex }
+    ensures { IfOk result (λ verdict. (budget : Budget) → IsRight budget (meaning_of (program_of question.entry.program.now)) (has question.entry.set.now) (placed_of question.entry.place.now).place verdict) }
 {
     blocks_are_typed();
     replays_are_induction_runs();
-    let ending = replay(
-        alloc,
-        program,
-        &prepared.blocks,
-        set,
-        place.implementation,
-        &cex.globals,
-        &cex.frame,
-        &cex.choices,
-    )?;
+    let code = Code {
+        program: question.program,
+        blocks: &question.prepared.blocks,
+        set: question.set,
+    };
+    let start = Start {
+        globals: &cex.globals,
+        frame: &cex.frame,
+        choices: &cex.choices,
+    };
+    let ending = replay(alloc, code, question.place.implementation, start)?;
     match ending {
         Ending::OutOfRange(o) => Ok(Verdict::Unknown(Cause::Replay(cex, o))),
         Ending::Failed(_) => {
-            let left = used_up(alloc, program, prepared, place, set, cex)?;
+            let left = used_up(alloc, question, cex)?;
             Ok(Verdict::Refuted(left))
         }
         Ending::Ended => unreachable!(),

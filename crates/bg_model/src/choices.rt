@@ -20,6 +20,14 @@ use bg_scalar::Choice;
 use std::alloc::AllocError;
 use std::collections::VecDeque;
 
+/// What leads a walk through blocks: the blocks of forms, and each block's first incarnation and turn.
+#[derive(Clone, Copy)]
+pub struct Course<'a> {
+    pub forms: &'a [FormBlock],
+    pub firsts: &'a [u32],
+    pub turns: &'a VecDeque<Turn>,
+}
+
 /// Adds the choice at the end of a block by its turn, and gives the block behind it that the walk goes to; none where it ends here.
 fn turned(made: &mut Vec<Choice>, turn: Turn, x: &Exit<'_>) -> Result<Option<usize>, AllocError>
     ensures { IfOk result (λ to. (behind : ℕ → List e.Choice) → map choice_of made.old.items ++ turn_choices turn (exit_of x.now) behind ≡ map choice_of made.new.items ++ choices_on to behind) }
@@ -60,20 +68,18 @@ fn visit<'a>(
     trial: Trial<'_>,
     front: &mut Front<'a>,
     b: &Block<'_>,
-    forms: &'a [FormBlock],
-    firsts: &[u32],
-    turns: &VecDeque<Turn>,
+    course: Course<'a>,
     i: usize,
 ) -> Result<Option<usize>, AllocError>
-    ensures { IfOk result (λ to. (p : Program) (bs : List f.Block) → made_by front.old (taken (walk_in trial.entry) (values_in trial.entry) (block_of p b.now ∷ bs) (map form_block_of (drop i forms.now)) (drop i firsts.now) (drop i turns.now.items) 0) ≡ made_by front.new (choices_on to (taken (walk_in trial.entry) (values_in trial.entry) bs (map form_block_of (drop (i + 1) forms.now)) (drop (i + 1) firsts.now) (drop (i + 1) turns.now.items)))) }
+    ensures { IfOk result (λ to. (p : Program) (bs : List f.Block) → made_by front.old (taken (walk_in trial.entry) (values_in trial.entry) (block_of p b.now ∷ bs) (map form_block_of (drop i course.entry.forms.now)) (drop i course.entry.firsts.now) (drop i course.entry.turns.now.items) 0) ≡ made_by front.new (choices_on to (taken (walk_in trial.entry) (values_in trial.entry) bs (map form_block_of (drop (i + 1) course.entry.forms.now)) (drop (i + 1) course.entry.firsts.now) (drop (i + 1) course.entry.turns.now.items)))) }
 {
-    let Some(q) = forms.get(i) else {
+    let Some(q) = course.forms.get(i) else {
         return Ok(None);
     };
-    let Some(first) = firsts.get(i) else {
+    let Some(first) = course.firsts.get(i) else {
         return Ok(None);
     };
-    let Some(turn) = turns.get(i) else {
+    let Some(turn) = course.turns.get(i) else {
         return Ok(None);
     };
     let to = block(trial, front, b, q, *first, *turn)?;
@@ -84,11 +90,9 @@ fn visit<'a>(
 pub fn choices(
     trial: Trial<'_>,
     blocks: &[Block<'_>],
-    forms: &[FormBlock],
-    firsts: &[u32],
-    turns: &VecDeque<Turn>,
+    course: Course<'_>,
 ) -> Result<Vec<Choice>, AllocError>
-    ensures { IfOk result (λ made. (p : Program) → map choice_of made.items ≡ taken (walk_in trial.entry) (values_in trial.entry) (map (block_of p) blocks.now) (map form_block_of forms.now) firsts.now turns.now.items 0) }
+    ensures { IfOk result (λ made. (p : Program) → map choice_of made.items ≡ taken (walk_in trial.entry) (values_in trial.entry) (map (block_of p) blocks.now) (map form_block_of course.entry.forms.now) course.entry.firsts.now course.entry.turns.now.items 0) }
 {
     let mut front = Front {
         made: Vec::new(trial.alloc),
@@ -100,7 +104,7 @@ pub fn choices(
         if skip > 0 {
             skip -= 1;
         } else {
-            match visit(trial, &mut front, b, forms, firsts, turns, i)? {
+            match visit(trial, &mut front, b, course, i)? {
                 None => return Ok(front.made),
                 Some(k) => skip = k,
             }

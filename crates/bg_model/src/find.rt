@@ -10,7 +10,7 @@ ghost use Rattle.bg_scalar.specs.Values.{val_of};
 ghost use Rattle.bg_model.specs.Views.{set_of};
 ghost use Rattle.bg_model.specs.Counterexamples.{is_denied, IsCounterexample, IsTold};
 
-use crate::choices::choices;
+use crate::choices::{Course, choices};
 use crate::choose::values_from;
 use crate::failure::Counterexample;
 use crate::trial::Trial;
@@ -22,6 +22,24 @@ use bg_places::Spot;
 use bg_scalar::Scalar;
 use std::alloc::{AllocError, Global};
 
+/// The blocks of an implementation of a program, how many variables its frame has, the first incarnations that `bg_incarnate` gives
+/// the blocks, and the blocks of forms.
+#[derive(Clone, Copy)]
+pub struct Routine<'a> {
+    pub program: &'a Resolved,
+    pub frame: usize,
+    pub blocks: &'a [Block<'a>],
+    pub firsts: &'a [u32],
+    pub forms: &'a [FormBlock],
+}
+
+/// Truth values of the atoms, and values of the incarnations, 0 past the end of the list.
+#[derive(Clone, Copy)]
+pub struct Valuation<'a> {
+    pub truths: &'a [bool],
+    pub values: &'a [Scalar],
+}
+
 /// How many globals are declared.
 fn count_globals(program: &Resolved) -> usize
     ensures { result ≡ length (program_of program.now).globals }
@@ -31,40 +49,38 @@ fn count_globals(program: &Resolved) -> usize
 
 /// The run that fails at the target, where the equations of the forms deny the entry block under these truth values of the atoms;
 /// `None` where they don't. The run goes along the lowest edges from which some walk fails (in the manner of Barnett and Leino),
-/// from the first incarnations' values, and its choices end at the check that fails. The frame has so many variables, `firsts` are
-/// the first incarnations that `bg_incarnate` gives the blocks, and `values` are the incarnations' values, 0 past the end of the
-/// list.
+/// from the first incarnations' values, and its choices end at the check that fails.
 ///
 /// Only want of memory is an error; 2^32 branches count as such.
 pub fn counterexample(
     alloc: Global,
-    program: &Resolved,
-    frame: usize,
-    blocks: &[Block<'_>],
-    firsts: &[u32],
-    forms: &[FormBlock],
+    routine: Routine<'_>,
     target: Spot,
     set: &[bool],
-    truths: &[bool],
-    values: &[Scalar],
+    valuation: Valuation<'_>,
 ) -> Result<Option<Counterexample>, AllocError>
-    ensures { IfOk result (λ found. IsTold (is_denied (set_of set.now) (spot_of target) (bools_at truths.now) (map form_block_of forms.now)) found (IsCounterexample (meaning_of (program_of program.now)) (map (block_of (program_of program.now)) blocks.now) frame firsts.now (map form_block_of forms.now) (set_of set.now) (spot_of target) (bools_at truths.now) (map val_of values.now))) }
+    ensures { IfOk result (λ found. IsTold (is_denied (set_of set.now) (spot_of target) (bools_at valuation.entry.truths.now) (map form_block_of routine.entry.forms.now)) found (IsCounterexample (meaning_of (program_of routine.entry.program.now)) (map (block_of (program_of routine.entry.program.now)) routine.entry.blocks.now) routine.entry.frame routine.entry.firsts.now (map form_block_of routine.entry.forms.now) (set_of set.now) (spot_of target) (bools_at valuation.entry.truths.now) (map val_of valuation.entry.values.now))) }
 {
     let trial = Trial {
         alloc,
         set,
         target,
-        truths,
-        values,
+        truths: valuation.truths,
+        values: valuation.values,
     };
-    let made = turns(trial, forms)?;
+    let made = turns(trial, routine.forms)?;
     if !fails(&made, 0) {
         return Ok(None);
     }
-    let choices = choices(trial, blocks, forms, firsts, &made)?;
-    let many = count_globals(program);
-    let globals = values_from(alloc, values, 0, many)?;
-    let frame = values_from(alloc, values, many, frame)?;
+    let course = Course {
+        forms: routine.forms,
+        firsts: routine.firsts,
+        turns: &made,
+    };
+    let choices = choices(trial, routine.blocks, course)?;
+    let many = count_globals(routine.program);
+    let globals = values_from(alloc, valuation.values, 0, many)?;
+    let frame = values_from(alloc, valuation.values, many, routine.frame)?;
     Ok(Some(Counterexample {
         globals,
         frame,

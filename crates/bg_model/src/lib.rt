@@ -15,4 +15,4 @@ mod turns;
 mod walk;
 
 pub use failure::Counterexample;
-pub use find::counterexample;
+pub use find::{Routine, Valuation, counterexample};

@@ -13,7 +13,7 @@ use bg_blocks::{Cmd, Kept};
 use std::alloc::AllocError;
 
 /// So many passive commands; and of the command's incarnations, behind so many first ones, so many whose values are chosen.
-#[derive(Clone, Copy, PartialEq, Eq, Debug)]
+#[derive(Clone, Copy)]
 pub struct Share {
     pub cmds: usize,
     pub skips: usize,

@@ -14,7 +14,7 @@ use bg_formed::{FormCmd, Says, is_spot};
 use bg_forms::is_worth;
 
 /// How a walk through commands goes: on, to an end without the failure that is looked for, or to it.
-#[derive(Clone, Copy, PartialEq, Eq, Debug)]
+#[derive(Clone, Copy)]
 pub enum Went {
     On,
     Stopped,

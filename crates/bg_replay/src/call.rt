@@ -23,20 +23,27 @@ use bg_places::Group;
 use bg_scalar::{Scalar, Scalars, Sight, worths};
 use std::alloc::AllocError;
 
+/// A call, the procedure that is called, the globals that it modifies, and what its results hold.
+#[derive(Clone, Copy)]
+struct Callee<'a> {
+    call: &'a Call,
+    procedure: &'a Procedure,
+    modifies: &'a [Variable],
+    results: &'a [Holding],
+}
+
 /// The end of a call with these arguments, which began with these globals: the results are chosen.
 fn give_back(
     around: Around<'_>,
     moment: &mut Moment<'_>,
-    k: &Call,
-    q: &Procedure,
-    results: &[Holding],
+    callee: Callee<'_>,
     was: &[Scalar],
     args: Vec<Scalar>,
 ) -> Result<Step, AllocError>
-    ensures { IfOk result (λ step. on_said (said_of step) (moment_of moment.new) ≡ given_back (chosen results.now (moment_of moment.old).choices) (around_of around.entry) was.now args.items (sayings each_one (clauses_in q.now.ensures_.items)) (map m.variable_of (map placed_of k.now.takes.items)) (moment_of moment.old)) }
+    ensures { IfOk result (λ step. on_said (said_of step) (moment_of moment.new) ≡ given_back (chosen callee.entry.results.now (moment_of moment.old).choices) (around_of around.entry) was.now args.items (sayings each_one (clauses_in callee.entry.procedure.now.ensures_.items)) (map m.variable_of (map placed_of callee.entry.call.now.takes.items)) (moment_of moment.old)) }
 {
     let mut frame = args;
-    let Some(values) = chosen(around.alloc, moment.left, results)? else {
+    let Some(values) = chosen(around.alloc, moment.left, callee.results)? else {
         return Ok(Step::Over(Ending::BadChoice));
     };
     moment.left = rest_of(moment.left, values.len());
@@ -46,10 +53,10 @@ fn give_back(
         before: was,
         frame: &frame,
     };
-    match suppose(around.set, sight, Kept::Each, &q.ensures_) {
+    match suppose(around.set, sight, Kept::Each, &callee.procedure.ensures_) {
         Step::Over(e) => Ok(Step::Over(e)),
         Step::Goes => {
-            put_taken(moment, &k.takes, &values);
+            put_taken(moment, &callee.call.takes, &values);
             Ok(Step::Goes)
         }
     }
@@ -60,29 +67,27 @@ fn give_back(
 fn call_with(
     around: Around<'_>,
     moment: &mut Moment<'_>,
-    k: &Call,
-    q: &Procedure,
-    modifies: &[Variable],
-    results: &[Holding],
+    callee: Callee<'_>,
     args: Vec<Scalar>,
 ) -> Result<Step, AllocError>
-    ensures { IfOk result (λ step. on_said (said_of step) (moment_of moment.new) ≡ called_with (Are args.items) (around_of around.entry) (demands (AtCall k.now.site) (clauses_in q.now.requires_.items)) (map var_of modifies.now) results.now (sayings each_one (clauses_in q.now.ensures_.items)) (map m.variable_of (map placed_of k.now.takes.items)) (moment_of moment.old)) }
+    ensures { IfOk result (λ step. on_said (said_of step) (moment_of moment.new) ≡ called_with (Are args.items) (around_of around.entry) (demands (AtCall callee.entry.call.now.site) (clauses_in callee.entry.procedure.now.requires_.items)) (map var_of callee.entry.modifies.now) callee.entry.results.now (sayings each_one (clauses_in callee.entry.procedure.now.ensures_.items)) (map m.variable_of (map placed_of callee.entry.call.now.takes.items)) (moment_of moment.old)) }
 {
     let sight = Sight {
         globals: &moment.globals,
         before: &moment.globals,
         frame: &args,
     };
-    match check(around.set, sight, Group::Call(k.site), &q.requires_) {
+    let group = Group::Call(callee.call.site);
+    match check(around.set, sight, group, &callee.procedure.requires_) {
         Step::Over(e) => return Ok(Step::Over(e)),
         Step::Goes => {}
     }
     let was = copied(around.alloc, &moment.globals)?;
-    match forget(around, moment, modifies) {
+    match forget(around, moment, callee.modifies) {
         Step::Over(e) => return Ok(Step::Over(e)),
         Step::Goes => {}
     }
-    give_back(around, moment, k, q, results, &was, args)
+    give_back(around, moment, callee, &was, args)
 }
 
 /// A call of the procedure, which modifies these globals.
@@ -103,6 +108,14 @@ pub fn call(
     match worths(around.alloc, seen(around, moment), &k.args)? {
         Scalars::Leave(o) => Ok(Step::Over(Ending::OutOfRange(o))),
         Scalars::NoScalars => Ok(Step::Over(Ending::NoScalars)),
-        Scalars::Are(args) => call_with(around, moment, k, q, modifies, &results, args),
+        Scalars::Are(args) => {
+            let callee = Callee {
+                call: k,
+                procedure: q,
+                modifies,
+                results: &results,
+            };
+            call_with(around, moment, callee, args)
+        }
     }
 }

@@ -4,7 +4,7 @@ use bg_places::Spot;
 
 /// How a run ends: well, blocked by an assumption, at a check that fails, without the choice that it needs, at the first operation that
 /// leaves 128 bits, or at something that is no scalar.
-#[derive(Clone, Copy, PartialEq, Eq, Debug)]
+#[derive(Clone, Copy, PartialEq, Eq)]
 pub enum Ending {
     Ended,
     Blocked,
@@ -15,14 +15,14 @@ pub enum Ending {
 }
 
 /// How a part of a run leaves off: the run goes on, or it is over.
-#[derive(Clone, Copy, PartialEq, Eq, Debug)]
+#[derive(Clone, Copy)]
 pub enum Step {
     Goes,
     Over(Ending),
 }
 
 /// Where a block leads, counted from the next one; or the run is over.
-#[derive(Clone, Copy, PartialEq, Eq, Debug)]
+#[derive(Clone, Copy)]
 pub enum Way {
     To(usize),
     Over(Ending),

@@ -14,4 +14,4 @@ mod whole;
 
 pub use bg_scalar::Choice;
 pub use ending::Ending;
-pub use whole::replay;
+pub use whole::{Code, Start, replay};

@@ -16,6 +16,22 @@ use bg_fits::{Holding, push_holdings};
 use bg_scalar::{Choice, Scalar};
 use std::alloc::{AllocError, Global};
 
+/// What is run: blocks of an implementation of the program, where these candidates are there.
+#[derive(Clone, Copy)]
+pub struct Code<'a> {
+    pub program: &'a Resolved,
+    pub blocks: &'a [Block<'a>],
+    pub set: &'a [bool],
+}
+
+/// From what a run goes: values of the globals and of the frame (parameters, results, locals), and the choices that it takes.
+#[derive(Clone, Copy)]
+pub struct Start<'a> {
+    pub globals: &'a [Scalar],
+    pub frame: &'a [Scalar],
+    pub choices: &'a [Choice],
+}
+
 /// What each global holds.
 fn global_holdings(alloc: Global, program: &Resolved) -> Result<Vec<Holding>, AllocError>
     ensures { IfOk result (λ made. made.items ≡ holdings_of (meaning_of (program_of program.now)).globals) }
@@ -42,63 +58,54 @@ fn frame_holdings(
     Ok(made)
 }
 
-/// The run of blocks of this implementation of this procedure.
+/// The run of the code, which is of this implementation of this procedure.
 fn replay_body(
     alloc: Global,
-    program: &Resolved,
-    blocks: &[Block<'_>],
-    set: &[bool],
+    code: Code<'_>,
     m: &Implementation,
     q: &Procedure,
-    globals: &[Scalar],
-    frame: &[Scalar],
-    choices: &[Choice],
+    start: Start<'_>,
 ) -> Result<Ending, AllocError>
-    ensures { IfOk result (λ ending. (number : ℕ) → IsReplay (program_of program.now) blocks.now set.now number (impl_of m.now) (proc_of q.now) globals.now frame.now choices.now ending) }
+    ensures { IfOk result (λ ending. (number : ℕ) → IsReplay (program_of code.entry.program.now) code.entry.blocks.now code.entry.set.now number (impl_of m.now) (proc_of q.now) start.entry.globals.now start.entry.frame.now start.entry.choices.now ending) }
 {
-    let of_globals = global_holdings(alloc, program)?;
-    let of_frame = frame_holdings(alloc, program, m, q)?;
-    let first = copied(alloc, globals)?;
-    let locals = copied(alloc, frame)?;
+    let of_globals = global_holdings(alloc, code.program)?;
+    let of_frame = frame_holdings(alloc, code.program, m, q)?;
+    let first = copied(alloc, start.globals)?;
+    let locals = copied(alloc, start.frame)?;
     let around = Around {
         alloc,
-        program,
-        set,
-        before: globals,
+        program: code.program,
+        set: code.set,
+        before: start.globals,
         globals: &of_globals,
         frame: &of_frame,
     };
     let mut moment = Moment {
         globals: first,
         frame: locals,
-        left: choices,
+        left: start.choices,
     };
-    run(around, &mut moment, blocks)
+    run(around, &mut moment, code.blocks)
 }
 
-/// The run of these blocks of the implementation with this number, from these values of the variables, with these choices: with the
-/// blocks that `bg_blocks` makes of the implementation its induction run, by `laws::replays_are_induction_runs`, unless an operation
-/// leaves 128 bits on the way. `NoScalars` is the ending of a run that meets what is no scalar, and of one where the implementation or
-/// its procedure isn't there.
+/// The run of this code, which is of the implementation with this number, from this start: with the blocks that `bg_blocks` makes of
+/// the implementation its induction run, by `laws::replays_are_induction_runs`, unless an operation leaves 128 bits on the way.
+/// `NoScalars` is the ending of a run that meets what is no scalar, and of one where the implementation or its procedure isn't there.
 ///
 /// Only want of memory is an error.
 pub fn replay(
     alloc: Global,
-    program: &Resolved,
-    blocks: &[Block<'_>],
-    set: &[bool],
+    code: Code<'_>,
     implementation: usize,
-    globals: &[Scalar],
-    frame: &[Scalar],
-    choices: &[Choice],
+    start: Start<'_>,
 ) -> Result<Ending, AllocError>
-    ensures { IfOk result (λ ending. (m : r.Impl) (q : r.Proc) → slice_get (program_of program.now).implementations implementation ≡ Some m → slice_get (program_of program.now).procedures m.procedure ≡ Some q → IsReplay (program_of program.now) blocks.now set.now implementation m q globals.now frame.now choices.now ending) }
+    ensures { IfOk result (λ ending. (m : r.Impl) (q : r.Proc) → slice_get (program_of code.entry.program.now).implementations implementation ≡ Some m → slice_get (program_of code.entry.program.now).procedures m.procedure ≡ Some q → IsReplay (program_of code.entry.program.now) code.entry.blocks.now code.entry.set.now implementation m q start.entry.globals.now start.entry.frame.now start.entry.choices.now ending) }
 {
-    let Some(m) = program.implementations.get(implementation) else {
+    let Some(m) = code.program.implementations.get(implementation) else {
         return Ok(Ending::NoScalars);
     };
-    let Some(q) = program.procedures.get(m.procedure as usize) else {
+    let Some(q) = code.program.procedures.get(m.procedure as usize) else {
         return Ok(Ending::NoScalars);
     };
-    replay_body(alloc, program, blocks, set, m, q, globals, frame, choices)
+    replay_body(alloc, code, m, q, start)
 }

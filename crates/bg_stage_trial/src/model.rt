@@ -4,7 +4,7 @@ use bg_ast::resolved::Resolved;
 use bg_blocks::{blocks, callees_of};
 use bg_formed::formed;
 use bg_incarnate::passive;
-use bg_model::{Counterexample, counterexample};
+use bg_model::{Counterexample, Routine, Valuation, counterexample};
 use bg_places::Spot;
 use bg_scalar::{Choice, Scalar};
 use std::alloc::Global;
@@ -66,18 +66,15 @@ fn found(alloc: Global, p: &Resolved, case: &Case) -> Result<Option<Counterexamp
     let forms = formed(alloc, passive.count, 0, &passive.blocks)?.ok_or("no forms")?;
     let (id, truths, values, _) = *case;
     let (firsts, spot) = (&passive.firsts, Spot::Assert(id));
-    Ok(counterexample(
-        alloc,
-        p,
-        frame(p),
-        &blocks,
+    let routine = Routine {
+        program: p,
+        frame: frame(p),
+        blocks: &blocks,
         firsts,
-        &forms,
-        spot,
-        &[],
-        truths,
-        values,
-    )?)
+        forms: &forms,
+    };
+    let valuation = Valuation { truths, values };
+    Ok(counterexample(alloc, routine, spot, &[], valuation)?)
 }
 
 fn tells(alloc: Global, case: &Case) -> Result<bool, Fail> {

@@ -3,7 +3,7 @@ use crate::text::program;
 use bg_base::{Op, OutOfRange};
 use bg_blocks::{blocks, callees_of};
 use bg_places::Spot;
-use bg_replay::{Choice, Ending, replay};
+use bg_replay::{Choice, Code, Ending, Start, replay};
 use bg_scalar::Scalar;
 use std::alloc::Global;
 use std::test::Fail;
@@ -48,7 +48,18 @@ fn ends(alloc: Global, number: usize, choice: Choice, wanted: Ending) -> Result<
     let callees = callees_of(alloc, &p)?;
     let blocks = blocks(alloc, &p, &callees, number)?;
     let globals = [ZERO, NO, ZERO];
-    let ending = replay(alloc, &p, &blocks, &[], number, &globals, &[], &[choice])?;
+    let code = Code {
+        program: &p,
+        blocks: &blocks,
+        set: &[],
+    };
+    let choices = [choice];
+    let start = Start {
+        globals: &globals,
+        frame: &[],
+        choices: &choices,
+    };
+    let ending = replay(alloc, code, number, start)?;
     Ok(ending == wanted)
 }
 

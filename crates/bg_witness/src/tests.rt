@@ -12,7 +12,7 @@ use bg_cert::{Node, accepts};
 use bg_check::{Cause, Judged, Prepared, Verdict, check_program, place_atoms, prepare};
 use bg_clause::{Names, clauses};
 use bg_model::Counterexample;
-use bg_replay::{Ending, replay};
+use bg_replay::{Choice, Code, Ending, Start, replay};
 use bg_rows::Refused;
 use bg_tree::Budget;
 use std::alloc::{AllocError, Global};
@@ -78,6 +78,28 @@ fn is_accepted(
     }
 }
 
+/// How the run ends with the counterexample's values and these choices.
+fn ending<'x>(
+    alloc: Global,
+    program: &'x Resolved,
+    prepared: &'x Prepared<'x>,
+    judged: &Judged,
+    cex: &'x Counterexample,
+    choices: &'x [Choice],
+) -> Result<Ending, AllocError> {
+    let code = Code {
+        program,
+        blocks: &prepared.blocks,
+        set: &[],
+    };
+    let start = Start {
+        globals: &cex.globals,
+        frame: &cex.frame,
+        choices,
+    };
+    replay(alloc, code, judged.place.implementation, start)
+}
+
 /// Whether the counterexample of a place replays to it, and has no choice too many.
 fn is_replayed(
     alloc: Global,
@@ -86,23 +108,11 @@ fn is_replayed(
     judged: &Judged,
     cex: &Counterexample,
 ) -> Result<bool, AllocError> {
-    let number = judged.place.implementation;
-    let blocks = &prepared.blocks;
-    let (globals, frame) = (&cex.globals, &cex.frame);
-    let whole = replay(
-        alloc,
-        program,
-        blocks,
-        &[],
-        number,
-        globals,
-        frame,
-        &cex.choices,
-    )?;
+    let whole = ending(alloc, program, prepared, judged, cex, &cex.choices)?;
     let Some((_, front)) = cex.choices.split_last() else {
         return Ok(whole == Ending::Failed(judged.place.spot));
     };
-    let short = replay(alloc, program, blocks, &[], number, globals, frame, front)?;
+    let short = ending(alloc, program, prepared, judged, cex, front)?;
     Ok(whole == Ending::Failed(judged.place.spot) && short == Ending::BadChoice)
 }
 
@@ -114,20 +124,8 @@ fn leaves(
     judged: &Judged,
     cex: &Counterexample,
 ) -> Result<bool, AllocError> {
-    let number = judged.place.implementation;
-    let blocks = &prepared.blocks;
-    let (globals, frame) = (&cex.globals, &cex.frame);
-    let ending = replay(
-        alloc,
-        program,
-        blocks,
-        &[],
-        number,
-        globals,
-        frame,
-        &cex.choices,
-    )?;
-    Ok(matches!(ending, Ending::OutOfRange(_)))
+    let whole = ending(alloc, program, prepared, judged, cex, &cex.choices)?;
+    Ok(matches!(whole, Ending::OutOfRange(_)))
 }
 
 /// `p` for a certificate that is accepted, `r` for a counterexample that replays, `o` for one that leaves the range, `f` for clauses

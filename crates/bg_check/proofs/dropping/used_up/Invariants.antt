@@ -7,7 +7,7 @@ use Rattle.bg_check.specs.Dropped.{FailsWithin}
 use Rattle.bg_check.proofs.dropping.used_up.Given as goal
 
 abbrev pub invariant-loop-left : goal.invariant-loop-left
-invariant-loop-left l = FailsWithin (meaning_of (program_of l.program)) (has l.set) (placed_of l.place).place l.left
+invariant-loop-left l = FailsWithin (meaning_of (program_of l.question.program.now)) (has l.question.set.now) (placed_of l.question.place.now).place l.left
 
 abbrev pub decreases-loop-left : goal.decreases-loop-left
 decreases-loop-left l = length l.left.choices.items

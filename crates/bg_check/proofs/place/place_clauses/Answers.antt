@@ -12,9 +12,9 @@ use Rattle.bg_check.proofs.place.place_clauses.Goals as goal
 
 pub returns-in-Err-Range : goal.returns-in-Err-Range
 returns-in-Err-Range c =
-    let p = program_of c.args.program.now in
-    let w = c.args.prepared.now in
+    let p = program_of c.args.question.program.now in
+    let w = c.args.question.prepared.now in
     let a = encoding_of c.args.atoms.now in
-    let k = c.args.place.now.implementation in
-    let told = subst (λ r. Told formula_of (Err r) (clauses_of a.first c.in_ok-candidates.candidates a.terms (map view_linear c.deref.result.now) (spot_of c.args.place.now.spot) (map form_block_of c.deref-2.result.now))) c.in-Err-Range.field-0-is c.in-Err-Range.ensures in
-    outside_here p k w c.requires.prepared (spot_of c.args.place.now.spot) _ c.args.atoms.now c.in-Err-Range.o c.in_ok-candidates.candidates (map view_linear c.deref.result.now) (map form_block_of c.deref-2.result.now) c.requires.slice (ap (map form_block_of) c.deref-2.ensures.value) told
+    let k = c.args.question.place.now.implementation in
+    let told = subst (λ r. Told formula_of (Err r) (clauses_of a.first c.in_ok-candidates.candidates a.terms (map view_linear c.deref.result.now) (spot_of c.args.question.place.now.spot) (map form_block_of c.deref-2.result.now))) c.in-Err-Range.field-0-is c.in-Err-Range.ensures in
+    outside_here p k w c.requires.prepared (spot_of c.args.question.place.now.spot) _ c.args.atoms.now c.in-Err-Range.o c.in_ok-candidates.candidates (map view_linear c.deref.result.now) (map form_block_of c.deref-2.result.now) c.requires.slice (ap (map form_block_of) c.deref-2.ensures.value) told

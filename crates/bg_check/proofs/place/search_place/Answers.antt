@@ -24,28 +24,28 @@ at_budget budget p set t (Err e) h = h
 
 pub search-requires : goal.search-requires
 search-requires c =
-    let p = program_of c.args.program.now in
-    let n = c.args.place.now.implementation in
-    let w = c.args.prepared.now in
+    let p = program_of c.args.question.program.now in
+    let n = c.args.question.place.now.implementation in
+    let w = c.args.question.prepared.now in
     let h = c.requires.prepared in
-    c.clauses_over_scalars_are_whole.ensures (meaning_of p) n (impl p n w h) (proc p n w h) c.requires.typed c.requires.scalars (impl_at p n w h) (proc_at p n w h) (encoding_of c.args.atoms.now) (c.requires.slice.encoding h) (spot_of c.args.place.now.spot) (formula_of c.args.f.now) c.requires.clauses
+    c.clauses_over_scalars_are_whole.ensures (meaning_of p) n (impl p n w h) (proc p n w h) c.requires.typed c.requires.scalars (impl_at p n w h) (proc_at p n w h) (encoding_of c.args.atoms.now) (c.requires.slice.encoding h) (spot_of c.args.question.place.now.spot) (formula_of c.args.f.now) c.requires.clauses
 
 pub returns-in-Closed : goal.returns-in-Closed
 returns-in-Closed c =
     record {
       formula = formula_of c.args.f.now;
-      is = clauses_here (program_of c.args.program.now) c.args.place.now.implementation c.args.prepared.now c.requires.prepared (spot_of c.args.place.now.spot) (option_of candidate_of c.args.place.now.candidate) c.args.atoms.now (formula_of c.args.f.now) c.requires.slice c.requires.clauses;
-      accepted = subst (IsOutcome (formula_of c.args.f.now) (has c.args.set.now) c.args.budget) c.in-Closed.is c.in_ok-nodes.ensures;
+      is = clauses_here (program_of c.args.question.program.now) c.args.question.place.now.implementation c.args.question.prepared.now c.requires.prepared (spot_of c.args.question.place.now.spot) (option_of candidate_of c.args.question.place.now.candidate) c.args.atoms.now (formula_of c.args.f.now) c.requires.slice c.requires.clauses;
+      accepted = subst (IsOutcome (formula_of c.args.f.now) (has c.args.question.set.now) c.args.budget) c.in-Closed.is c.in_ok-nodes.ensures;
     }
 
 pub returns-in-Unknown : goal.returns-in-Unknown
 returns-in-Unknown c =
     record {
       formula = formula_of c.args.f.now;
-      is = clauses_here (program_of c.args.program.now) c.args.place.now.implementation c.args.prepared.now c.requires.prepared (spot_of c.args.place.now.spot) (option_of candidate_of c.args.place.now.candidate) c.args.atoms.now (formula_of c.args.f.now) c.requires.slice c.requires.clauses;
-      cause = subst (IsOutcome (formula_of c.args.f.now) (has c.args.set.now) c.args.budget) c.in-Unknown.is c.in_ok-nodes.ensures;
+      is = clauses_here (program_of c.args.question.program.now) c.args.question.place.now.implementation c.args.question.prepared.now c.requires.prepared (spot_of c.args.question.place.now.spot) (option_of candidate_of c.args.question.place.now.candidate) c.args.atoms.now (formula_of c.args.f.now) c.requires.slice c.requires.clauses;
+      cause = subst (IsOutcome (formula_of c.args.f.now) (has c.args.question.set.now) c.args.budget) c.in-Unknown.is c.in_ok-nodes.ensures;
     }
 
 pub returns-in_ok-cex-in-Leaf : goal.returns-in_ok-cex-in-Leaf
 returns-in_ok-cex-in-Leaf c =
-    at_budget c.args.budget (meaning_of (program_of c.args.program.now)) (has c.args.set.now) (placed_of c.args.place.now).place c.replayed.result c.replayed.ensures
+    at_budget c.args.budget (meaning_of (program_of c.args.question.program.now)) (has c.args.question.set.now) (placed_of c.args.question.place.now).place c.replayed.result c.replayed.ensures

@@ -4,13 +4,13 @@ use Rattle.bg_ast.specs.Views.{program_of}
 use Rattle.bg_cert.specs.Walks.{has}
 use Rattle.bg_check.specs.declared.verdict.Judged.{Judged}
 use Rattle.bg_check.specs.Verdicts.{placed_at, AreRightAt}
-use Rattle.bg_check.proofs.Judging.{one_more, places_more, number_at}
+use Rattle.bg_check.proofs.Judging.{one_more, places_more, prepared_at}
 use Rattle.bg_check.proofs.program.judge_places.Goals as goal
 
-pub judge-requires-clause-here : goal.judge-requires-clause-here
-judge-requires-clause-here c =
+pub judge-requires-clause-prepared : goal.judge-requires-clause-prepared
+judge-requires-clause-prepared c =
     let l : c.loop-place.place-index < length c.args.places.now = omega arith in
-    number_at c.args.number c.args.places.now c.loop-place.place-index _ c.requires.numbered l
+    prepared_at (program_of c.args.program.now) c.args.prepared.now c.args.places.now c.loop-place.place-index _ c.requires.prepared l
 
 pub loop-place-preserved : goal.loop-place-preserved
 loop-place-preserved c =

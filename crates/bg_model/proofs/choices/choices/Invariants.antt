@@ -8,4 +8,4 @@ use Rattle.bg_model.proofs.choices.choices.Given as goal
 
 abbrev pub invariant-loop-i : goal.invariant-loop-i
 invariant-loop-i l =
-    (p : Program) → made_by l.front (taken (walk_in l.trial) (values_in l.trial) (map (block_of p) (drop l.i l.blocks)) (map form_block_of (drop l.i l.forms)) (drop l.i l.firsts) (drop l.i l.turns.items) l.skip) ≡ taken (walk_in l.trial) (values_in l.trial) (map (block_of p) l.blocks) (map form_block_of l.forms) l.firsts l.turns.items 0
+    (p : Program) → made_by l.front (taken (walk_in l.trial) (values_in l.trial) (map (block_of p) (drop l.i l.blocks)) (map form_block_of (drop l.i l.course.forms.now)) (drop l.i l.course.firsts.now) (drop l.i l.course.turns.now.items) l.skip) ≡ taken (walk_in l.trial) (values_in l.trial) (map (block_of p) l.blocks) (map form_block_of l.course.forms.now) l.course.firsts.now l.course.turns.now.items 0

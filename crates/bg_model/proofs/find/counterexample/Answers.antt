@@ -20,29 +20,29 @@ use Rattle.bg_model.proofs.find.counterexample.Goals as goal
 
 pub returns-then-not-fails : goal.returns-then-not-fails
 returns-then-not-fails c =
-    denied_is (set_of c.args.set.now) (spot_of c.args.target) (bools_at c.args.truths.now) (map form_block_of c.args.forms.now)
+    denied_is (set_of c.args.set.now) (spot_of c.args.target) (bools_at c.args.valuation.truths.now) (map form_block_of c.args.routine.forms.now)
     ∙ (ap (λ ts. fails (slice_get ts 0)) (sym c.in_ok-made.ensures) ∙ (sym c.fails.ensures ∙ c.if-not-fails.true))
 
 pub returns : goal.returns
 returns c =
     let set = set_of c.args.set.now in
     let t = spot_of c.args.target in
-    let truth = bools_at c.args.truths.now in
-    let vs = map val_of c.args.values.now in
-    let p = program_of c.args.program.now in
+    let truth = bools_at c.args.valuation.truths.now in
+    let vs = map val_of c.args.valuation.values.now in
+    let p = program_of c.args.routine.program.now in
     let prog = meaning_of p in
-    let forms = map form_block_of c.args.forms.now in
-    let firsts = c.args.firsts.now in
+    let forms = map form_block_of c.args.routine.forms.now in
+    let firsts = c.args.routine.firsts.now in
     let w = walk_over set t truth in
-    let bs = map (block_of p) c.args.blocks.now in
+    let bs = map (block_of p) c.args.routine.blocks.now in
     let on : c.fails.result ≡ true = search rules in
     let fails_here : fails (slice_get (turns w forms) 0) ≡ true = ap (λ ts. fails (slice_get ts 0)) (sym c.in_ok-made.ensures) ∙ (sym c.fails.ensures ∙ on) in
     let choices : map choice_of c.in_ok-choices.choices.items ≡ taken w vs bs forms firsts (turns w forms) 0 = c.in_ok-choices.ensures p ∙ ap (λ ts. taken w vs bs forms firsts ts 0) c.in_ok-made.ensures in
     let many : c.count_globals-many.result ≡ length prog.globals = c.count_globals-many.ensures ∙ sym (length-map p.globals (m.decl_of (m.named_of p.types))) in (
       denied_is set t truth forms ∙ fails_here,
       record {
-        starts = λ k im pr s others later u. starts_at prog (frame_decls im pr) others s vs c.in_ok-globals.globals.items c.in_ok-frame.frame.items c.count_globals-many.result c.args.frame u.values c.in_ok-globals.ensures c.in_ok-frame.ensures many u.frame_size;
+        starts = λ k im pr s others later u. starts_at prog (frame_decls im pr) others s vs c.in_ok-globals.globals.items c.in_ok-frame.frame.items c.count_globals-many.result c.args.routine.frame u.values c.in_ok-globals.ensures c.in_ok-frame.ensures many u.frame_size;
         choices = choices;
-        fails = λ i k im pr s others later u said none. fails_at set truth t vs prog i k im pr s others later bs c.args.frame firsts forms (map choice_of c.in_ok-choices.choices.items) u said none choices fails_here;
+        fails = λ i k im pr s others later u said none. fails_at set truth t vs prog i k im pr s others later bs c.args.routine.frame firsts forms (map choice_of c.in_ok-choices.choices.items) u said none choices fails_here;
       },
     )
