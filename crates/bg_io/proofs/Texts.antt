@@ -1,12 +1,12 @@
 -- Texts that grow by one file after the other, and counts that grow with them.
-use Rattle.std.proofs.Common.{◌≡◌, ℕ, suc, ◌+◌, ◌<◌, List, [], ◌∷◌, ◌++◌, map, drop, length, get_or, Option, Some, None, Result, Ok, Err, refl, ap, append_assoc, add-one, arith, length-append, IfSome, IsErrAnd}
+use Rattle.std.proofs.Common.{◌≡◌, ℕ, suc, ◌+◌, ◌<◌, ◌≤◌, List, [], ◌∷◌, ◌++◌, map, drop, length, get_or, Option, Some, None, Result, Ok, Err, refl, ap, append_assoc, add-one, arith, length-append, IfSome, IsErrAnd}
 use Rattle.std.proofs.Math.Seq.{drop-cons}
 use Rattle.std.proofs.lemmas.List.{append-nil, drop-map}
 use Rattle.std.specs.List.{join_with_byte}
 use Rattle.bg_io.specs.declared.errors.ReadError.{ReadError}
 use Rattle.bg_io.specs.declared.errors.ReadError.TheVariants.{ReadFault, TooLong, Memory}
-use Rattle.bg_io.specs.Causes.{counted, joined_text}
-use Rattle.bg_io.specs.Errors.{IfTooLong}
+use Rattle.bg_io.specs.Causes.{Rose, counted, joined_text}
+use Rattle.bg_io.specs.Errors.{IfReadFault, IfTooLong}
 use Rattle.bg_io.specs.Reading.{with_rest, next_piece}
 
 -- what a text that is too long implies
@@ -19,6 +19,20 @@ too_long_gives T U P Q Memory f h = tt
 pub too_long_handed : (T U : Type 0) (P Q : ℕ → Type 0) (e : ReadError) (r : Result U ReadError) → IsErrAnd r (λ given. given ≡ e) → ((n : ℕ) → P n → Q n) → IfTooLong {T = T} (Err e) P → IfTooLong {T = U} r Q
 too_long_handed T U P Q e (Ok v) given f h = tt
 too_long_handed T U P Q e (Err e') given f h = too_long_gives T U P Q e' f (rw given h)
+
+-- what is known of a file that could not be read, where the error was handed on
+fault_gives : (T U : Type 0) (P P' Q : ℕ → Type 0) (e : ReadError) → ((n : ℕ) → P n → P' n → Q n) → IfReadFault {T = T} (Err e) P → IfReadFault {T = T} (Err e) P' → IfReadFault {T = U} (Err e) Q
+fault_gives T U P P' Q (ReadFault file) f h k = f file h k
+fault_gives T U P P' Q (TooLong n) f h k = tt
+fault_gives T U P P' Q Memory f h k = tt
+
+pub fault_handed : (T U : Type 0) (P P' Q : ℕ → Type 0) (e : ReadError) (r : Result U ReadError) → IsErrAnd r (λ given. given ≡ e) → ((n : ℕ) → P n → P' n → Q n) → IfReadFault {T = T} (Err e) P → IfReadFault {T = T} (Err e) P' → IfReadFault {T = U} r Q
+fault_handed T U P P' Q e (Ok v) given f h k = tt
+fault_handed T U P P' Q e (Err e') given f h k = fault_gives T U P P' Q e' f (rw given h) (rw given k)
+
+-- a count that rose later rose
+pub rose_before : (a b now : ℕ) → a ≤ b → Rose b now → Rose a now
+rose_before a b now l h = omega (arith, l, h)
 
 -- a text that grew and is too long now was too long with all that was left
 pub with_rest-longer : (limit m n : ℕ) (text before : List ℕ) (left' left : Option (List ℕ)) → m ≡ length text → n ≡ length before → with_rest text left' ≡ with_rest before left → IfSome left' (λ rest. limit < m + length rest) → IfSome left (λ rest. limit < n + length rest)

@@ -6,7 +6,7 @@ use std::alloc::AllocError;
 use thiserror::Error;
 
 /// A call of the outside failed, and its fault was counted.
-#[derive(Clone, Copy, PartialEq, Eq, Debug, Error)]
+#[derive(Clone, Copy, Debug, Error)]
 #[error("a call of the outside failed")]
 pub struct Failed;
 
@@ -33,6 +33,6 @@ impl From<AllocError> for ReadError {
 }
 
 /// The sink failed before it had taken all bytes.
-#[derive(Clone, Copy, PartialEq, Eq, Debug, Error)]
+#[derive(Clone, Copy, Debug, Error)]
 #[error("the sink failed")]
 pub struct WriteFault;

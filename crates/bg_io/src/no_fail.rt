@@ -48,7 +48,7 @@ impl Files for NoFailFiles {
 }
 
 /// A sink that drops its bytes, and of which no call fails.
-#[derive(Clone, Copy, Debug, PartialEq, Eq)]
+#[derive(Clone, Copy)]
 pub struct NoFailSink;
 
 impl Sink for NoFailSink {
