@@ -3,7 +3,7 @@ ghost use Rattle.std.specs.Prelude.{◌≡◌, ◌≢◌, IfOk, IsErrOf, map, co
 ghost use Rattle.clap.specs.Walk.{rule_of};
 ghost use Rattle.clap.specs.Words.{app_of, found_of, kind_of, rows_of};
 ghost use Rattle.bg_cli.specs.declared.line.LineError.TheVariants.{Memory};
-ghost use Rattle.bg_cli.specs.Cli.{cli, budget, texts_of, IsTaken, files_in, nodes_in, most_rows_in, files_of, nodes_of, most_rows_of, rows_for};
+ghost use Rattle.bg_cli.specs.Cli.{cli, budget, files, texts_of, IsTaken, files_in, nodes_in, most_rows_in, files_of, nodes_of, most_rows_of, rows_for};
 
 use clap::error::ErrorKind;
 use clap::{Arg, ArgAction, ArgMatches, Command, Error, value_parser};
@@ -25,7 +25,7 @@ pub struct Line<'a> {
 }
 
 /// Why nothing is asked.
-#[derive(Debug, Drop)]
+#[derive(Drop)]
 pub enum LineError {
     /// The words aren't taken.
     Usage,
@@ -45,20 +45,25 @@ fn budget<'a>(alloc: Global, name: &'a str) -> Arg<'a>
         .default_value("20000")
 }
 
+/// The files, of which there is one at least.
+fn files<'a>(alloc: Global) -> Arg<'a>
+    ensures rule { rule_of result ≡ files }
+    ensures own { result.global ≡ false }
+{
+    Arg::new(alloc, "FILE")
+        .required(true)
+        .num_args(1..)
+        .action(ArgAction::Append)
+}
+
 /// The command `bg verify [--nodes N] [--rows N] FILE..`.
 pub fn cli<'a>(alloc: Global) -> Result<Command<'a>, AllocError>
     ensures { IfOk result (λ c. app_of c ≡ cli) }
 {
-    let nodes = budget(alloc, "nodes");
-    let rows = budget(alloc, "rows");
-    let files = Arg::new(alloc, "FILE")
-        .required(true)
-        .num_args(1..)
-        .action(ArgAction::Append);
     let verify = Command::new(alloc, "verify")
-        .arg(nodes)?
-        .arg(rows)?
-        .arg(files)?;
+        .arg(budget(alloc, "nodes"))?
+        .arg(budget(alloc, "rows"))?
+        .arg(files(alloc))?;
     Command::new(alloc, "bg")
         .subcommand_required(true)
         .subcommand(verify)
