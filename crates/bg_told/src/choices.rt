@@ -29,8 +29,7 @@ fn put_choice(out: &mut Vec<u8>, choice: Choice) -> Result<(), AllocError>
 {
     out.extend_from_slice(b"    choice ")?;
     put_chosen(out, choice)?;
-    out.push(b'\n')?;
-    Ok(())
+    out.extend_from_slice(b"\n")
 }
 
 /// The choices, in order.

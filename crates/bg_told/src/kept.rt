@@ -23,8 +23,8 @@ fn put_operator(out: &mut Vec<u8>, op: Op) -> Result<(), AllocError>
 }
 
 /// An operation, then its operands.
-fn put_operation(out: &mut Vec<u8>, operation: &OutOfRange) -> Result<(), AllocError>
-    ensures { OnOk result (out.new.items ≡ out.old.items ++ operation_text operation.now) }
+fn put_operation(out: &mut Vec<u8>, operation: OutOfRange) -> Result<(), AllocError>
+    ensures { OnOk result (out.new.items ≡ out.old.items ++ operation_text operation) }
 {
     put_operator(out, operation.op)?;
     out.push(b' ')?;
@@ -33,12 +33,13 @@ fn put_operation(out: &mut Vec<u8>, operation: &OutOfRange) -> Result<(), AllocE
     put_integer(out, operation.b)
 }
 
-fn put_beyond(out: &mut Vec<u8>, beyond: &Beyond) -> Result<(), AllocError>
-    ensures { OnOk result (out.new.items ≡ out.old.items ++ operation_text (operation_of beyond.now)) }
+/// The operation at which a search ends.
+fn operation_of(beyond: &Beyond) -> OutOfRange
+    ensures { result ≡ operation_of beyond.now }
 {
     match beyond {
-        Beyond::Elimination(_, further) => put_operation(out, &further.operation),
-        Beyond::Value(_, _, far) => put_operation(out, &far.operation),
+        Beyond::Elimination(_, further) => further.operation,
+        Beyond::Value(_, _, far) => far.operation,
     }
 }
 
@@ -47,8 +48,7 @@ fn put_nodes(out: &mut Vec<u8>, budget: u32) -> Result<(), AllocError>
 {
     out.extend_from_slice(b" nodes\n    kept ")?;
     put_number(out, budget as usize)?;
-    out.push(b'\n')?;
-    Ok(())
+    out.extend_from_slice(b"\n")
 }
 
 /// How many rows are kept.
@@ -68,22 +68,12 @@ fn put_rows(out: &mut Vec<u8>, order: &Order) -> Result<(), AllocError>
 }
 
 /// The word for an operation that leaves 128 bits, and in the next line the operation.
-fn put_outside(out: &mut Vec<u8>, operation: &OutOfRange) -> Result<(), AllocError>
-    ensures { OnOk result (out.new.items ≡ out.old.items ++ cause_text (Range operation.now)) }
+fn put_outside(out: &mut Vec<u8>, operation: OutOfRange) -> Result<(), AllocError>
+    ensures { OnOk result (out.new.items ≡ out.old.items ++ cause_text (Range operation)) }
 {
     out.extend_from_slice(b" range\n    kept ")?;
     put_operation(out, operation)?;
-    out.push(b'\n')?;
-    Ok(())
-}
-
-fn put_range(out: &mut Vec<u8>, beyond: &Beyond) -> Result<(), AllocError>
-    ensures { OnOk result (out.new.items ≡ out.old.items ++ cause_text (Range (operation_of beyond.now))) }
-{
-    out.extend_from_slice(b" range\n    kept ")?;
-    put_beyond(out, beyond)?;
-    out.push(b'\n')?;
-    Ok(())
+    out.extend_from_slice(b"\n")
 }
 
 /// Where the search ends.
@@ -93,7 +83,7 @@ fn put_why(out: &mut Vec<u8>, why: &Why) -> Result<(), AllocError>
     match why {
         Why::Nodes(_, budget) => put_nodes(out, *budget),
         Why::Rows(_, order) => put_rows(out, order),
-        Why::Range(_, beyond) => put_range(out, beyond),
+        Why::Range(_, beyond) => put_outside(out, operation_of(beyond)),
     }
 }
 
@@ -103,7 +93,7 @@ pub fn put_cause(out: &mut Vec<u8>, cause: &Cause) -> Result<(), AllocError>
 {
     match cause {
         Cause::Search(why) => put_why(out, why),
-        Cause::Form(operation) => put_outside(out, operation),
-        Cause::Replay(_, operation) => put_outside(out, operation),
+        Cause::Form(operation) => put_outside(out, *operation),
+        Cause::Replay(_, operation) => put_outside(out, *operation),
     }
 }

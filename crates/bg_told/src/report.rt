@@ -27,8 +27,7 @@ fn put_head(
     put_position(out, implementation.pos)?;
     out.push(b' ')?;
     put_word(out, word)?;
-    out.push(b'\n')?;
-    Ok(())
+    out.extend_from_slice(b"\n")
 }
 
 /// An implementation, and its ordinary places that aren't proved.

@@ -65,8 +65,7 @@ fn put_value(out: &mut Vec<u8>, variable: &Declared, value: Scalar) -> Result<()
     out.extend_from_slice(&variable.name.text)?;
     out.extend_from_slice(b" = ")?;
     put_scalar(out, value)?;
-    out.push(b'\n')?;
-    Ok(())
+    out.extend_from_slice(b"\n")
 }
 
 /// The entry values of these variables.
@@ -117,8 +116,7 @@ fn put_frame(
         &implementation.results,
         &implementation.locals,
         values,
-    )?;
-    Ok(())
+    )
 }
 
 /// The entry values of globals, parameters, results and locals.

@@ -11,7 +11,7 @@ use bg_check::{Judged, Verdict};
 use bg_places::Place;
 
 /// What a report says of an implementation.
-#[derive(Clone, Copy, PartialEq, Eq, Debug)]
+#[derive(Clone, Copy, PartialEq, Eq)]
 pub enum Word {
     Verified,
     Refuted,
