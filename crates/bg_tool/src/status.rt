@@ -3,7 +3,7 @@ ghost use Rattle.std.specs.Prelude.{◌≡◌};
 ghost use Rattle.bg_tool.specs.Statuses.{number_of};
 
 /// How a run ends; the number of a variant, from 0, is the status of the process.
-#[derive(Clone, Copy, PartialEq, Eq, Debug)]
+#[derive(Clone, Copy, PartialEq, Eq)]
 pub enum Status {
     /// Every implementation is verified.
     Verified,
