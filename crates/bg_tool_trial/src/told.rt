@@ -1,16 +1,15 @@
 //! The reports of programs and outcomes made by hand.
 use bg_ast::resolved::{Declared, Implementation, Resolved, WrittenType};
 use bg_base::{CandId, Op, OutOfRange, Pos};
-use bg_cert::Node;
 use bg_check::{Cause, Judged, Verdict};
 use bg_elim::{Further, Order, Reason};
 use bg_model::Counterexample;
 use bg_places::{Place, Spot};
-use bg_point::{Far, Gap};
+use bg_point::Far;
 use bg_scalar::{Choice, Scalar};
 use bg_text::Name;
 use bg_told::{Word, result_text, word_of};
-use bg_tree::{Beyond, Kept, Part, Why};
+use bg_tree::{Beyond, Why};
 use std::alloc::{AllocError, Global};
 use std::test::Fail;
 
@@ -28,28 +27,17 @@ type Case<'a> = (
 type Told<'a> = (Spot, Option<u32>, (u32, u32), Option<(u32, u32)>, Known<'a>);
 
 /// What is known of a place: of a refuted one the values of globals and frame, and the choices; of
-/// an unknown one a tree, the reasons of rows, an operation of the search and whether it makes a
-/// value, or one of a linear form, or of a replay.
+/// an unknown one a budget of nodes, the reasons of rows, an operation of the search and whether it
+/// makes a value, or one of a linear form, or of a replay.
 #[derive(Clone, Copy)]
 enum Known<'a> {
     Proved,
     Refuted(&'a [Scalar], &'a [Scalar], &'a [Choice]),
-    Unknown(&'a [Kind], u32),
+    Unknown(u32),
     Filled(&'a [Reason]),
     Beyond(OutOfRange, bool),
     Form(OutOfRange),
     Replay(OutOfRange),
-}
-
-/// What stands at a place of a partial tree.
-#[derive(Clone, Copy)]
-enum Kind {
-    Open,
-    Split,
-    Bound,
-    Clause,
-    Unit,
-    Rows,
 }
 
 fn at(place: (u32, u32)) -> Pos {
@@ -83,39 +71,6 @@ fn order(alloc: Global, reasons: &[Reason]) -> Result<Order, AllocError> {
     })
 }
 
-/// A bound node; only that it is one is told.
-fn kept(alloc: Global) -> Result<Kept, AllocError> {
-    Ok(Kept {
-        order: order(alloc, &[])?,
-        spots: Vec::new(alloc),
-        gap: Gap {
-            variable: 0,
-            below: -1,
-            low: 0,
-            up: 1,
-        },
-    })
-}
-
-fn part(alloc: Global, kind: Kind) -> Result<Part, AllocError> {
-    match kind {
-        Kind::Open => Ok(Part::Open),
-        Kind::Split => Ok(Part::Plain(Node::Split(3))),
-        Kind::Bound => Ok(Part::Bound(kept(alloc)?)),
-        Kind::Clause => Ok(Part::Plain(Node::Clause(0))),
-        Kind::Unit => Ok(Part::Plain(Node::Unit(0))),
-        Kind::Rows => Ok(Part::Plain(Node::Rows(Vec::new(alloc)))),
-    }
-}
-
-fn parts(alloc: Global, kinds: &[Kind]) -> Result<Vec<Part>, AllocError> {
-    let mut all = Vec::new(alloc);
-    for kind in kinds {
-        all.push(part(alloc, *kind)?)?;
-    }
-    Ok(all)
-}
-
 /// An operation of an elimination, or of a value.
 fn beyond(alloc: Global, operation: OutOfRange, is_value: bool) -> Result<Beyond, AllocError> {
     let order = order(alloc, &[])?;
@@ -145,10 +100,10 @@ fn verdict(alloc: Global, known: Known) -> Result<Verdict, AllocError> {
             frame: frame.to_vec(alloc)?,
             choices: choices.to_vec(alloc)?,
         })),
-        Known::Unknown(kinds, budget) => {
-            let all = parts(alloc, kinds)?;
-            Ok(Verdict::Unknown(Cause::Search(Why::Nodes(all, budget))))
-        }
+        Known::Unknown(budget) => Ok(Verdict::Unknown(Cause::Search(Why::Nodes(
+            Vec::new(alloc),
+            budget,
+        )))),
         Known::Filled(reasons) => {
             let order = order(alloc, reasons)?;
             Ok(Verdict::Unknown(Cause::Search(Why::Rows(Vec::new(alloc), order))))
@@ -323,13 +278,7 @@ const SPENT: Case<'static> = (
     &["a", "b"],
     &[],
     &[],
-    &[(
-        Spot::Entry(1),
-        None,
-        (3, 3),
-        None,
-        Known::Unknown(&[Kind::Split, Kind::Open, Kind::Open], 1),
-    )],
+    &[(Spot::Entry(1), None, (3, 3), None, Known::Unknown(1))],
 );
 
 const GUARDED: Case<'static> = (
@@ -346,13 +295,7 @@ const GUARDED: Case<'static> = (
             None,
             Known::Refuted(&[T, T], &[], &[]),
         ),
-        (
-            Spot::Turn(1),
-            Some(1),
-            (2, 17),
-            None,
-            Known::Unknown(&[Kind::Open], 0),
-        ),
+        (Spot::Turn(1), Some(1), (2, 17), None, Known::Unknown(0)),
     ],
 );
 
@@ -398,26 +341,9 @@ const MIXED: Case<'static> = (
             None,
             (1, 40),
             Some((6, 7)),
-            Known::Unknown(
-                &[
-                    Kind::Split,
-                    Kind::Bound,
-                    Kind::Clause,
-                    Kind::Open,
-                    Kind::Split,
-                    Kind::Unit,
-                    Kind::Rows,
-                ],
-                3,
-            ),
+            Known::Unknown(3),
         ),
-        (
-            Spot::Return(0, 3),
-            None,
-            (1, 60),
-            None,
-            Known::Unknown(&[Kind::Open], 0),
-        ),
+        (Spot::Return(0, 3), None, (1, 60), None, Known::Unknown(0)),
     ],
 );
 

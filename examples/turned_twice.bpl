@@ -1,0 +1,8 @@
+var g: bool;
+procedure P()
+  modifies g;
+  ensures g == old(g);
+{
+  g := !g;
+  g := !g;
+}
