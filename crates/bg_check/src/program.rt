@@ -66,12 +66,12 @@ fn judge_places<'q>(
 }
 
 /// What is known of each place of the implementation with this number.
-fn judge_implementation(
+fn judge_implementation<'q>(
     alloc: Global,
-    program: &Resolved,
-    callees: &[Vec<Variable>],
+    program: &'q Resolved,
+    callees: &'q [Vec<Variable>],
     number: usize,
-    set: &[bool],
+    set: &'q [bool],
     budget: Budget,
 ) -> Result<Vec<Judged>, AllocError>
     requires typed { IsTyped (meaning_of (program_of program.now)) }
