@@ -1,6 +1,6 @@
 //! Kinds under operators.
 ghost use Rattle.std.specs.Prelude.{◌≡◌, Some};
-ghost use Rattle.bg_linear.specs.Sorts.{kind_at, is_truth, is_number, is_constant, number_only, truth_if, both_truths, related_kind, equal_kind, sum_kind, product_kind, sort_of};
+ghost use Rattle.bg_linear.specs.Sorts.{kind_at, is_truth, is_number, is_constant, number_only, truth_if, both_truths, related_kind, equal_kind, sum_kind, product_kind};
 ghost use Rattle.bg_linear.specs.ChainKinds.{sign_kind, prefix_kind, all_so_far};
 
 use crate::scalar::{Kind, Sort};
@@ -14,18 +14,6 @@ pub fn kind_at(sort: Option<Sort>) -> Option<Kind>
         Some(Sort::Truth) => Some(Kind::Truth),
         Some(Sort::Number) => Some(Kind::Number),
         Some(Sort::Other) => None,
-        None => None,
-    }
-}
-
-/// The sort of what has this kind.
-pub fn sort_of(kind: Option<Kind>) -> Option<Sort>
-    ensures { result ≡ sort_of kind }
-{
-    match kind {
-        Some(Kind::Truth) => Some(Sort::Truth),
-        Some(Kind::Constant) => Some(Sort::Number),
-        Some(Kind::Number) => Some(Sort::Number),
         None => None,
     }
 }

@@ -1,5 +1,5 @@
 //! Linear forms of expressions over incarnations, exact or refused at the first operation that leaves the range, the rows of
-//! relations, and the sorts of expressions.
+//! relations, and the kinds of expressions.
 #![tactic(auto)]
 
 mod formed;
@@ -18,6 +18,6 @@ mod terms;
 
 pub use formed::{linear, linear_of_chain};
 pub use lin::Lin;
-pub use relate::{related, relation, relation_of_chain};
+pub use relate::relation_of_chain;
 pub use scalar::{Kind, Sort};
-pub use sorted::{kind, kind_of_chain, sort};
+pub use sorted::{kind, kind_of_chain};

@@ -76,7 +76,7 @@ fn both_ways(alloc: Global, f: &Lin, g: &Lin) -> Result<Vec<Linear>, Refused>
 /// For `<=` and `<` it is the row of left minus right, for `>=` and `>` that of right minus left, for the others both in this
 /// order. Where the difference has the constant k, the row's bound is 0 - k, or -1 - k where the relation is strict. Refused at
 /// the first operation that leaves the range, a denial's among them.
-pub fn related(alloc: Global, sign: InfixSign, f: &Lin, g: &Lin) -> Result<Vec<Linear>, Refused>
+fn related(alloc: Global, sign: InfixSign, f: &Lin, g: &Lin) -> Result<Vec<Linear>, Refused>
     ensures { Told (λ v. map view_linear v.items) result (related (op_of sign) (lin_of f.now) (lin_of g.now)) }
 {
     match sign {
@@ -97,22 +97,9 @@ pub fn related(alloc: Global, sign: InfixSign, f: &Lin, g: &Lin) -> Result<Vec<L
     }
 }
 
-/// The rows of a relation between two expressions over incarnations: the left form is made, then the right one, then their rows
-/// (`related`). Refused at the first operation that leaves the range.
-pub fn relation(
-    alloc: Global,
-    sign: InfixSign,
-    left: &Expr,
-    right: &Expr,
-) -> Result<Vec<Linear>, Refused>
-    ensures { Told (λ v. map view_linear v.items) result (relation (op_of sign) (m.ex_of (ex_of left.now)) (m.ex_of (ex_of right.now))) }
-{
-    let f = linear(alloc, left)?;
-    let g = linear(alloc, right)?;
-    related(alloc, sign, &f, &g)
-}
-
-/// The rows of a relation of which the left side is a chain of these links behind an expression, as `relation` has them.
+/// The rows of a relation between two expressions over incarnations, of which the left one is a chain of these links behind an
+/// expression: the left form is made, then the right one, then their rows: one for an order, two for `==`, and the same two for
+/// `!=`, which denies them. Refused at the first operation that leaves the range.
 pub fn relation_of_chain(
     alloc: Global,
     sign: InfixSign,

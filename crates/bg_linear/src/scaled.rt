@@ -46,7 +46,6 @@ fn push_changed(made: &mut Vec<Entry>, how: Change, t: &Entry) -> Result<(), Ref
 }
 
 /// Each coefficient changed.
-#[tactic(auto, using(crate::proofs::Steps::each_more, crate::proofs::Steps::each_end))]
 fn each(alloc: Global, how: Change, entries: &[Entry]) -> Result<Vec<Entry>, Refused>
     ensures { Told (λ v. v.items) result (each (changing how) entries.now) }
 {

@@ -2,11 +2,11 @@
 ghost use Rattle.std.specs.Prelude.{◌≡◌, map, slice_get};
 ghost use Rattle.bg_ast.specs.Meaning as m;
 ghost use Rattle.bg_ast.specs.Views.{ex_of, links_of, link_view};
-ghost use Rattle.bg_linear.specs.Sorts.{kind_at, kind_ex, sort_ex};
+ghost use Rattle.bg_linear.specs.Sorts.{kind_at, kind_ex};
 ghost use Rattle.bg_linear.specs.ChainKinds.{chain_kinds, folded, next_waiting, next_kind, signed_kind};
 
 use crate::formed::is_implies;
-use crate::kinds::{all_so_far, is_truth, kind_at, prefix_kind, sign_kind, sort_of, truth_if};
+use crate::kinds::{all_so_far, is_truth, kind_at, prefix_kind, sign_kind, truth_if};
 use crate::scalar::{Kind, Sort};
 use bg_ast::resolved::{Expr, Link, Variable};
 use bg_text::{InfixSign, TreePrefix};
@@ -120,12 +120,4 @@ pub fn kind_of_chain(sorts: &[Sort], first: &Expr, links: &[Link]) -> Option<Kin
 {
     let made = kind(sorts, first);
     chain_kind(sorts, links, made)
-}
-
-/// The sort of an expression over incarnations of these sorts: a truth value or a number. None where it isn't well sorted, has
-/// another sort, or names an incarnation that isn't there. One side of a product is made of numbers alone.
-pub fn sort(sorts: &[Sort], e: &Expr) -> Option<Sort>
-    ensures { result ≡ sort_ex sorts.now (m.ex_of (ex_of e.now)) }
-{
-    sort_of(kind(sorts, e))
 }
