@@ -18,7 +18,7 @@ hold_past xs [] v (suc i) h = hold_none xs v
 hold_past xs (n ∷ ns) v zero h = absurd (omega (arith, h))
 hold_past xs (n ∷ ns) v (suc i) h = hold_past xs ns v i (omega (arith, h))
 
-pub values_none : (ts : List r.Target) → m.values_of ts r.NoMore ≡ s.NoMore
+values_none : (ts : List r.Target) → m.values_of ts r.NoMore ≡ s.NoMore
 values_none [] = refl
 values_none (t ∷ ts) = refl
 
@@ -28,5 +28,3 @@ values_past ts [] zero h = values_none ts
 values_past ts [] (suc i) h = values_none ts
 values_past ts (e ∷ es) zero h = absurd (omega (arith, h))
 values_past ts (e ∷ es) (suc i) h = values_past ts es i (omega (arith, h))
-
-pub ruleset value_forms = (values_past, values_none)

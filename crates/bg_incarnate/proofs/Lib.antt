@@ -1,5 +1,6 @@
 pub mod Holds
 pub mod Passing
+pub mod Worths
 pub mod Calls
 pub mod Joins
 pub mod Meeting

@@ -9,13 +9,21 @@ ghost use Rattle.bg_incarnate.specs.Views.{passed_of, onto, plan_in};
 
 use crate::blocks::PassiveCmd;
 use crate::clauses::{claims, supposes};
-use crate::held::{Held, hold_new, hold_taken, seen, take_next};
+use crate::held::{Held, fresh, hold_new, hold_taken, seen};
 use crate::worth::arguments;
 use bg_ast::resolved::{Call, Declared, Procedure, Variable};
 use bg_blocks::Kept;
 use bg_places::Group;
 use bg_renamed::Env;
 use std::alloc::{AllocError, Global};
+
+/// A call, its procedure, and the globals that the procedure modifies.
+#[derive(Clone, Copy)]
+pub struct Plan<'p> {
+    pub call: &'p Call,
+    pub procedure: &'p Procedure,
+    pub modifies: &'p [Variable],
+}
 
 /// A new incarnation for each result, which stands in the callee's frame too.
 fn results(
@@ -28,27 +36,26 @@ fn results(
     ensures frame { OnOk result (frame.new.items ≡ frame.old.items ++ count_from next.old (length declared.now)) }
     ensures more { OnOk result (next.new ≡ next.old + length declared.now) }
 {
-    let mut made = Vec::new(alloc);
-    for d in declared {
-        let j = take_next(next)?;
-        made.push(j)?;
-        frame.push(j)?;
-    }
+    let made = fresh(alloc, next, declared.len())?;
+    frame.extend_from_slice(&made)?;
     Ok(made)
 }
 
-/// A call of the procedure, which modifies these globals.
+/// A call.
 pub fn call(
     alloc: Global,
     out: &mut Vec<PassiveCmd>,
     held: &mut Held<'_>,
     next: &mut u32,
-    k: &Call,
-    q: &Procedure,
-    modifies: &[Variable],
+    plan: Plan<'_>,
 ) -> Result<(), AllocError>
-    ensures { OnOk result ((p : Program) → passed_of out.new.items held.new next.new ≡ onto (pass (Perform (plan_in p (call_of k.now) (proc_of q.now) modifies.now))) (passed_of out.old.items held.old next.old)) }
+    ensures { OnOk result ((p : Program) → passed_of out.new.items held.new next.new ≡ onto (pass (Perform (plan_in p (call_of plan.entry.call.now) (proc_of plan.entry.procedure.now) plan.entry.modifies.now))) (passed_of out.old.items held.old next.old)) }
 {
+    let Plan {
+        call: k,
+        procedure: q,
+        modifies,
+    } = plan;
     let mut frame = arguments(alloc, out, next, &k.args, &seen(held))?;
     let was = held.globals.to_vec(alloc)?;
     let needs = Env {

@@ -9,8 +9,8 @@ ghost use Rattle.bg_passive.specs.Incarnations.{pass, pass_all};
 ghost use Rattle.bg_incarnate.specs.Views.{passed_of, onto};
 
 use crate::blocks::PassiveCmd;
-use crate::call::call;
-use crate::clauses::{claims, supposes};
+use crate::call::{Plan, call};
+use crate::clauses::{claims, suppose, supposes};
 use crate::held::{Held, hold_new, hold_targets, seen};
 use crate::worth::values;
 use bg_ast::resolved::{Expr, Target};
@@ -50,16 +50,21 @@ fn command(
         Cmd::Suppose(which, ks) => supposes(alloc, out, *which, ks, &seen(held)),
         Cmd::Assume(e) => {
             let says = renamed(alloc, e, &seen(held))?;
-            out.push(PassiveCmd::Supposes(None, says))?;
-            Ok(())
+            suppose(out, None, says)
         }
         Cmd::Forget(xs) => hold_new(held, next, xs),
         Cmd::Put(targets, es) => assign(alloc, out, held, next, targets, es),
-        Cmd::Perform(k, q, xs) => call(alloc, out, held, next, k, q, xs),
+        Cmd::Perform(k, q, xs) => {
+            let plan = Plan {
+                call: k,
+                procedure: q,
+                modifies: xs,
+            };
+            call(alloc, out, held, next, plan)
+        }
         Cmd::Finish => {
             let never = Expr::Truth(Pos { line: 0, column: 0 }, false);
-            out.push(PassiveCmd::Supposes(None, never))?;
-            Ok(())
+            suppose(out, None, never)
         }
     }
 }

@@ -10,11 +10,13 @@ ghost use Rattle.bg_incarnate.specs.Arrived.{arrival_of};
 
 use crate::arrived::Arrived;
 use crate::blocks::{Edge, PassiveCmd};
+use crate::clauses::suppose;
 use crate::held::{Held, seen};
+use crate::worth::suppose_worth;
 use bg_ast::resolved::{Expr, Guard, Variable};
 use bg_base::Pos;
 use bg_blocks::Exit;
-use bg_renamed::{equal, negated, renamed};
+use bg_renamed::{negated, renamed};
 use std::alloc::{AllocError, Global};
 use std::collections::VecDeque;
 
@@ -35,8 +37,7 @@ fn join(
         let j = there[k];
         if *i != j {
             let earlier = Expr::Read(Pos { line: 0, column: 0 }, Variable::Local(*i));
-            let says = equal(alloc, j, earlier)?;
-            out.push(PassiveCmd::Supposes(None, says))?;
+            suppose_worth(alloc, out, j, earlier)?;
         }
     }
     Ok(())
@@ -148,10 +149,10 @@ fn either(
         Guard::Star => two(alloc, held, later, (yes, no), on, off),
         Guard::Test(e) => {
             let holds = renamed(alloc, e, &seen(held))?;
-            yes.push(PassiveCmd::Supposes(None, holds))?;
+            suppose(&mut yes, None, holds)?;
             let says = renamed(alloc, e, &seen(held))?;
             let fails = negated(alloc, says)?;
-            no.push(PassiveCmd::Supposes(None, fails))?;
+            suppose(&mut no, None, fails)?;
             two(alloc, held, later, (yes, no), on, off)
         }
     }

@@ -1,7 +1,8 @@
 //! The incarnations of variables.
-ghost use Rattle.std.specs.Prelude.{◌≡◌, suc, map, slice_set, IfOk, OnOk};
+ghost use Rattle.std.specs.Prelude.{◌≡◌, suc, ◌+◌, map, slice_set, IfOk, OnOk};
 ghost use Rattle.bg_ast.specs.Meaning.{variable_of};
 ghost use Rattle.bg_ast.specs.Views.{var_of, placed_of, target_of};
+ghost use Rattle.bg_sense.specs.Variables.{count_from};
 ghost use Rattle.bg_blocks.specs.Views.{target_variable};
 ghost use Rattle.bg_passive.specs.Incarnations.{hold, hold_all, hold_next, after_vars};
 ghost use Rattle.bg_renamed.specs.Views.{env_of};
@@ -9,7 +10,7 @@ ghost use Rattle.bg_incarnate.specs.Views.{held_env};
 
 use bg_ast::resolved::{Placed, Target, Variable};
 use bg_renamed::Env;
-use std::alloc::AllocError;
+use std::alloc::{AllocError, Global};
 
 /// The incarnation that each variable has now, and the one that each global had at entry.
 #[derive(Drop)]
@@ -43,6 +44,20 @@ pub fn take_next(next: &mut u32) -> Result<u32, AllocError>
         }
         None => Err(AllocError),
     }
+}
+
+/// So many new incarnations.
+#[tactic(auto, using(crate::proofs::Walks::count_step))]
+pub fn fresh(alloc: Global, next: &mut u32, n: usize) -> Result<Vec<u32>, AllocError>
+    ensures made { IfOk result (λ made. made.items ≡ count_from next.old n) }
+    ensures more { OnOk result (next.new ≡ next.old + n) }
+{
+    let mut made = Vec::new(alloc);
+    for k in 0..n {
+        let j = take_next(next)?;
+        made.push(j)?;
+    }
+    Ok(made)
 }
 
 fn set(incarnations: &mut [u32], k: usize, j: u32)

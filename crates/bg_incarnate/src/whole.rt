@@ -3,7 +3,6 @@ ghost use Rattle.std.specs.Prelude.{◌≡◌, ◌+◌, ◌++◌, List, [], map,
 ghost use Rattle.bg_ast.specs.Resolved as r;
 ghost use Rattle.bg_ast.specs.Meaning.{meaning_of};
 ghost use Rattle.bg_ast.specs.Views.{program_of};
-ghost use Rattle.bg_sense.specs.Variables.{count_from};
 ghost use Rattle.bg_blocks.specs.Views.{block_of};
 ghost use Rattle.bg_blocks.specs.EmittedViews.{frame_of};
 ghost use Rattle.bg_passive.specs.Incarnations.{passives, entry_env, incarnations};
@@ -15,26 +14,12 @@ ghost use Rattle.bg_incarnate.specs.Walked.{walked_of, finished, arrived_with, n
 use crate::arrived::Arrived;
 use crate::blocks::{Incarnations, Passive, PassiveBlock};
 use crate::edges::edges_of;
-use crate::held::{Held, take_next};
+use crate::held::{Held, fresh};
 use crate::walk::walk;
 use bg_ast::resolved::Resolved;
 use bg_blocks::Block;
 use std::alloc::{AllocError, Global};
 use std::collections::VecDeque;
-
-/// So many new incarnations.
-#[tactic(auto, using(crate::proofs::Walks::count_step))]
-fn fresh(alloc: Global, next: &mut u32, n: usize) -> Result<Vec<u32>, AllocError>
-    ensures made { IfOk result (λ made. made.items ≡ count_from next.old n) }
-    ensures more { OnOk result (next.new ≡ next.old + n) }
-{
-    let mut made = Vec::new(alloc);
-    for k in 0..n {
-        let j = take_next(next)?;
-        made.push(j)?;
-    }
-    Ok(made)
-}
 
 /// The blocks that were walked, with their ways on, and the incarnations at their arrivals.
 fn finish(

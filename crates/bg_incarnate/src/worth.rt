@@ -7,10 +7,24 @@ ghost use Rattle.bg_renamed.specs.Views.{env_of};
 ghost use Rattle.bg_incarnate.specs.Views.{cmds_of};
 
 use crate::blocks::PassiveCmd;
+use crate::clauses::suppose;
 use crate::held::take_next;
 use bg_ast::resolved::{Expr, Target};
 use bg_renamed::{Env, assigned, equal, renamed};
 use std::alloc::{AllocError, Global};
+
+/// Adds that this incarnation is worth this.
+pub fn suppose_worth(
+    alloc: Global,
+    out: &mut Vec<PassiveCmd>,
+    j: u32,
+    value: Expr,
+) -> Result<(), AllocError>
+    ensures { OnOk result (cmds_of out.new.items ≡ cmds_of out.old.items ++ is_worth j (m.ex_of (ex_of value)) ∷ []) }
+{
+    let says = equal(alloc, j, value)?;
+    suppose(out, None, says)
+}
 
 /// The next incarnation is worth this.
 fn worth(
@@ -25,8 +39,7 @@ fn worth(
     ensures more { OnOk result (next.new ≡ suc next.old) }
 {
     let j = take_next(next)?;
-    let says = equal(alloc, j, value)?;
-    out.push(PassiveCmd::Supposes(None, says))?;
+    suppose_worth(alloc, out, j, value)?;
     made.push(j)?;
     Ok(())
 }
@@ -52,7 +65,6 @@ pub fn arguments(
 }
 
 /// A new incarnation for each of the targets, which are assigned these values.
-#[tactic(auto, using(crate::proofs::Holds::value_forms))]
 pub fn values(
     alloc: Global,
     out: &mut Vec<PassiveCmd>,

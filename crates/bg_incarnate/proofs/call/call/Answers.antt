@@ -10,9 +10,9 @@ use Rattle.bg_incarnate.proofs.call.call.Goals as goal
 
 pub returns : goal.returns
 returns c =
-    let k = c.args.k.now in
-    let q = c.args.q.now in
-    λ p. called_steps (m.exs_of (exs_in k.args.items)) (demands (AtCall k.site) (clauses_in q.requires_.items)) (map var_of c.args.modifies.now) (sayings each_one (clauses_in q.ensures_.items)) (map m.variable_of (map placed_of k.takes.items)) (length q.results.items)
+    let k = c.args.plan.call.now in
+    let q = c.args.plan.procedure.now in
+    λ p. called_steps (m.exs_of (exs_in k.args.items)) (demands (AtCall k.site) (clauses_in q.requires_.items)) (map var_of c.args.plan.modifies.now) (sayings each_one (clauses_in q.ensures_.items)) (map m.variable_of (map placed_of k.takes.items)) (length q.results.items)
     (cmds_of c.args.out.now.items) (cmds_of c.arguments.new.out.items) (cmds_of c.claims.new.out.items) (cmds_of c.supposes.new.out.items)
     (held_env c.args.held.now) (held_env c.hold_new.new.held) (held_env c.hold_taken.new.held)
     c.args.next.now c.arguments.new.next c.hold_new.new.next c.results.new.next
@@ -29,4 +29,4 @@ returns c =
     (c.in_ok-made.ensures.more ∙ rw c.deref-7.ensures.value refl)
     (c.in_ok-supposes.ensures ∙ rw (c.deref-8.ensures.value, c.deref-9.ensures.value, c.deref-10.ensures.value, c.deref-11.ensures.value) refl)
     (c.hold_taken.ensures ∙ rw (c.deref-12.ensures.value, c.deref-13.ensures.value) refl)
-    ∙ onto_plan p k q c.args.modifies.now _
+    ∙ onto_plan p k q c.args.plan.modifies.now _

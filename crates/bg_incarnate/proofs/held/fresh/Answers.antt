@@ -1,6 +1,6 @@
 use Rattle.std.proofs.Common.{arith}
 use Rattle.bg_incarnate.proofs.Turns.{fresh_step}
-use Rattle.bg_incarnate.proofs.whole.fresh.Goals as goal
+use Rattle.bg_incarnate.proofs.held.fresh.Goals as goal
 
 pub loop-k-preserved : goal.loop-k-preserved
 loop-k-preserved c = (

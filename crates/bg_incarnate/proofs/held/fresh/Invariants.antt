@@ -1,6 +1,6 @@
 use Rattle.std.proofs.Common.{◌≡◌, ◌+◌, ◌-◌, ◌++◌}
 use Rattle.bg_sense.specs.Variables.{count_from}
-use Rattle.bg_incarnate.proofs.whole.fresh.Given as goal
+use Rattle.bg_incarnate.proofs.held.fresh.Given as goal
 
 abbrev pub invariant-loop-k : goal.invariant-loop-k
 invariant-loop-k l =
