@@ -1,4 +1,3 @@
 pub mod Below
 mod Onward
 mod Alike
-mod Truths

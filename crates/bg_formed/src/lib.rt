@@ -2,13 +2,10 @@
 #![tactic(auto)]
 
 mod blocks;
-mod fitting;
 pub mod laws;
-mod make;
 mod says;
 mod used;
 
 pub use blocks::{FormBlock, FormCmd, FormEdge, Says};
-pub use make::formed;
 pub use says::said;
 pub use used::{Use, is_spot, refused, use_cmd, use_edges, use_later, uses};
