@@ -1,5 +1,6 @@
 -- Chains and rows of prefix signs, as the code goes through them.
-use Rattle.std.proofs.Common.{◌≡◌, true, false, List, [], ◌∷◌, ◌++◌, refl, sym, ap, ◌∙◌, map, Option, Some, None, Vec, Box, Global}
+use Rattle.std.proofs.Common.{◌≡◌, ◌<◌, ◌≤◌, ◌+◌, ℕ, suc, true, false, List, [], ◌∷◌, ◌++◌, refl, sym, ap, ◌∙◌, map, length, drop, drop-cons, add-one, get_or, Option, Some, None, Vec, Box, Global}
+use Rattle.std.proofs.lemmas.List.{drop_all}
 use Rattle.bg_base.specs.declared.pos.Pos.{Pos}
 use Rattle.bg_text.specs.declared.expr.InfixSign.{InfixSign}
 use Rattle.bg_text.specs.declared.expr.InfixSign.TheVariants as sign
@@ -18,7 +19,7 @@ use Rattle.bg_ast.specs.declared.resolved.Bracket.{Bracket}
 use Rattle.bg_ast.proofs.Lists.{ex_of-Chain, ex_of-Postfix}
 use Rattle.bg_scalar.specs.Worths.{Seen, and_then, not_on, minus_on, joined, worth}
 use Rattle.bg_scalar.specs.Signs.{prefixed, signed, behind}
-use Rattle.bg_scalar.specs.Along.{under, and_premise, along}
+use Rattle.bg_scalar.specs.Along.{under, and_premise, premise_after, operand_after, along}
 use Rattle.bg_scalar.specs.declared.scalar.Scalar.TheVariants.{Truth, Number}
 use Rattle.bg_scalar.specs.declared.scalar.Worth.{Worth}
 use Rattle.bg_scalar.specs.declared.scalar.Worth.TheVariants.{Is, Leaves, NoScalar}
@@ -106,3 +107,13 @@ postfix_is w e (b ∷ bs) = let v = bracket_view b in parts_none w e v.0 v.1 v.2
 
 pub postfix_expr : (e : Box Expr Global) (bs : Vec Bracket Global) (w : Seen) → worth_of (expr.Postfix e bs) w ≡ behind bs.items (worth_of e.value w)
 postfix_expr e bs w = ap (λ x. worth (m.ex_of x) w) (ex_of-Postfix e bs) ∙ postfix_is w (m.ex_of (view.ex_of e.value)) bs.items
+
+-- one more link of a chain
+pub link_step : (ls : List Link) (i : ℕ) (l : Link) (w : Seen) (premise premise' : Option Worth) (a a' b whole : Worth) → i < length ls → l ≡ get_or ls i l → b ≡ worth_of l.operand w → premise' ≡ premise_after l.sign premise a → a' ≡ operand_after l.sign a b → along premise a (map link_view (drop i ls)) w ≡ whole → along premise' a' (map link_view (drop (i + 1) ls)) w ≡ whole
+link_step ls i l w premise premise' a a' b whole h at be pe ae known =
+    let d : drop i ls ≡ l ∷ drop (i + 1) ls = rw (add-one, drop-cons ls i l h) (ap (λ x. x ∷ drop (suc i) ls) (sym at)) in
+    rw (pe, ae, be) (rw d at known)
+
+-- no link is left
+pub link_end : (ls : List Link) (i : ℕ) (w : Seen) (premise : Option Worth) (a whole : Worth) → length ls ≤ i → along premise a (map link_view (drop i ls)) w ≡ whole → under premise a ≡ whole
+link_end ls i w premise a whole h known = rw (drop_all i ls h) at known

@@ -114,7 +114,6 @@ fn under(premise: Option<Worth>, a: Worth) -> Worth
 /// What an expression is worth where variables have these values, evaluated from left to right; but `a <== b` is `b ==> a`, where b
 /// comes first.
 #[cycle(worth)]
-#[tactic(auto, using(crate::proofs::Chains::prefix_expr))]
 pub fn worth(sight: Sight<'_>, e: &Expr) -> Worth
     ensures { result ≡ worth (m.ex_of (view.ex_of e.now)) (seen_of sight.entry) }
 {

@@ -12,7 +12,7 @@ use bg_base::OutOfRange;
 use std::alloc::{AllocError, Global};
 
 /// What a list of expressions is worth: scalars; or what comes first, an operation that leaves the range or what is no scalar.
-#[derive(Debug, Drop)]
+#[derive(Drop)]
 pub enum Scalars {
     Are(Vec<Scalar>),
     Leave(OutOfRange),
