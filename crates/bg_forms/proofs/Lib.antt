@@ -1,4 +1,3 @@
 pub mod Meaning
-pub mod Chains
 pub mod ChainForms
 mod Spines

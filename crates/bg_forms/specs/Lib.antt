@@ -1,7 +1,6 @@
 pub mod Forms
 pub mod Views
 pub mod Fitting
-pub mod Chains
 pub mod ChainForms
 pub mod Worth
 pub mod Spines

@@ -1,5 +1,5 @@
 -- Truth values of a list, by place, and values that are truth values.
-use Rattle.std.specs.Prelude.{ℕ, zero, suc, Bool, true, false, List, [], ◌∷◌, slice_get, unwrap_or}
+use Rattle.std.specs.Prelude.{ℕ, zero, suc, Bool, false, List, [], ◌∷◌, slice_get, unwrap_or}
 use Rattle.bg_ast.specs.Values.{Val, Truth}
 
 -- the truth value at a place; false past the end of the list
@@ -10,9 +10,3 @@ bools_at bs j = unwrap_or (slice_get bs j) false
 abbrev pub truth_values : (ℕ → Bool) → ℕ → List Val
 truth_values t zero = []
 truth_values t (suc n) = Truth (t zero) ∷ truth_values (λ j. t (suc j)) n
-
--- so many values, each a truth value
-abbrev pub are_truths : ℕ → List Val → Bool
-are_truths zero [] = true
-are_truths (suc n) (Truth b ∷ vs) = are_truths n vs
-are_truths n vs = false

@@ -2,14 +2,12 @@
 #![tactic(auto)]
 
 mod copies;
-mod fits;
 mod form;
 mod formed;
 pub mod laws;
 mod worth;
 
 pub use copies::copy;
-pub use fits::fits_ex;
 pub use form::{Form, Parts, any_of, both_of, denied, is_true, opposite, same_of};
 pub use formed::form_ex;
 pub use worth::is_worth;
