@@ -56,11 +56,7 @@ pub fn truths(sorts: &[Sort]) -> Result<u32, AllocError>
 fn copied(alloc: Global, sorts: &[Sort]) -> Result<Vec<Sort>, AllocError>
     ensures { IfOk result (λ made. made.items ≡ sorts.now) }
 {
-    let mut made = Vec::new(alloc);
-    for s in sorts {
-        made.push(*s)?;
-    }
-    Ok(made)
+    Ok(sorts.to_vec(alloc)?)
 }
 
 /// For each incarnation the number of truth incarnations before it.

@@ -61,9 +61,5 @@ pub fn relates(sign: InfixSign) -> bool
 pub fn copied(alloc: Global, signs: &[TreePrefix]) -> Result<Vec<TreePrefix>, AllocError>
     ensures { IfOk result (λ made. made.items ≡ signs.now) }
 {
-    let mut made = Vec::new(alloc);
-    for s in signs {
-        made.push(*s)?;
-    }
-    Ok(made)
+    Ok(signs.to_vec(alloc)?)
 }
