@@ -8,13 +8,9 @@ mod clause;
 #[cfg(test)]
 mod forms;
 #[cfg(test)]
-mod linear;
-#[cfg(test)]
 mod model;
 #[cfg(test)]
 mod replay;
-#[cfg(test)]
-mod scalar;
 #[cfg(test)]
 mod slice;
 #[cfg(test)]

@@ -1,9 +1,10 @@
 //! Counterexamples from truth values of atoms.
 use crate::text::{frame, program};
 use bg_ast::resolved::Resolved;
+use bg_atoms::atoms;
 use bg_blocks::{blocks, callees_of};
-use bg_formed::formed;
 use bg_incarnate::passive;
+use bg_linear::Sort;
 use bg_model::{Counterexample, Routine, Valuation, counterexample};
 use bg_places::Spot;
 use bg_scalar::{Choice, Scalar};
@@ -63,7 +64,9 @@ fn found(alloc: Global, p: &Resolved, case: &Case) -> Result<Option<Counterexamp
     let callees = callees_of(alloc, p)?;
     let blocks = blocks(alloc, p, &callees, 0)?;
     let passive = passive(alloc, p, frame(p), &blocks)?;
-    let forms = formed(alloc, passive.count, 0, &passive.blocks)?.ok_or("no forms")?;
+    let forms = atoms(alloc, &[Sort::Truth; 4], 0, &passive.blocks)?
+        .ok_or("no atoms")?
+        .blocks;
     let (id, truths, values, _) = *case;
     let (firsts, spot) = (&passive.firsts, Spot::Assert(id));
     let routine = Routine {

@@ -1,18 +1,14 @@
 //! Programs of texts whose names are right, typed or not, and what is made of them.
-use bg_ast::resolved::{Expr, Link, Resolved, Stmt, Variable};
+use bg_ast::resolved::{Expr, Link, Resolved, Variable};
 use bg_base::Pos;
 use bg_blocks::{blocks, callees_of};
 use bg_incarnate::{Passive, passive};
 use bg_lex::lex;
 use bg_parse::parse;
 use bg_resolve::resolve;
-use bg_rows::Entry;
 use bg_text::InfixSign;
 use std::alloc::{AllocError, Global};
 use std::test::Fail;
-
-/// Variables with their coefficients.
-pub type Entries = &'static [(u32, i128)];
 
 fn push(text: &mut Vec<u8>, piece: &[u8], count: u32) -> Result<(), AllocError> {
     for _ in 0..count {
@@ -46,14 +42,6 @@ fn resolved(alloc: Global, text: &[u8]) -> Option<Resolved> {
     resolve(alloc, &tree.decls).ok()
 }
 
-/// The expression that the first statement of the first body assumes.
-pub fn assumed(p: &Resolved) -> Option<&Expr> {
-    match p.implementations.first()?.body.first()? {
-        Stmt::Assume(e) => Some(e),
-        _ => None,
-    }
-}
-
 /// A chain of so many incarnations, with one sign between them.
 pub fn chain(alloc: Global, sign: InfixSign, many: u32) -> Result<Expr, AllocError> {
     let pos = Pos { line: 1, column: 1 };
@@ -83,12 +71,4 @@ pub fn passive_of(alloc: Global, p: &Resolved) -> Result<Passive, AllocError> {
     let callees = callees_of(alloc, p)?;
     let blocks = blocks(alloc, p, &callees, 0)?;
     passive(alloc, p, frame(p), &blocks)
-}
-
-pub fn are_entries(made: &[Entry], wanted: &[(u32, i128)]) -> bool {
-    made.len() == wanted.len()
-        && made
-            .iter()
-            .zip(wanted)
-            .all(|(t, u)| t.variable == u.0 && t.by == u.1)
 }
