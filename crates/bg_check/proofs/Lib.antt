@@ -2,6 +2,7 @@ pub mod LawTypes
 pub mod Formulas
 pub mod Failures
 pub mod Numbered
+pub mod Bare
 pub mod Safe
 pub mod Leaves
 pub mod Points

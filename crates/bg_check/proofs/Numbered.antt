@@ -1,11 +1,12 @@
 -- The places of an implementation have its number, and are all that do.
-use Rattle.std.proofs.Common.{◌≡◌, ℕ, suc, ◌+◌, Bool, true, false, if◌then◌else◌, List, [], ◌∷◌, ◌++◌, map, Option, Some, None, refl, sym, ap, ◌∙◌, subst, inl, inr, ⊎_elim, arith}
-use Rattle.std.specs.Prelude.{slice_get}
+use Rattle.std.proofs.Common.{◌≡◌, ℕ, suc, ◌+◌, Bool, true, false, cond, if◌then◌else◌, List, [], ◌∷◌, ◌++◌, map, Option, Some, None, refl, sym, ap, ◌∙◌, subst, inl, inr, ⊎_elim, arith}
+use Rattle.std.specs.Prelude.{slice_get, filter}
 use Rattle.std.proofs.lemmas.List.{map-append}
 use Rattle.bg_base.specs.declared.pos.Pos.{Pos}
 use Rattle.bg_ast.specs.Resolved as r
 use Rattle.bg_ast.specs.Execution.{Spot, AtAssert, AtEntry, AfterTurn, AtCall, AtReturn, Place}
 use Rattle.bg_sense.proofs.Members.{In, in_either}
+use Rattle.bg_sound.specs.Told.{is_ordinary}
 use Rattle.bg_places.specs.Placed.{Placed, place_in, placed_clause, placed_clauses, requires_of, ensures_of, placed_st, placed_sts, placed_arms, placed_impl, placed_from}
 
 -- each is one of the implementation with this number
@@ -55,6 +56,15 @@ mutual
 pub number_impl : (qs : List r.Proc) (m : ℕ) (i : r.Impl) → OfNumber m (placed_impl qs m i)
 number_impl qs m i =
     number_append m (placed_sts qs m i.body) _ (number_sts qs m i.body) (number_clauses m (AtReturn m) None (ensures_of (slice_get qs i.procedure)))
+
+-- so have the ordinary ones
+pub number_ordinary : (m : ℕ) (xs : List Placed) → OfNumber m xs → OfNumber m (filter is_ordinary xs)
+number_ordinary m [] h = tt
+number_ordinary m (x ∷ xs) h = by (is_ordinary x) (number_ordinary m xs h.1)
+  where
+    by : (b : Bool) → OfNumber m (filter is_ordinary xs) → OfNumber m (cond b (x ∷ filter is_ordinary xs) (filter is_ordinary xs))
+    by true k = (h.0, k)
+    by false k = k
 
 has_number : (m : ℕ) (xs : List Placed) (t : Place) → OfNumber m xs → In (map place_in xs) t → t.implementation ≡ m
 has_number m [] t h i = absurd i

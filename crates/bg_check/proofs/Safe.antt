@@ -1,5 +1,5 @@
--- An implementation is safe of which each place is proved whose clause is there.
-use Rattle.std.proofs.Common.{◌≡◌, ℕ, zero, suc, ◌+◌, ◌<◌, Bool, true, false, cond, List, [], ◌∷◌, length, map, Some, refl, sym, ap, ◌∙◌, subst, inl, inr, arith}
+-- An implementation is safe under an inductive set of which each ordinary place is proved.
+use Rattle.std.proofs.Common.{◌≡◌, ℕ, zero, suc, ◌+◌, ◌<◌, Bool, true, false, cond, List, [], ◌∷◌, length, map, Option, Some, None, is_none, refl, sym, ap, ◌∙◌, subst, inl, inr, arith}
 use Rattle.std.specs.Prelude.{slice_get, filter}
 use Rattle.std.proofs.lemmas.List.{length-map}
 use Rattle.bg_ast.specs.Syntax.{Prog}
@@ -8,20 +8,21 @@ use Rattle.bg_ast.specs.Meaning.{meaning_of, named_of, impl_of}
 use Rattle.bg_ast.specs.Execution.{Place}
 use Rattle.bg_sense.specs.Typed.{IsTyped}
 use Rattle.bg_sense.specs.Places.{places}
-use Rattle.bg_sense.specs.Claims.{Safe}
+use Rattle.bg_sense.specs.Claims.{Safe, Inductive}
 use Rattle.bg_sense.specs.Clauses.{is_kept}
 use Rattle.bg_sense.proofs.Bools.{and_left, and_right}
 use Rattle.bg_sense.proofs.Members.{In, member}
-use Rattle.bg_places.specs.Placed.{place_in, placed_impl}
+use Rattle.bg_places.specs.Placed.{Placed, place_in, placed_impl}
 use Rattle.bg_cert.specs.declared.cert.Node.{Node}
 use Rattle.bg_cert.specs.Certs.{node_of}
 use Rattle.bg_cert.specs.Walks.{no_instance}
 use Rattle.bg_fits.specs.Scalars.{is_over_scalars}
 use Rattle.bg_tree.specs.declared.outcome.Budget.{Budget}
+use Rattle.bg_sound.specs.Told.{is_ordinary}
 use Rattle.bg_check.specs.declared.verdict.Verdict.{Verdict}
 use Rattle.bg_check.specs.declared.verdict.Verdict.TheVariants.{Proved, Refuted, Unknown}
 use Rattle.bg_check.specs.declared.verdict.Judged.{Judged}
-use Rattle.bg_check.specs.Verdicts.{HasCertificate, IsRight, placed_at, AreRightAt, AreRightOf, AreRightFrom, AreRightUnder, is_proved, are_proved, is_there, ProvedAreSafe}
+use Rattle.bg_check.specs.Verdicts.{HasCertificate, IsRight, placed_at, AreRightAt, AreRightOf, AreRightFrom, AreRightUnder, is_proved, are_proved, ProvedAreSafe}
 use Rattle.bg_check.proofs.LawTypes.{FunctionLaw, BodyLaw, SafeLaw, PlaceLaw, PassiveLaw, FitLaw, DenyLaw, MetLaw, CertLaw, UsedLaw, InsideLaw}
 use Rattle.bg_check.proofs.Failures.{no_failure}
 use Rattle.bg_check.proofs.Numbered.{has}
@@ -36,24 +37,27 @@ proof_of budget p set t (Proved nodes) h e = record { nodes = nodes.items; certi
 proof_of budget p set t (Refuted cex) h e = absurd (let bad : ⊥ = cc in bad)
 proof_of budget p set t (Unknown cause) h e = absurd (let bad : ⊥ = cc in bad)
 
-first_by : (b : Bool) (j : Judged) (rest : List Judged) → are_proved (cond b (j ∷ rest) rest) ≡ true → b ≡ true → is_proved j.verdict ≡ true
-first_by true j rest h e = and_left (is_proved j.verdict) (are_proved rest) h
-first_by false j rest h e = absurd (let bad : ⊥ = cc in bad)
+judged_place : (budget : Budget) (p : Prog) (set : ℕ → Bool) (js : List Judged) (t : Place) → AreRightAt budget p set js → are_proved js ≡ true → In (map place_in (map placed_at js)) t → Proof p set t
+judged_place budget p set [] t h e i = absurd i
+judged_place budget p set (j ∷ js) t h e (inl s) =
+    subst (Proof p set) s (proof_of budget p set (placed_at j).place j.verdict h.0 (and_left (is_proved j.verdict) (are_proved js) e))
+judged_place budget p set (j ∷ js) t h e (inr i) =
+    judged_place budget p set js t h.1 (and_right (is_proved j.verdict) (are_proved js) e) i
 
-rest_by : (b : Bool) (j : Judged) (rest : List Judged) → are_proved (cond b (j ∷ rest) rest) ≡ true → are_proved rest ≡ true
-rest_by true j rest h = and_right (is_proved j.verdict) (are_proved rest) h
-rest_by false j rest h = h
+-- a place without a candidate is one of the ordinary ones
+among_ordinary : (xs : List Placed) (u : Place) → u.candidate ≡ None → In (map place_in xs) u → In (map place_in (filter is_ordinary xs)) u
+among_ordinary [] u e i = absurd i
+among_ordinary (a ∷ xs) u e (inl s) =
+    let is : is_ordinary a ≡ true = ap (λ (t : Place). is_none t.candidate) s ∙ ap is_none e in
+    subst (λ (b : Bool). In (map place_in (cond b (a ∷ filter is_ordinary xs) (filter is_ordinary xs))) u) (sym is) (inl s)
+among_ordinary (a ∷ xs) u e (inr i) = behind (is_ordinary a) (among_ordinary xs u e i)
+  where
+    behind : (b : Bool) → In (map place_in (filter is_ordinary xs)) u → In (map place_in (cond b (a ∷ filter is_ordinary xs) (filter is_ordinary xs))) u
+    behind true h = inr h
+    behind false h = h
 
-judged_place : (budget : Budget) (p : Prog) (set : ℕ → Bool) (js : List Judged) (t : Place) → AreRightAt budget p set js → are_proved (filter (is_there set) js) ≡ true → is_kept set t.candidate ≡ true → In (map place_in (map placed_at js)) t → Proof p set t
-judged_place budget p set [] t h e k i = absurd i
-judged_place budget p set (j ∷ js) t h e k (inl s) =
-    let kept = subst (λ u. is_kept set u.candidate ≡ true) (sym s) k in
-    subst (Proof p set) s (proof_of budget p set (placed_at j).place j.verdict h.0 (first_by (is_there set j) j (filter (is_there set) js) e kept))
-judged_place budget p set (j ∷ js) t h e k (inr i) =
-    judged_place budget p set js t h.1 (rest_by (is_there set j) j (filter (is_there set) js) e) k i
-
-module _ (functions : FunctionLaw) (bodies : BodyLaw) (safe : SafeLaw) (place : PlaceLaw) (runs : PassiveLaw) (fits : FitLaw) (denies : DenyLaw) (met : MetLaw) (certs : CertLaw) (used : UsedLaw) (inside : InsideLaw) (set : ℕ → Bool) (budget : Budget) (p : r.Program) (t : IsTyped (meaning_of p)) (o : is_over_scalars true (meaning_of p) ≡ true) where
-  one_safe : (k : ℕ) (m : r.Impl) (js : List Judged) → slice_get p.implementations k ≡ Some m → AreRightOf budget p set k m js → are_proved (filter (is_there set) js) ≡ true → Safe (meaning_of p) set k
+module _ (functions : FunctionLaw) (bodies : BodyLaw) (safe : SafeLaw) (place : PlaceLaw) (runs : PassiveLaw) (fits : FitLaw) (denies : DenyLaw) (met : MetLaw) (certs : CertLaw) (used : UsedLaw) (inside : InsideLaw) (set : ℕ → Bool) (budget : Budget) (p : r.Program) (t : IsTyped (meaning_of p)) (o : is_over_scalars true (meaning_of p) ≡ true) (inductive : Inductive (meaning_of p) set) where
+  one_safe : (k : ℕ) (m : r.Impl) (js : List Judged) → slice_get p.implementations k ≡ Some m → AreRightOf budget p set k m js → are_proved js ≡ true → Safe (meaning_of p) set k
   one_safe k m js at right proved =
       safe (meaning_of p) set k t below
       (λ u i s choices c number kept fails.
@@ -62,8 +66,10 @@ module _ (functions : FunctionLaw) (bodies : BodyLaw) (safe : SafeLaw) (place : 
       let mine : Some h.implementation ≡ Some m = sym h.there ∙ (ap (slice_get p.implementations) same ∙ at) in
       let is : h.implementation ≡ m = cc in
       let inside_it = subst (λ x. In (map place_in (placed_impl p.procedures k x)) u) is (subst (λ x. In (map place_in (placed_impl p.procedures x h.implementation)) u) number h.member) in
-      let x = judged_place budget (meaning_of p) set js u right.right proved kept (subst (λ l. In (map place_in l) u) (sym right.places) inside_it) in
-      no_failure functions bodies runs fits denies met (meaning_of p) t o certs used set set u x.nodes x.certificate (λ n g. inside x.certificate.formula set no_instance (map node_of x.nodes) x.certificate.accepted n g) i s choices fails)
+      let ordinary : u.candidate ≡ None → ⊥ = λ bare.
+      let x = judged_place budget (meaning_of p) set js u right.right proved (subst (λ l. In (map place_in l) u) (sym right.places) (among_ordinary (placed_impl p.procedures k m) u bare inside_it)) in
+      no_failure functions bodies runs fits denies met (meaning_of p) t o certs used set set u x.nodes x.certificate (λ n g. inside x.certificate.formula set no_instance (map node_of x.nodes) x.certificate.accepted n g) i s choices fails in
+      by_candidate u.candidate ordinary (λ b e. inductive u b c e (ap (is_kept set) (sym e) ∙ kept) i s choices fails))
     where
       there : (ms : List r.Impl) (j : ℕ) → slice_get ms j ≡ Some m → j < length ms
       there [] j e = absurd (let bad : ⊥ = cc in bad)
@@ -78,6 +84,10 @@ module _ (functions : FunctionLaw) (bodies : BodyLaw) (safe : SafeLaw) (place : 
 
       index_is : (x : ℕ) (u : Place) → u.implementation ≡ k → u.implementation ≡ 0 + x → x ≡ k
       index_is x u a b = omega (arith, a, b)
+
+      by_candidate : (c : Option ℕ) → (c ≡ None → ⊥) → ((b : ℕ) → c ≡ Some b → ⊥) → ⊥
+      by_candidate None f g = f refl
+      by_candidate (Some b) f g = g b refl
 
   all_safe : (ms : List r.Impl) (k : ℕ) (os : List (List Judged)) → ((j : ℕ) (m : r.Impl) → slice_get ms j ≡ Some m → slice_get p.implementations (k + j) ≡ Some m) → AreRightFrom budget p set k ms os → ProvedAreSafe p set k os
   all_safe [] k [] at h = tt

@@ -1,13 +1,14 @@
 -- Right verdicts are sound.
-use Rattle.std.proofs.Common.{◌≡◌, ℕ, suc, Bool, true, false, ◌&&◌, ◌||◌, List, [], ◌∷◌, map, cond, if◌then◌else◌, Option, Some, None, refl, sym, ap, ◌∙◌}
-use Rattle.std.specs.Prelude.{filter, is_none}
-use Rattle.std.specs.List.{list_any}
+use Rattle.std.proofs.Common.{◌≡◌, ℕ, suc, Bool, true, false, ◌&&◌, ◌||◌, List, [], ◌∷◌, map, cond, if◌then◌else◌, refl, sym, ap, ◌∙◌, subst}
+use Rattle.std.specs.Prelude.{filter}
+use Rattle.std.specs.List.{list_any, list_all}
 use Rattle.bg_ast.specs.Syntax.{Prog}
 use Rattle.bg_ast.specs.Resolved as r
 use Rattle.bg_ast.specs.Meaning.{meaning_of}
 use Rattle.bg_ast.specs.Execution.{Interp, State, Choice, Place}
-use Rattle.bg_sense.specs.Clauses.{is_kept}
-use Rattle.bg_sense.specs.Claims.{Fails}
+use Rattle.bg_sense.specs.Claims.{Fails, Inductive}
+use Rattle.bg_sense.proofs.Bools.{and_left, and_right}
+use Rattle.bg_places.specs.Placed.{placed_impl}
 use Rattle.bg_cert.specs.declared.cert.Node.{Node}
 use Rattle.bg_fits.specs.Scalars.{is_over_scalars}
 use Rattle.bg_tree.specs.declared.outcome.Budget.{Budget}
@@ -18,50 +19,46 @@ use Rattle.bg_check.specs.declared.verdict.Cause.{Cause}
 use Rattle.bg_check.specs.declared.verdict.Verdict.{Verdict}
 use Rattle.bg_check.specs.declared.verdict.Verdict.TheVariants.{Proved, Refuted, Unknown}
 use Rattle.bg_check.specs.declared.verdict.Judged.{Judged}
-use Rattle.bg_check.specs.Verdicts.{none, HasCertificate, IsRight, placed_at, AreRightAt, AreRightFrom, AreRight, is_proved, are_proved, is_there, ProvedAreSafe}
+use Rattle.bg_check.specs.Verdicts.{none, HasCertificate, IsRight, placed_at, AreRightAt, AreRightFrom, is_proved, are_proved, ProvedAreSafe}
 use Rattle.bg_check.specs.Outcomes.{verdict_of, told_one, is_ordinary, told, outcome_of}
 
--- what certificates give, and what is safe
-abbrev pub NoFailures : Prog → Type 0
-NoFailures p =
-    (t : Place) (nodes : List Node) → HasCertificate p none t nodes → (i : Interp) (s : State) (cs : List Choice) → Fails p none t i s cs → ⊥
-
-filter_map : {A B : Type 0} (f : A → B) (p : B → Bool) (xs : List A) → map f (filter (λ x. p (f x)) xs) ≡ filter p (map f xs)
-filter_map f p [] = refl
-filter_map f p (x ∷ xs) = by (p (f x)) (filter_map f p xs)
-  where
-    by : (b : Bool) → map f (filter (λ z. p (f z)) xs) ≡ filter p (map f xs) → map f (cond b (x ∷ filter (λ z. p (f z)) xs) (filter (λ z. p (f z)) xs)) ≡ cond b (f x ∷ filter p (map f xs)) (filter p (map f xs))
-    by true e = ap (λ ys. f x ∷ ys) e
-    by false e = e
+-- what certificates give
+abbrev pub NoFailures : Prog → (ℕ → Bool) → Type 0
+NoFailures p set =
+    (t : Place) (nodes : List Node) → HasCertificate p set t nodes → (i : Interp) (s : State) (cs : List Choice) → Fails p set t i s cs → ⊥
 
 same_placed : (words : Cause → t.Why) (js : List Judged) → map t.placed_at (map (told_one words) js) ≡ map placed_at js
 same_placed words [] = refl
 same_placed words (j ∷ js) = ap (λ ys. placed_at j ∷ ys) (same_placed words js)
 
-module _ (p : Prog) (budget : Budget) (words : Cause → t.Why) (none_fail : NoFailures p) where
-  true_at : (u : Place) (v : Verdict) → IsRight budget p none u v → IsTrueAt p none u (verdict_of words v)
+-- the empty set is inductive
+pub none_inductive : (p : Prog) → Inductive p none
+none_inductive p t b c e h = absurd (let bad : false ≡ true = h in cc)
+
+-- what is ordinary already is all there
+all_filtered : {A : Type 0} (f : A → Bool) (xs : List A) → list_all f (filter f xs) ≡ true
+all_filtered f [] = refl
+all_filtered f (x ∷ xs) = by (f x) refl (all_filtered f xs)
+  where
+    by : (b : Bool) → f x ≡ b → list_all f (filter f xs) ≡ true → list_all f (cond b (x ∷ filter f xs) (filter f xs)) ≡ true
+    by true e h = ap (λ (b : Bool). b && list_all f (filter f xs)) e ∙ h
+    by false e h = h
+
+same_filtered : (js : List Judged) → list_all t.is_ordinary (map placed_at js) ≡ true → filter is_ordinary js ≡ js
+same_filtered [] h = refl
+same_filtered (j ∷ js) h =
+    ap (λ (b : Bool). cond b (j ∷ filter is_ordinary js) (filter is_ordinary js)) (and_left (is_ordinary j) (list_all t.is_ordinary (map placed_at js)) h)
+    ∙ ap (λ ys. j ∷ ys) (same_filtered js (and_right (is_ordinary j) (list_all t.is_ordinary (map placed_at js)) h))
+
+module _ (p : Prog) (set : ℕ → Bool) (budget : Budget) (words : Cause → t.Why) (none_fail : NoFailures p set) where
+  true_at : (u : Place) (v : Verdict) → IsRight budget p set u v → IsTrueAt p set u (verdict_of words v)
   true_at u (Proved nodes) h = none_fail u nodes.items h
   true_at u (Refuted cex) h = (h.0, h.1.1)
   true_at u (Unknown cause) h = tt
 
-  all_true : (js : List Judged) → AreRightAt budget p none js → AreTrueAt p none (told words js)
+  all_true : (js : List Judged) → AreRightAt budget p set js → AreTrueAt p set (map (told_one words) js)
   all_true [] h = tt
-  all_true (j ∷ js) h = by (is_ordinary j) (true_at (placed_at j).place j.verdict h.0) (all_true js h.1)
-    where
-      by : (b : Bool) → IsTrueAt p none (placed_at j).place (verdict_of words j.verdict) → AreTrueAt p none (map (told_one words) (filter is_ordinary js)) → AreTrueAt p none (map (told_one words) (cond b (j ∷ filter is_ordinary js) (filter is_ordinary js)))
-      by true a c = (a, c)
-      by false a c = c
-
--- an ordinary place's clause is there under no candidate, and no other's
-kept_none : (o : Option ℕ) → is_kept none o ≡ is_none o
-kept_none None = refl
-kept_none (Some b) = refl
-
-there_is_ordinary : (js : List Judged) → filter (is_there none) js ≡ filter is_ordinary js
-there_is_ordinary [] = refl
-there_is_ordinary (j ∷ js) =
-    ap (λ (b : Bool). cond b (j ∷ filter (is_there none) js) (filter (is_there none) js)) (kept_none (placed_at j).place.candidate)
-    ∙ ap (λ ys. cond (is_ordinary j) (j ∷ ys) ys) (there_is_ordinary js)
+  all_true (j ∷ js) h = (true_at (placed_at j).place j.verdict h.0, all_true js h.1)
 
 proved_one : (words : Cause → t.Why) (v : Verdict) → t.is_refuted (verdict_of words v) ≡ false → t.is_unknown (verdict_of words v) ≡ false → is_proved v ≡ true
 proved_one words (Proved nodes) a b = refl
@@ -84,28 +81,30 @@ word_parts true b h = absurd (let bad : ⊥ = cc in bad)
 word_parts false true h = absurd (let bad : ⊥ = cc in bad)
 word_parts false false h = (refl, refl)
 
-true_from : (p : r.Program) (budget : Budget) (words : Cause → t.Why) → NoFailures (meaning_of p) → (k : ℕ) (ms : List r.Impl) (os : List (List Judged)) → AreRightFrom budget p none k ms os → ProvedAreSafe p none k os → AreTrueFrom p none k ms (map (told words) os)
-true_from p budget words f k [] [] h s = tt
-true_from p budget words f k [] (js ∷ os) h s = absurd h
-true_from p budget words f k (m ∷ ms) [] h s = absurd h
-true_from p budget words f k (m ∷ ms) (js ∷ os) h s = (
-  record {
-    places = same_placed words (filter is_ordinary js) ∙ (filter_map placed_at t.is_ordinary js ∙ ap (filter t.is_ordinary) h.0.places);
-    right = all_true (meaning_of p) budget words f js h.0.right;
-    safe = λ w.
-        let a = word_parts (list_any (λ j. t.is_refuted j.verdict) (told words js)) (list_any (λ j. t.is_unknown j.verdict) (told words js)) w in
-        s.0 (ap are_proved (there_is_ordinary js) ∙ proved_all words (filter is_ordinary js) a.0 a.1);
-  },
-  true_from p budget words f (suc k) ms os h.1 s.1,
-)
+pub true_from : (p : r.Program) (set : ℕ → Bool) (budget : Budget) (words : Cause → t.Why) → NoFailures (meaning_of p) set → (k : ℕ) (ms : List r.Impl) (os : List (List Judged)) → AreRightFrom budget p set k ms os → ProvedAreSafe p set k os → AreTrueFrom p set k ms (map (told words) os)
+true_from p set budget words f k [] [] h s = tt
+true_from p set budget words f k [] (js ∷ os) h s = absurd h
+true_from p set budget words f k (m ∷ ms) [] h s = absurd h
+true_from p set budget words f k (m ∷ ms) (js ∷ os) h s =
+    let whole : filter is_ordinary js ≡ js = same_filtered js (ap (list_all t.is_ordinary) h.0.places ∙ all_filtered t.is_ordinary (placed_impl p.procedures k m)) in
+    let same : told words js ≡ map (told_one words) js = ap (map (told_one words)) whole in (
+      record {
+        places = ap (map t.placed_at) same ∙ (same_placed words js ∙ h.0.places);
+        right = subst (AreTrueAt (meaning_of p) set) (sym same) (all_true (meaning_of p) set budget words f js h.0.right);
+        safe = λ w.
+            let a = word_parts (list_any (λ j. t.is_refuted j.verdict) (told words js)) (list_any (λ j. t.is_unknown j.verdict) (told words js)) w in
+            s.0 (ap are_proved (sym whole) ∙ proved_all words (filter is_ordinary js) a.0 a.1);
+      },
+      true_from p set budget words f (suc k) ms os h.1 s.1,
+    )
 
-pub sound : (p : r.Program) (budget : Budget) (os : List (List Judged)) (words : Cause → t.Why) → is_over_scalars true (meaning_of p) ≡ true → NoFailures (meaning_of p) → ProvedAreSafe p none 0 os → AreRight budget p os → IsSound p (outcome_of words os)
-sound p budget os words over f s h =
+pub sound : (p : r.Program) (os : List (List Judged)) (words : Cause → t.Why) → is_over_scalars true (meaning_of p) ≡ true → AreTrueFrom p none 0 p.implementations (map (told words) os) → IsSound p (outcome_of words os)
+sound p os words over h =
     let easy = plain (meaning_of p) true over in
     record {
       candidates = sym (no_candidates (meaning_of p) true over);
       axioms = easy.0;
       retained_set = easy.1;
       unchecked = λ b u i c d. absurd (let bad : ⊥ = cc in bad);
-      implementations = true_from p budget words f 0 p.implementations os h s;
+      implementations = h;
     }

@@ -7,7 +7,6 @@ use Rattle.bg_ast.specs.Resolved as r
 use Rattle.bg_ast.specs.Meaning.{meaning_of}
 use Rattle.bg_ast.specs.Execution.{Place}
 use Rattle.bg_sense.specs.Claims.{Safe, Fails}
-use Rattle.bg_sense.specs.Clauses.{is_kept}
 use Rattle.bg_sense.specs.Flow.{Failed}
 use Rattle.bg_sense.specs.Variables.{procedure_of}
 use Rattle.bg_formula.specs.Formulas.{Formula}
@@ -26,6 +25,7 @@ use Rattle.bg_scalar.specs.Choices.{choice_of, state_of}
 use Rattle.bg_replay.specs.Said.{Stops, Leaves}
 use Rattle.bg_model.specs.declared.failure.Counterexample.{Counterexample}
 use Rattle.bg_sound.specs.Used.{UsesAll}
+use Rattle.bg_sound.specs.Told.{is_ordinary}
 use Rattle.bg_check.specs.Cuts.{IsOwn, HasOwnClauses}
 use Rattle.bg_check.specs.LeafRuns.{HasLeaf}
 use Rattle.bg_check.specs.declared.verdict.Cause.{Cause}
@@ -92,9 +92,9 @@ abbrev pub AreRightAt : Budget → Prog → (ℕ → Bool) → List Judged → T
 AreRightAt budget p set [] = Unit {0}
 AreRightAt budget p set (j ∷ js) = IsRight budget p set (placed_at j).place j.verdict × AreRightAt budget p set js
 
--- one right verdict for each place of the implementation with this number, in order
+-- one right verdict for each ordinary place of the implementation with this number, in order, and none for another place
 pub record AreRightOf (budget : Budget) (p : r.Program) (set : ℕ → Bool) (k : ℕ) (m : r.Impl) (js : List Judged) : Type 0 where
-  pub places : map placed_at js ≡ placed_impl p.procedures k m
+  pub places : map placed_at js ≡ filter is_ordinary (placed_impl p.procedures k m)
   pub right : AreRightAt budget (meaning_of p) set js
 
 -- for each of these implementations, numbered from k on
@@ -104,7 +104,7 @@ AreRightFrom budget p set k [] (js ∷ os) = ⊥
 AreRightFrom budget p set k (m ∷ ms) [] = ⊥
 AreRightFrom budget p set k (m ∷ ms) (js ∷ os) = AreRightOf budget p set k m js × AreRightFrom budget p set (suc k) ms os
 
--- one right verdict for each place of a program, under a set of candidates
+-- one right verdict for each ordinary place of a program, under a set of candidates
 abbrev pub AreRightUnder : (ℕ → Bool) → Budget → r.Program → List (List Judged) → Type 0
 AreRightUnder set budget p outcome = AreRightFrom budget p set 0 p.implementations outcome
 
@@ -121,14 +121,10 @@ abbrev pub are_proved : List Judged → Bool
 are_proved [] = true
 are_proved (j ∷ js) = is_proved j.verdict && are_proved js
 
--- a place whose clause is there under a set of candidates
-abbrev pub is_there : (ℕ → Bool) → Judged → Bool
-is_there set j = is_kept set (placed_at j).place.candidate
-
--- each implementation is safe of which each place is proved whose clause is there
+-- each implementation is safe of which each place that has a verdict is proved
 abbrev pub ProvedAreSafe : r.Program → (ℕ → Bool) → ℕ → List (List Judged) → Type 0
 ProvedAreSafe p set k [] = Unit {0}
-ProvedAreSafe p set k (js ∷ os) = (are_proved (filter (is_there set) js) ≡ true → Safe (meaning_of p) set k) × ProvedAreSafe p set (suc k) os
+ProvedAreSafe p set k (js ∷ os) = (are_proved js ≡ true → Safe (meaning_of p) set k) × ProvedAreSafe p set (suc k) os
 
 -- the verdicts as lists
 abbrev pub judged : List (Vec Judged Global) → List (List Judged)

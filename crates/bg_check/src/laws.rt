@@ -6,7 +6,7 @@ ghost use Rattle.bg_ast.specs.Resolved.{Program, Impl, Proc};
 ghost use Rattle.bg_ast.specs.Meaning.{meaning_of};
 ghost use Rattle.bg_ast.specs.Execution.{Interp, State, Choice, Place};
 ghost use Rattle.bg_sense.specs.Typed.{IsTyped};
-ghost use Rattle.bg_sense.specs.Claims.{Fails, IsState};
+ghost use Rattle.bg_sense.specs.Claims.{Fails, IsState, Inductive};
 ghost use Rattle.bg_sense.specs.Flow.{BadChoice, Failed};
 ghost use Rattle.bg_cert.specs.declared.cert.Node.{Node};
 ghost use Rattle.bg_cert.specs.Certs.{node_of, uses};
@@ -28,9 +28,9 @@ ghost use Rattle.bg_tree.specs.declared.outcome.Budget.{Budget};
 ghost use Rattle.bg_check.specs.declared.verdict.Judged.{Judged};
 ghost use Rattle.bg_check.specs.declared.verdict.Verdict.TheVariants.{Refuted};
 ghost use Rattle.bg_sound.specs.Told.{Why};
-ghost use Rattle.bg_sound.specs.Sound.{IsSound};
+ghost use Rattle.bg_sound.specs.Sound.{AreTrueFrom, IsSound};
 ghost use Rattle.bg_check.specs.declared.verdict.Cause.{Cause};
-ghost use Rattle.bg_check.specs.Outcomes.{outcome_of};
+ghost use Rattle.bg_check.specs.Outcomes.{told, outcome_of};
 ghost use Rattle.bg_check.specs.Replays.{RunsTo};
 ghost use Rattle.bg_check.specs.Ways.{LiesOnWay};
 ghost use Rattle.bg_check.specs.Verdicts.{none, HasCertificate, HasOutside, IsFailure, IsRight, AreRightUnder, AreRight, ProvedAreSafe};
@@ -59,10 +59,10 @@ pub fn proved_places_do_not_fail()
     accepted_where_used()
 }
 
-/// An implementation of a typed program over truth values and whole numbers is safe under a set of candidates where each of its places is proved whose
-/// clause is there: no execution of it fails, of any number of steps.
+/// An implementation of a typed program over truth values and whole numbers is safe under an inductive set of candidates where each of its
+/// ordinary places is proved under it: no execution of it fails, of any number of steps.
 pub fn proved_under_a_set_is_safe()
-    ensures { (p : Program) (set : ℕ → Bool) (budget : Budget) (outcome : List (List Judged)) → IsTyped (meaning_of p) → is_over_scalars true (meaning_of p) ≡ true → AreRightUnder set budget p outcome → ProvedAreSafe p set 0 outcome }
+    ensures { (p : Program) (set : ℕ → Bool) (budget : Budget) (outcome : List (List Judged)) → IsTyped (meaning_of p) → is_over_scalars true (meaning_of p) ≡ true → Inductive (meaning_of p) set → AreRightUnder set budget p outcome → ProvedAreSafe p set 0 outcome }
 {
     typed_programs_have_typed_bodies();
     what_fails_at_no_place_is_safe();
@@ -132,13 +132,22 @@ pub fn operations_of_forms_lie_on_ways()
         LiesOnWay (sorts_in p t.implementation h.implementation h.procedure) (passives_in p t.implementation h.implementation h.procedure) t.spot o }
 {}
 
+/// What a report tells of right verdicts under an inductive set of candidates is true, of a typed program over truth values and whole
+/// numbers, whatever words it has for causes.
+pub fn right_verdicts_are_true()
+    ensures { (p : Program) (set : ℕ → Bool) (budget : Budget) (outcome : List (List Judged)) (words : Cause → Why) → IsTyped (meaning_of p) → is_over_scalars true (meaning_of p) ≡ true →
+        Inductive (meaning_of p) set → AreRightUnder set budget p outcome → AreTrueFrom p set 0 p.implementations (map (told words) outcome) }
+{
+    proved_places_do_not_fail();
+    proved_under_a_set_is_safe();
+    accepted_where_used()
+}
+
 /// Right verdicts on a typed program over truth values and whole numbers are sound: what a report tells of them is true, whatever words it
 /// has for causes.
 pub fn right_verdicts_are_sound()
     ensures { (p : Program) (budget : Budget) (outcome : List (List Judged)) (words : Cause → Why) → IsTyped (meaning_of p) → is_over_scalars true (meaning_of p) ≡ true →
         AreRight budget p outcome → IsSound p (outcome_of words outcome) }
 {
-    proved_places_do_not_fail();
-    proved_is_safe();
-    accepted_where_used()
+    right_verdicts_are_true()
 }

@@ -5,6 +5,7 @@
 mod dropping;
 pub mod laws;
 mod leaf;
+mod ordinary;
 mod place;
 mod prepared;
 mod program;
@@ -14,8 +15,8 @@ mod slicing;
 mod verdict;
 
 pub use place::check_place;
-pub use prepared::{Prepared, prepare};
-pub use program::check_program;
+pub use prepared::{Prepared, count_candidates, prepare};
+pub use program::{check_program, judge_ordinary};
 pub use question::Question;
 pub use slicing::place_atoms;
 pub use verdict::{Cause, Judged, Verdict};

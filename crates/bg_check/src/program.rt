@@ -11,13 +11,14 @@ ghost use Rattle.bg_fits.specs.Scalars.{is_over_scalars};
 ghost use Rattle.bg_check.specs.Prepared.{IsPrepared, ArePrepared};
 ghost use Rattle.bg_check.specs.Verdicts.{IsRight, placed_at, AreRightAt, AreRightOf, AreRight, judged};
 
+use crate::ordinary::ordinary_places;
 use crate::place::check_place;
 use crate::prepared::{Prepared, prepare};
 use crate::question::Question;
 use crate::verdict::Judged;
 use bg_ast::resolved::{Resolved, Variable};
 use bg_blocks::callees_of;
-use bg_places::{Place, places_of};
+use bg_places::Place;
 use bg_tree::Budget;
 use std::alloc::{AllocError, Global};
 
@@ -65,7 +66,28 @@ fn judge_places<'q>(
     Ok(made)
 }
 
-/// What is known of each place of the implementation with this number.
+/// What is known of each ordinary place of the implementation with this number, which is prepared, under a set of candidates. In a search
+/// at most the budget's nodes count, and it keeps at most its rows.
+///
+/// Only want of memory is an error; 2^32 atoms count as such.
+pub fn judge_ordinary<'q>(
+    alloc: Global,
+    program: &'q Resolved,
+    prepared: &'q Prepared<'q>,
+    number: usize,
+    set: &'q [bool],
+    budget: Budget,
+) -> Result<Vec<Judged>, AllocError>
+    requires typed { IsTyped (meaning_of (program_of program.now)) }
+    requires scalars { is_over_scalars true (meaning_of (program_of program.now)) ≡ true }
+    requires prepared { IsPrepared (program_of program.now) number prepared.now }
+    ensures { IfOk result (λ made. (m : r.Impl) → slice_get (program_of program.now).implementations number ≡ Some m → AreRightOf budget (program_of program.now) (has set.now) number m made.items) }
+{
+    let places = ordinary_places(alloc, program, number)?;
+    judge_places(alloc, program, prepared, &places, set, budget)
+}
+
+/// What is known of each ordinary place of the implementation with this number.
 fn judge_implementation<'q>(
     alloc: Global,
     program: &'q Resolved,
@@ -81,11 +103,10 @@ fn judge_implementation<'q>(
     ensures { IfOk result (λ made. (m : r.Impl) → slice_get (program_of program.now).implementations number ≡ Some m → AreRightOf budget (program_of program.now) (has set.now) number m made.items) }
 {
     let prepared = prepare(alloc, program, callees, number)?;
-    let places = places_of(alloc, program, number)?;
-    judge_places(alloc, program, &prepared, &places, set, budget)
+    judge_ordinary(alloc, program, &prepared, number, set, budget)
 }
 
-/// What is known of each place of a typed program over truth values and whole numbers, by implementation and place, under the
+/// What is known of each ordinary place of a typed program over truth values and whole numbers, by implementation and place, under the
 /// empty set of candidates. In a search at most the budget's nodes count, and it keeps at most its rows.
 ///
 /// Only want of memory is an error; 2^32 incarnations, atoms or branches of an implementation count as such.

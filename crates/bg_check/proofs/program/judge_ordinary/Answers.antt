@@ -1,17 +1,18 @@
 use Rattle.std.proofs.Common.{List, sym, subst}
 use Rattle.bg_ast.specs.Views.{program_of}
 use Rattle.bg_places.specs.declared.place.Place.{Place}
+use Rattle.bg_places.specs.Placed.{placed_impl}
 use Rattle.bg_places.specs.Views.{placed_in}
 use Rattle.bg_check.specs.Prepared.{ArePrepared}
-use Rattle.bg_check.proofs.Numbered.{number_impl}
+use Rattle.bg_check.proofs.Numbered.{number_impl, number_ordinary}
 use Rattle.bg_check.proofs.Judging.{are_prepared}
-use Rattle.bg_check.proofs.program.judge_implementation.Goals as goal
+use Rattle.bg_check.proofs.program.judge_ordinary.Goals as goal
 
 pub judge_places-requires-clause-prepared : goal.judge_places-requires-clause-prepared
 judge_places-requires-clause-prepared c =
     let p = program_of c.args.program.now in
-    let h = c.in_ok-prepared.ensures in
-    let w = c.in_ok-prepared.prepared in
+    let h = c.requires.prepared in
+    let w = c.args.prepared.now in
     let P : List Place → Type 0 = λ ps. ArePrepared p w (placed_in ps) in
     subst P (sym c.deref.ensures.value)
-    (subst (ArePrepared p w) (sym (c.in_ok-places.ensures h.implementation h.impl_there)) (are_prepared p w c.args.number _ h (number_impl p.procedures c.args.number h.implementation)))
+    (subst (ArePrepared p w) (sym (c.in_ok-places.ensures h.implementation h.impl_there)) (are_prepared p w c.args.number _ h (number_ordinary c.args.number (placed_impl p.procedures c.args.number h.implementation) (number_impl p.procedures c.args.number h.implementation))))
