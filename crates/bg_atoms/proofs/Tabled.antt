@@ -6,8 +6,8 @@ use Rattle.std.proofs.lemmas.Int.{ints}
 use Rattle.std.proofs.lemmas.Bool.Decides.{nat_tests}
 use Rattle.bg_rows.specs.declared.entry.Entry.{Entry}
 use Rattle.bg_rows.specs.Rows.{RowOf, row_of}
-use Rattle.bg_keys.specs.Keys.{KeyOf, key_cmp, key_of}
-use Rattle.bg_keys.proofs.Keyed.{key_is, key_same, equal_keys}
+use Rattle.bg_rows.specs.Keys.{KeyOf, key_cmp, key_of}
+use Rattle.bg_rows.proofs.Keyed.{key_is, key_same, equal_keys}
 use Rattle.bg_formula.specs.declared.atom.Literal.{Literal}
 use Rattle.bg_formula.specs.declared.atom.Linear.{Linear}
 use Rattle.bg_formula.specs.Atoms.{AtomOf, IsTruth, IsRow, view_linear, entries_eq, row_eq, at}

@@ -3,7 +3,7 @@ use Rattle.std.specs.Prelude.{◌≡◌, ℕ, suc, ℤ, true, false, if◌then�
 use Rattle.std.specs.Ordering.{is_eq}
 use Rattle.std.specs.BTreeMap.{BTreeMap, get_by}
 use Rattle.std.specs.declared.alloc.Global.{Global}
-use Rattle.bg_keys.specs.Keys.{KeyOf, key_cmp, key_of}
+use Rattle.bg_rows.specs.Keys.{KeyOf, key_cmp, key_of}
 use Rattle.bg_formula.specs.declared.atom.Literal.{Literal}
 use Rattle.bg_formula.specs.Atoms.{AtomOf, IsTruth, IsRow}
 use Rattle.bg_atoms.specs.declared.table.Table.{Table}

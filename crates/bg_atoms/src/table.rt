@@ -1,6 +1,6 @@
 //! Rows, each once, with the literals that say that they hold.
 ghost use Rattle.std.specs.Prelude.{◌≡◌, ℕ, true, false, List, [], ◌∷◌, Contains, None, IfOk, OnOk};
-ghost use Rattle.bg_keys.specs.Keys.{key_of};
+ghost use Rattle.bg_rows.specs.Keys.{key_of};
 ghost use Rattle.bg_rows.specs.Rows.{row_of};
 ghost use Rattle.bg_formula.specs.Atoms.{AtomOf, view_linear};
 ghost use Rattle.bg_atoms.specs.Worlds.{Begins, AddsInside, IsLiteral};
@@ -10,7 +10,7 @@ ghost use Rattle.bg_atoms.specs.Tables.{literal_by, IsPut, IsTable};
 
 use crate::named::sum;
 use bg_formula::{Linear, Literal};
-use bg_keys::{Key, key};
+use bg_rows::{Key, key};
 use std::alloc::{AllocError, Global};
 use std::collections::BTreeMap;
 

@@ -8,7 +8,7 @@ use Rattle.bg_sense.specs.Types.{types_of}
 use Rattle.bg_sense.specs.Variables.{wheres_in, wheres_of, wheres_at, procedure_of, modified}
 use Rattle.bg_sense.specs.Typing.{Sig, sig_in, types_in, HaveTypes}
 use Rattle.bg_sense.specs.Typed.{AreLinear, HasNoOld, IsFormula, IsGuard, Around, IsTypedCall, IsTypedStatement, AreTypedDecls, IsTypedProc}
-use Rattle.bg_calls.specs.Core.{Demand, Saying, Head, Core, Nil, Seq, Mark, Do, To, Choose, Loop, still, demands, demands_if, sayings, sayings_if, each_one, the_checked, the_free, plain, plan_of, calls_of, desugar}
+use Rattle.bg_flow.specs.Core.{Demand, Saying, Head, Core, Nil, Seq, Mark, Do, To, Choose, Loop, still, demands, demands_if, sayings, sayings_if, each_one, the_checked, the_free, plain, plan_of, calls_of, desugar}
 use Rattle.bg_flow.specs.Blocks.{Places, past, next_one, code, to_closing, blocks_of}
 use Rattle.bg_passive.specs.Incarnations.{ty_of}
 use Rattle.bg_block_types.specs.TypedFlow.{sig_with, sig_here, DemandsAreTyped, SayingsAreTyped, PlanIsTyped, CmdsAreTyped, GuardIsTyped, CodeIsTyped}

@@ -6,7 +6,7 @@ use Rattle.bg_ast.specs.Syntax.{Var, Global, Local, Exs, Read, Not, NoMore, More
 use Rattle.bg_sense.specs.Types.{types_of}
 use Rattle.bg_sense.specs.Variables.{type_in}
 use Rattle.bg_sense.specs.Typing.{Sig, HaveTypes}
-use Rattle.bg_calls.specs.Core.{Demand, Saying, Cmd, Check, Suppose, Forget, Put, Perform, Finish}
+use Rattle.bg_flow.specs.Core.{Demand, Saying, Cmd, Check, Suppose, Forget, Put, Perform, Finish}
 use Rattle.bg_flow.specs.Blocks.{Exit, Leap, Either, Block}
 use Rattle.bg_passive.specs.Passive.{PassiveCmd, Supposes}
 use Rattle.bg_passive.specs.Incarnations.{Env, rename, hold, hold_all, hold_next, after_vars, after_exs, each_ex, each_decl, claims_in, supposes_in, is_worth, set_to, pass, pass_all, Arrival, joins, join_env, edge_to, edges, passives, ty_of, TypesFrom, FitsCmd, FitsCmds, ForBool, JoinsFit, after_joins, FitsJoin, FitEach, FitsBlocks, entry_env, TypedNums, EnvTyped, ArrivalsTyped, targets_of}

@@ -8,7 +8,7 @@ use Rattle.bg_sense.specs.Types.{types_of}
 use Rattle.bg_sense.specs.Variables.{procedure_of, wheres_of}
 use Rattle.bg_sense.specs.Typing.{Sig, sig_in}
 use Rattle.bg_sense.specs.Typed.{HasNoOld, IsFormula, AreTypedDecls, IsTypedStatement, around, sig_around, IsTypedImpl, IsTypedProc, IsTyped}
-use Rattle.bg_calls.specs.Core.{frame_decls, demands, sayings, each_one, plain}
+use Rattle.bg_flow.specs.Core.{frame_decls, demands, sayings, each_one, plain}
 use Rattle.bg_passive.specs.Incarnations.{Arrival, MakesPassive, ArrivalsTyped, TypedNums, entry_env}
 use Rattle.bg_block_types.specs.Typed.{sig_over, TypedBlocks, blocks_in, arrivals_in, incarnations_in, passives_in}
 use Rattle.bg_block_types.specs.TypedFlow.{sig_with, CodeIsTyped}

@@ -5,7 +5,7 @@ use Rattle.bg_ast.specs.Syntax.{Ex, Proc, Impl, Prog}
 use Rattle.bg_sense.specs.Types.{const_types}
 use Rattle.bg_sense.specs.Typing.{Sig}
 use Rattle.bg_sense.specs.Typed.{HasNoOld, IsFormula}
-use Rattle.bg_calls.specs.Core.{frame_decls, routine_of}
+use Rattle.bg_flow.specs.Core.{frame_decls, routine_of}
 use Rattle.bg_flow.specs.Blocks.{Block, blocks_of}
 use Rattle.bg_passive.specs.Passive.{PassiveCmd, Claims, Supposes, Edge, PassiveBlock}
 use Rattle.bg_passive.specs.Incarnations.{incarnations, passives}

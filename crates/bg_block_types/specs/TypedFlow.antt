@@ -5,7 +5,7 @@ use Rattle.bg_ast.specs.Syntax.{Exs, Guard, Star, Test, Decl, Prog}
 use Rattle.bg_sense.specs.Types.{types_of, const_types}
 use Rattle.bg_sense.specs.Typing.{Sig, HaveTypes}
 use Rattle.bg_sense.specs.Typed.{AreLinear, IsFormula}
-use Rattle.bg_calls.specs.Core.{Demand, Saying, Plan, Cmd, Check, Suppose, Forget, Put, Perform, Finish}
+use Rattle.bg_flow.specs.Core.{Demand, Saying, Plan, Cmd, Check, Suppose, Forget, Put, Perform, Finish}
 use Rattle.bg_flow.specs.Blocks.{Exit, Leap, Either, Block}
 use Rattle.bg_passive.specs.Incarnations.{ty_of}
 

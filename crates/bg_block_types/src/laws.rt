@@ -3,7 +3,7 @@ ghost use Rattle.std.specs.Prelude.{◌≡◌, ℕ, Some, slice_get};
 ghost use Rattle.bg_ast.specs.Syntax.{Prog, Impl, Proc};
 ghost use Rattle.bg_sense.specs.Typed.{IsTyped};
 ghost use Rattle.bg_sense.specs.Variables.{procedure_of};
-ghost use Rattle.bg_calls.specs.Core.{frame_decls};
+ghost use Rattle.bg_flow.specs.Core.{frame_decls};
 ghost use Rattle.bg_block_types.specs.Typed.{sig_over, TypedBlocks, blocks_in, incarnations_in, passives_in};
 ghost use Rattle.bg_block_types.specs.TypedFlow.{CodeIsTyped};
 

@@ -8,7 +8,7 @@ use Rattle.bg_ast.specs.Views.{arm_view, arms_from, st_of, sts_in, guard_of}
 use Rattle.bg_ast.specs.declared.resolved.Arm.{Arm}
 use Rattle.bg_ast.specs.declared.resolved.Stmt.{Stmt}
 use Rattle.bg_sense.specs.Flow.{Behind}
-use Rattle.bg_calls.specs.Core.{Core, Seq, Mark, Choose, Loop, Head, desugar}
+use Rattle.bg_flow.specs.Core.{Core, Seq, Mark, Choose, Loop, Head, desugar}
 use Rattle.bg_blocks.specs.declared.emit.Emitted as code
 use Rattle.bg_blocks.specs.Emitted.{State, IsBounded, pushed, marked_at, marked_each, with_marks_of, Emits}
 use Rattle.bg_blocks.specs.Decided.{skip_block, branch_block, turn_block, head_block}

@@ -7,7 +7,7 @@ use Rattle.bg_ast.specs.Resolved as r
 use Rattle.bg_ast.specs.Views.{arm_view, arms_from}
 use Rattle.bg_ast.specs.declared.resolved.Arm.{Arm}
 use Rattle.bg_sense.specs.Flow.{Behind}
-use Rattle.bg_calls.specs.Core.{Core, Seq, Mark, Choose, Loop, Head}
+use Rattle.bg_flow.specs.Core.{Core, Seq, Mark, Choose, Loop, Head}
 use Rattle.bg_blocks.specs.declared.emit.Emitted as code
 use Rattle.bg_blocks.specs.Marks.{key, undone}
 use Rattle.bg_blocks.specs.MarkViews.{marked}

@@ -11,7 +11,7 @@ use Rattle.bg_ast.specs.declared.resolved.Variable.{Variable}
 use Rattle.bg_ast.specs.declared.resolved.Procedure.{Procedure}
 use Rattle.bg_ast.specs.declared.resolved.Resolved.{Resolved}
 use Rattle.bg_sense.specs.Variables.{procedure_of}
-use Rattle.bg_calls.specs.Core.{Perform, calls_of, plan_of}
+use Rattle.bg_flow.specs.Core.{Perform, calls_of, plan_of}
 use Rattle.bg_blocks.specs.Callees.{list_of, modified_in, IsModified}
 
 abbrev head_of : {A : Type 0} (d : A) → List A → A

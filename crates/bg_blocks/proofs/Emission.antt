@@ -3,7 +3,7 @@ use Rattle.std.proofs.Common.{◌≡◌, suc, ◌-◌, List, [], ◌∷◌, ◌+
 use Rattle.std.proofs.lemmas.List.{length-append}
 use Rattle.bg_ast.specs.Syntax.{Guard}
 use Rattle.bg_sense.specs.Flow.{Point}
-use Rattle.bg_calls.specs.Core.{Cmd, Core, Nil, Seq, Mark, Do, To, Choose, Loop, Head, arrival}
+use Rattle.bg_flow.specs.Core.{Cmd, Core, Nil, Seq, Mark, Do, To, Choose, Loop, Head, arrival}
 use Rattle.bg_flow.specs.Blocks.{Block, Leap, Either, past, next_one, to_points, code}
 use Rattle.bg_blocks.specs.Marks.{key, undone}
 use Rattle.bg_blocks.specs.Decided.{skip_block, branch_block, turn_block, head_block}

@@ -1,6 +1,6 @@
 -- Where jumps lead.
 use Rattle.std.proofs.Common.{◌≡◌, ℕ, ◌<◌, List, [], ◌∷◌, length, map, refl, ap, arith}
-use Rattle.bg_calls.specs.Core.{to_each}
+use Rattle.bg_flow.specs.Core.{to_each}
 use Rattle.bg_flow.specs.Blocks.{to_points}
 use Rattle.bg_blocks.specs.declared.emit.Emitted as code
 use Rattle.bg_blocks.specs.EmittedViews.{ahead_in, label_in}

@@ -4,7 +4,7 @@ use Rattle.std.specs.Prelude.{◌==◌}
 use Rattle.std.proofs.lemmas.List.{length-map, length-reverse}
 use Rattle.bg_ast.specs.Resolved as r
 use Rattle.bg_sense.specs.Flow.{Point}
-use Rattle.bg_calls.specs.Core.{Cmd, Do, To}
+use Rattle.bg_flow.specs.Core.{Cmd, Do, To}
 use Rattle.bg_flow.specs.Blocks.{Leap, to_points}
 use Rattle.bg_blocks.specs.declared.emit.Emitted as code
 use Rattle.bg_blocks.specs.Marks.{Marked, set_to, ahead}

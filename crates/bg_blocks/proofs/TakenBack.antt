@@ -3,7 +3,7 @@ use Rattle.std.proofs.Common.{◌≡◌, ℕ, suc, ◌-◌, ◌≤◌, [], ◌�
 use Rattle.std.proofs.lemmas.List.{length-append}
 use Rattle.bg_ast.specs.Syntax.{Guard}
 use Rattle.bg_ast.specs.Resolved as r
-use Rattle.bg_calls.specs.Core.{Core, Head, arrival}
+use Rattle.bg_flow.specs.Core.{Core, Head, arrival}
 use Rattle.bg_flow.specs.Blocks.{Block, Leap, Either}
 use Rattle.bg_blocks.specs.declared.emit.Emitted as code
 use Rattle.bg_blocks.specs.Marks.{Marked, undone}

@@ -5,7 +5,7 @@ use Rattle.bg_ast.specs.Syntax.{Var, Global, Local}
 use Rattle.bg_ast.specs.Resolved as r
 use Rattle.bg_ast.specs.Meaning.{meaning_of, named_of, decl_of}
 use Rattle.bg_sense.specs.Variables.{wheres_in, wheres_of, wheres_at}
-use Rattle.bg_calls.specs.Core.{still}
+use Rattle.bg_flow.specs.Core.{still}
 use Rattle.bg_blocks.specs.EmittedViews.{frame_of}
 
 none_there : (named : ℕ → Ty) (ds : List r.Declared) (k : ℕ) → wheres_in (slice_get (map (decl_of named) ds) k) ≡ []

@@ -11,7 +11,7 @@ use Rattle.bg_ast.specs.declared.resolved.Procedure.{Procedure}
 use Rattle.bg_ast.specs.declared.resolved.Implementation.{Implementation}
 use Rattle.bg_ast.specs.declared.resolved.Stmt.{Stmt}
 use Rattle.bg_sense.specs.Variables.{wheres_of}
-use Rattle.bg_calls.specs.Core.{Core, Saying, Demand, Routine, demands, sayings, each_one, plain, desugar, frame_decls, routine_of}
+use Rattle.bg_flow.specs.Core.{Core, Saying, Demand, Routine, demands, sayings, each_one, plain, desugar, frame_decls, routine_of}
 use Rattle.bg_flow.specs.Blocks.{Block, code, to_closing, blocks_of}
 use Rattle.bg_blocks.specs.declared.block.Block as whole
 use Rattle.bg_blocks.specs.declared.emit.Emitted as emitted

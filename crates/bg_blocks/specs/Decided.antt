@@ -1,7 +1,7 @@
 -- The blocks that lead past the parts of a branch and of a loop.
 use Rattle.std.specs.Prelude.{suc, ◌-◌, [], ◌∷◌, length}
 use Rattle.bg_ast.specs.Syntax.{Guard}
-use Rattle.bg_calls.specs.Core.{Head, arrival, turn}
+use Rattle.bg_flow.specs.Core.{Head, arrival, turn}
 use Rattle.bg_flow.specs.Blocks.{Block, Leap, Either}
 use Rattle.bg_blocks.specs.Emitted.{State}
 

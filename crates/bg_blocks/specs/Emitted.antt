@@ -1,7 +1,7 @@
 -- Blocks that are made from the last one on.
 use Rattle.std.specs.Prelude.{◌≡◌, ℕ, zero, suc, ◌+◌, ◌≤◌, List, [], ◌∷◌, ◌++◌, length, Option, Some, unwrap_or}
 use Rattle.bg_sense.specs.Flow.{Point, Behind}
-use Rattle.bg_calls.specs.Core.{Core}
+use Rattle.bg_flow.specs.Core.{Core}
 use Rattle.bg_flow.specs.Blocks.{Block, Places, code}
 use Rattle.bg_blocks.specs.Marks.{Marked, key, set_to, undone, ahead}
 

@@ -4,7 +4,7 @@ use Rattle.bg_ast.specs.Resolved as r
 use Rattle.bg_ast.specs.Meaning.{meaning_of, named_of, decl_of}
 use Rattle.bg_ast.specs.Syntax as s
 use Rattle.bg_sense.specs.Flow.{ToLabel}
-use Rattle.bg_calls.specs.Core.{desugar}
+use Rattle.bg_flow.specs.Core.{desugar}
 use Rattle.bg_flow.specs.Blocks.{Places}
 use Rattle.bg_blocks.specs.declared.emit.Emitted as code
 use Rattle.bg_blocks.specs.Marks.{ahead, undone}

@@ -6,7 +6,7 @@ use Rattle.bg_ast.specs.Meaning as m
 use Rattle.bg_ast.specs.Views.{ex_of, exs_in, clause_of, guard_of, target_of, call_of, proc_of, var_of}
 use Rattle.bg_ast.specs.declared.resolved.Clause.{Clause}
 use Rattle.bg_places.specs.Views.{spot_in}
-use Rattle.bg_calls.specs.Core.{Cmd, Check, Suppose, Forget, Put, Perform, Finish, Saying, demands, sayings, plain, each_one, the_checked, the_free, plan_of}
+use Rattle.bg_flow.specs.Core.{Cmd, Check, Suppose, Forget, Put, Perform, Finish, Saying, demands, sayings, plain, each_one, the_checked, the_free, plan_of}
 use Rattle.bg_flow.specs.Blocks.{Exit, Leap, Either, Block}
 use Rattle.bg_blocks.specs.declared.block.Kept.{Kept}
 use Rattle.bg_blocks.specs.declared.block.Kept.TheVariants as kept

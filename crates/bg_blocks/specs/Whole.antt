@@ -4,7 +4,7 @@ use Rattle.bg_ast.specs.Syntax as s
 use Rattle.bg_ast.specs.Resolved as r
 use Rattle.bg_ast.specs.Meaning.{meaning_of, named_of, impl_of, proc_of}
 use Rattle.bg_ast.specs.Execution.{AtReturn}
-use Rattle.bg_calls.specs.Core.{Check, Suppose, demands, sayings, each_one, routine_of}
+use Rattle.bg_flow.specs.Core.{Check, Suppose, demands, sayings, each_one, routine_of}
 use Rattle.bg_flow.specs.Blocks.{Block, Leap, blocks_of}
 use Rattle.bg_blocks.specs.declared.block.Block as whole
 use Rattle.bg_blocks.specs.Views.{block_of}

@@ -5,7 +5,7 @@ ghost use Rattle.bg_ast.specs.Resolved.{Program};
 ghost use Rattle.bg_ast.specs.Meaning as m;
 ghost use Rattle.bg_ast.specs.Views.{program_of, guard_of, clause_of, var_of};
 ghost use Rattle.bg_sense.specs.Flow.{Point, Behind};
-ghost use Rattle.bg_calls.specs.Core.{head_of, arrival, turn};
+ghost use Rattle.bg_flow.specs.Core.{head_of, arrival, turn};
 ghost use Rattle.bg_flow.specs.Blocks.{Leap, Either};
 ghost use Rattle.bg_blocks.specs.Views.{cmd_of, clauses_in};
 ghost use Rattle.bg_blocks.specs.Emitted.{pushed, marked_at};

@@ -6,7 +6,7 @@ ghost use Rattle.bg_ast.specs.Meaning as m;
 ghost use Rattle.bg_ast.specs.Views.{program_of, call_of};
 ghost use Rattle.bg_sense.specs.Flow.{Point, Behind, ToEnd};
 ghost use Rattle.bg_sense.specs.Variables.{procedure_of};
-ghost use Rattle.bg_calls.specs.Core.{To, to_each, calls_of};
+ghost use Rattle.bg_flow.specs.Core.{To, to_each, calls_of};
 ghost use Rattle.bg_flow.specs.Blocks.{to_points};
 ghost use Rattle.bg_blocks.specs.Callees.{IsModified};
 ghost use Rattle.bg_blocks.specs.Views.{cmd_of};

@@ -4,7 +4,7 @@ ghost use Rattle.bg_ast.specs.Resolved as r;
 ghost use Rattle.bg_ast.specs.Meaning as m;
 ghost use Rattle.bg_ast.specs.Execution.{AtReturn};
 ghost use Rattle.bg_ast.specs.Views.{program_of, impl_of, proc_of, sts_in};
-ghost use Rattle.bg_calls.specs.Core.{desugar, demands, sayings, each_one};
+ghost use Rattle.bg_flow.specs.Core.{desugar, demands, sayings, each_one};
 ghost use Rattle.bg_flow.specs.Blocks.{blocks_of};
 ghost use Rattle.bg_blocks.specs.Callees.{IsModified};
 ghost use Rattle.bg_blocks.specs.Views.{clauses_in};

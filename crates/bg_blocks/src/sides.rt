@@ -3,7 +3,7 @@ ghost use Rattle.std.specs.Prelude.{◌≡◌, ℕ, length, map, OnOk};
 ghost use Rattle.bg_ast.specs.Resolved.{Program};
 ghost use Rattle.bg_ast.specs.Meaning as m;
 ghost use Rattle.bg_ast.specs.Views.{guard_of, var_of};
-ghost use Rattle.bg_calls.specs.Core.{Core, head_of};
+ghost use Rattle.bg_flow.specs.Core.{Core, head_of};
 ghost use Rattle.bg_blocks.specs.Views.{clauses_in};
 ghost use Rattle.bg_blocks.specs.Emitted.{State, pushed, with_marks_of, Emits};
 ghost use Rattle.bg_blocks.specs.Decided.{skip_block, branch_block, turn_block, head_block};

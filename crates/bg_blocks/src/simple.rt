@@ -5,7 +5,7 @@ ghost use Rattle.bg_ast.specs.Resolved.{Program};
 ghost use Rattle.bg_ast.specs.Meaning as m;
 ghost use Rattle.bg_ast.specs.Views.{program_of, var_of, clause_of, ex_of, exs_in, placed_of, target_of, call_of};
 ghost use Rattle.bg_sense.specs.Flow.{Point, ToLabel, Behind, ToEnd};
-ghost use Rattle.bg_calls.specs.Core.{Do, To, Forget, Suppose};
+ghost use Rattle.bg_flow.specs.Core.{Do, To, Forget, Suppose};
 ghost use Rattle.bg_blocks.specs.Callees.{IsModified};
 ghost use Rattle.bg_blocks.specs.Marks.{key};
 ghost use Rattle.bg_blocks.specs.Views.{cmd_of, target_variable};

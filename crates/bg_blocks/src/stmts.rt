@@ -4,7 +4,7 @@ ghost use Rattle.bg_ast.specs.Syntax as s;
 ghost use Rattle.bg_ast.specs.Resolved as r;
 ghost use Rattle.bg_ast.specs.Meaning as m;
 ghost use Rattle.bg_ast.specs.Views.{program_of, st_of, sts_in, arms_from, arm_view, guard_of, clause_of};
-ghost use Rattle.bg_calls.specs.Core.{Core, Choose, desugar};
+ghost use Rattle.bg_flow.specs.Core.{Core, Choose, desugar};
 ghost use Rattle.bg_blocks.specs.Callees.{IsModified};
 ghost use Rattle.bg_blocks.specs.Emitted.{State, IsBounded, Emits, marked_each};
 ghost use Rattle.bg_blocks.specs.EmittedViews.{state_of, IsSound, IsLeft, EmitsBody, frame_of};

@@ -8,7 +8,7 @@ use Rattle.bg_ast.specs.Syntax.{Var, Global, Local, Decl, Prog}
 use Rattle.bg_ast.specs.Resolved as r
 use Rattle.bg_ast.specs.Meaning.{meaning_of, named_of, decl_of, sts_of}
 use Rattle.bg_sense.specs.Variables.{is_among, count_from, globals_of, may_change, targets}
-use Rattle.bg_calls.specs.Core.{still}
+use Rattle.bg_flow.specs.Core.{still}
 use Rattle.bg_changes.specs.Marks.{Marks, has_mark, with_marks, mark_sts}
 use Rattle.bg_changes.proofs.Read.{is_in, Sized, marks_sized, marks_read}
 use Rattle.bg_changes.proofs.Changed.{sts_sized, sts_read}

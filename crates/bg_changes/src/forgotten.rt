@@ -5,7 +5,7 @@ ghost use Rattle.bg_ast.specs.Syntax.{Decl, Prog};
 ghost use Rattle.bg_ast.specs.Views.{var_of, program_of, sts_in, proc_of};
 ghost use Rattle.bg_ast.specs.Meaning as m;
 ghost use Rattle.bg_sense.specs.Variables as v;
-ghost use Rattle.bg_calls.specs.Core.{still};
+ghost use Rattle.bg_flow.specs.Core.{still};
 
 use crate::listed::listed;
 use crate::marks::{Marks, mark_globals};

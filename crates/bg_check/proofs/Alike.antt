@@ -4,7 +4,7 @@ use Rattle.std.specs.Prelude.{◌&&◌, ◌||◌, not, slice_get}
 use Rattle.bg_ast.specs.Execution.{Spot}
 use Rattle.bg_sense.proofs.Bools.{and_left, and_right}
 use Rattle.bg_passive.specs.Passive.{spot_eq, is_absent}
-use Rattle.bg_wp.specs.Equations.{is_well}
+use Rattle.bg_passive.specs.Equations.{is_well}
 use Rattle.bg_forms.specs.Forms.{form_true}
 use Rattle.bg_formed.specs.Formed.{FormCmd, Asks, Takes, FormEdge, FormBlock, said, form_below, fits_candidate, cmds_below, edges_below, blocks_below}
 use Rattle.bg_formed.specs.Wells.{form_equation, all_form_well, form_equations}

@@ -18,12 +18,12 @@ use Rattle.bg_sense.specs.Interps.{IsInterp, Meets}
 use Rattle.bg_sense.specs.Claims.{IsState, Safe, Fails}
 use Rattle.bg_sense.specs.Typing.{AreTypedBodies, IsTypedSt}
 use Rattle.bg_sense.specs.Typed.{IsTyped}
-use Rattle.bg_calls.specs.Core.{frame_decls, routine_of}
+use Rattle.bg_flow.specs.Core.{frame_decls, routine_of}
 use Rattle.bg_flow.specs.Blocks.{blocks_of}
 use Rattle.bg_passive.specs.Passive.{PassiveBlock, SomeWalk}
 use Rattle.bg_passive.specs.Incarnations.{Arrival, passives, MakesPassive, first_state, passive_scope, ValuesFrom}
 use Rattle.bg_passive.specs.Arrivals.{arrived}
-use Rattle.bg_wp.specs.Equations.{is_well, equations}
+use Rattle.bg_passive.specs.Equations.{is_well, equations}
 use Rattle.bg_block_types.specs.Typed.{blocks_in, incarnations_in, passives_in}
 use Rattle.bg_block_types.specs.TypedFlow.{CodeIsTyped}
 use Rattle.bg_incarnate.specs.Even.{BlocksEven}

@@ -8,7 +8,7 @@ use Rattle.bg_sense.specs.Types.{types_of}
 use Rattle.bg_sense.specs.Variables.{type_in, procedure_of}
 use Rattle.bg_sense.specs.Typing.{Sig, OpHasType, HasType, HaveTypes}
 use Rattle.bg_sense.proofs.Bools.{both, and_left, and_right}
-use Rattle.bg_calls.specs.Core.{Demand, Saying, Plan, Cmd, Check, Suppose, Forget, Put, Perform, Finish, frame_decls}
+use Rattle.bg_flow.specs.Core.{Demand, Saying, Plan, Cmd, Check, Suppose, Forget, Put, Perform, Finish, frame_decls}
 use Rattle.bg_flow.specs.Blocks.{Exit, Leap, Either, Block}
 use Rattle.bg_passive.specs.Incarnations.{ty_of}
 use Rattle.bg_block_types.specs.TypedFlow.{sig_with, sig_here, DemandsAreTyped, SayingsAreTyped, PlanIsTyped, CmdIsTyped, CmdsAreTyped, ExitIsTyped, CodeIsTyped}

@@ -29,7 +29,7 @@ use Rattle.bg_atoms.specs.Literals.{are_apart}
 use Rattle.bg_atoms.specs.Encoded.{blocks_over}
 use Rattle.bg_sense.specs.Variables.{procedure_of}
 use Rattle.bg_sense.specs.Typed.{IsTypedImpl, IsTyped}
-use Rattle.bg_calls.specs.Core.{frame_decls}
+use Rattle.bg_flow.specs.Core.{frame_decls}
 use Rattle.bg_flow.specs.Blocks as f
 use Rattle.bg_passive.specs.Passive.{PassiveBlock}
 use Rattle.bg_passive.specs.Incarnations.{passives, incarnations}

@@ -15,10 +15,10 @@ use Rattle.bg_sense.specs.Run.{induction_run}
 use Rattle.bg_sense.specs.Claims.{IsState}
 use Rattle.bg_sense.specs.Typed.{IsTyped}
 use Rattle.bg_sense.proofs.Bools.{and_left, and_right}
-use Rattle.bg_calls.specs.Core.{frame_decls}
+use Rattle.bg_flow.specs.Core.{frame_decls}
 use Rattle.bg_passive.specs.Passive.{Walked}
 use Rattle.bg_passive.specs.Incarnations.{passives, MakesPassive, first_state, passive_scope}
-use Rattle.bg_wp.specs.Equations.{is_well}
+use Rattle.bg_passive.specs.Equations.{is_well}
 use Rattle.bg_block_types.specs.Typed.{blocks_in, arrivals_in, incarnations_in}
 use Rattle.bg_formula.specs.Atoms.{IsTruth, at}
 use Rattle.bg_formula.specs.Formulas.{Formula}

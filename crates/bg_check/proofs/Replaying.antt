@@ -14,7 +14,7 @@ use Rattle.bg_sense.specs.Run.{induction_run}
 use Rattle.bg_sense.specs.Variables.{procedure_of}
 use Rattle.bg_sense.specs.Claims.{IsState, frame_of, frame_with}
 use Rattle.bg_sense.specs.Typed.{IsTyped}
-use Rattle.bg_calls.specs.Core.{frame_decls}
+use Rattle.bg_flow.specs.Core.{frame_decls}
 use Rattle.bg_flow.specs.Blocks as f
 use Rattle.bg_block_types.specs.TypedFlow.{CodeIsTyped}
 use Rattle.bg_cert.specs.Walks.{has}

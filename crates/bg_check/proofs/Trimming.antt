@@ -9,7 +9,7 @@ use Rattle.bg_ast.specs.Meaning.{meaning_of, named_of, impl_of, proc_of}
 use Rattle.bg_ast.specs.Execution.{Place}
 use Rattle.bg_sense.specs.Flow.{BadChoice, Failed}
 use Rattle.bg_sense.specs.Variables.{procedure_of}
-use Rattle.bg_calls.specs.Core.{frame_decls}
+use Rattle.bg_flow.specs.Core.{frame_decls}
 use Rattle.bg_flow.specs.Blocks as f
 use Rattle.bg_block_types.specs.Typed.{blocks_in}
 use Rattle.bg_cert.specs.Walks.{has}

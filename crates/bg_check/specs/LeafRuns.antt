@@ -3,7 +3,7 @@ use Rattle.std.specs.Prelude.{◌≡◌, ℕ, Bool, false, List, length, map, re
 use Rattle.bg_ast.specs.Values.{Val}
 use Rattle.bg_ast.specs.Syntax.{Proc, Impl, Prog}
 use Rattle.bg_ast.specs.Execution.{Place}
-use Rattle.bg_calls.specs.Core.{frame_decls}
+use Rattle.bg_flow.specs.Core.{frame_decls}
 use Rattle.bg_passive.specs.Incarnations.{first_state}
 use Rattle.bg_block_types.specs.Typed.{blocks_in, arrivals_in}
 use Rattle.bg_incarnate.specs.Walked.{next_in}

@@ -4,7 +4,7 @@ use Rattle.bg_ast.specs.Syntax.{Proc, Impl, Prog}
 use Rattle.bg_ast.specs.Execution.{Place}
 use Rattle.bg_fits.specs.Holdings.{holdings_of}
 use Rattle.bg_sense.specs.Variables.{procedure_of}
-use Rattle.bg_calls.specs.Core.{frame_decls}
+use Rattle.bg_flow.specs.Core.{frame_decls}
 use Rattle.bg_block_types.specs.Typed.{blocks_in}
 use Rattle.bg_replay.specs.Said.{Said}
 use Rattle.bg_replay.specs.Ways.{runs}

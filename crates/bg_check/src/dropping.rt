@@ -17,7 +17,7 @@ use std::alloc::{AllocError, Global};
 /// Drops the last choice where the run fails without it too, and says whether it did.
 fn drop_last(
     alloc: Global,
-    question: Question<'_>,
+    question: Question<'_, '_>,
     cex: &mut Counterexample,
 ) -> Result<bool, AllocError>
     requires prepared { IsPrepared (program_of question.entry.program.now) question.entry.place.now.implementation question.entry.prepared.now }
@@ -51,7 +51,7 @@ fn drop_last(
 /// The same run, with no choice left over.
 pub fn used_up(
     alloc: Global,
-    question: Question<'_>,
+    question: Question<'_, '_>,
     cex: Counterexample,
 ) -> Result<Counterexample, AllocError>
     requires prepared { IsPrepared (program_of question.entry.program.now) question.entry.place.now.implementation question.entry.prepared.now }

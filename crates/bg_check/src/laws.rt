@@ -38,11 +38,11 @@ ghost use Rattle.bg_check.specs.Verdicts.{none, HasCertificate, HasOutside, IsFa
 use bg_block_types::laws::blocks_are_typed;
 use bg_cert::laws::{accepted_has_no_valuation, accepted_where_used};
 use bg_faithful::laws::clauses_over_scalars_fail_alike;
+use bg_passive::equations::equations_deny_failing_walks;
 use bg_passive::laws::{arrivals_fit, passive_blocks_fail_alike};
 use bg_places::laws::placed_are_places;
 use bg_replay::laws::replays_are_induction_runs;
 use bg_sense::laws::{typed_programs_have_typed_bodies, what_fails_at_no_place_is_safe};
-use bg_wp::laws::equations_deny_failing_walks;
 
 /// A place whose clauses have a certificate has no failing run, under any set that has what the certificate uses.
 pub fn proved_places_do_not_fail()

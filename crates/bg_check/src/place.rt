@@ -48,7 +48,11 @@ pub enum Made {
 }
 
 /// The clauses of a place.
-fn place_clauses(alloc: Global, question: Question<'_>, atoms: &Atoms) -> Result<Made, AllocError>
+fn place_clauses(
+    alloc: Global,
+    question: Question<'_, '_>,
+    atoms: &Atoms,
+) -> Result<Made, AllocError>
     requires typed { IsTyped (meaning_of (program_of question.entry.program.now)) }
     requires scalars { is_over_scalars true (meaning_of (program_of question.entry.program.now)) ≡ true }
     requires prepared { IsPrepared (program_of question.entry.program.now) question.entry.place.now.implementation question.entry.prepared.now }
@@ -70,9 +74,9 @@ fn place_clauses(alloc: Global, question: Question<'_>, atoms: &Atoms) -> Result
 }
 
 /// The counterexample of a complete leaf of a place's clauses.
-fn failing<'q>(
+fn failing<'q, 'p>(
     alloc: Global,
-    question: Question<'q>,
+    question: Question<'q, 'p>,
     atoms: &'q Atoms,
     f: &Clauses,
     leaf: &Leaf,
@@ -118,7 +122,7 @@ fn failing<'q>(
 /// What is known of a place that has these clauses.
 fn search_place(
     alloc: Global,
-    question: Question<'_>,
+    question: Question<'_, '_>,
     atoms: &Atoms,
     budget: Budget,
     f: &Clauses,
@@ -147,7 +151,7 @@ fn search_place(
 /// Only want of memory is an error; 2^32 atoms count as such.
 pub fn check_place(
     alloc: Global,
-    question: Question<'_>,
+    question: Question<'_, '_>,
     budget: Budget,
 ) -> Result<Verdict, AllocError>
     requires typed { IsTyped (meaning_of (program_of question.entry.program.now)) }

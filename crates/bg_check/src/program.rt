@@ -23,7 +23,7 @@ use bg_tree::Budget;
 use std::alloc::{AllocError, Global};
 
 /// What is known of a place.
-fn judge(alloc: Global, question: Question<'_>, budget: Budget) -> Result<Judged, AllocError>
+fn judge(alloc: Global, question: Question<'_, '_>, budget: Budget) -> Result<Judged, AllocError>
     requires typed { IsTyped (meaning_of (program_of question.entry.program.now)) }
     requires scalars { is_over_scalars true (meaning_of (program_of question.entry.program.now)) ≡ true }
     requires prepared { IsPrepared (program_of question.entry.program.now) question.entry.place.now.implementation question.entry.prepared.now }
@@ -38,10 +38,10 @@ fn judge(alloc: Global, question: Question<'_>, budget: Budget) -> Result<Judged
 }
 
 /// What is known of each of these places of the implementation that is prepared.
-fn judge_places<'q>(
+fn judge_places<'q, 'p>(
     alloc: Global,
     program: &'q Resolved,
-    prepared: &'q Prepared<'q>,
+    prepared: &'q Prepared<'p>,
     places: &'q [Place],
     set: &'q [bool],
     budget: Budget,
@@ -70,10 +70,10 @@ fn judge_places<'q>(
 /// at most the budget's nodes count, and it keeps at most its rows.
 ///
 /// Only want of memory is an error; 2^32 atoms count as such.
-pub fn judge_ordinary<'q>(
+pub fn judge_ordinary<'q, 'p>(
     alloc: Global,
     program: &'q Resolved,
-    prepared: &'q Prepared<'q>,
+    prepared: &'q Prepared<'p>,
     number: usize,
     set: &'q [bool],
     budget: Budget,
@@ -88,12 +88,12 @@ pub fn judge_ordinary<'q>(
 }
 
 /// What is known of each ordinary place of the implementation with this number.
-fn judge_implementation<'q>(
+fn judge_implementation(
     alloc: Global,
-    program: &'q Resolved,
-    callees: &'q [Vec<Variable>],
+    program: &Resolved,
+    callees: &[Vec<Variable>],
     number: usize,
-    set: &'q [bool],
+    set: &[bool],
     budget: Budget,
 ) -> Result<Vec<Judged>, AllocError>
     requires typed { IsTyped (meaning_of (program_of program.now)) }

@@ -24,7 +24,7 @@ use std::alloc::{AllocError, Global};
 /// choices that the run doesn't take are dropped.
 pub fn replayed(
     alloc: Global,
-    question: Question<'_>,
+    question: Question<'_, '_>,
     cex: Counterexample,
 ) -> Result<Verdict, AllocError>
     requires typed { IsTyped (meaning_of (program_of question.entry.program.now)) }

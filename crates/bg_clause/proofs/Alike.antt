@@ -5,7 +5,7 @@ use Rattle.std.proofs.lemmas.Bool.Decides.{nat_tests}
 use Rattle.bg_base.specs.declared.exact.OutOfRange.{OutOfRange}
 use Rattle.bg_ast.specs.Execution.{Spot}
 use Rattle.bg_rows.specs.Rows.{holds}
-use Rattle.bg_wp.specs.Equations.{is_well}
+use Rattle.bg_passive.specs.Equations.{is_well}
 use Rattle.bg_formula.specs.Atoms.{AtomOf, IsTruth, IsRow, at}
 use Rattle.bg_formula.specs.Formulas.{Formula, rows_below, is_whole}
 use Rattle.bg_formula.specs.Meaning.{Valuation, same, signed, clauses_true}

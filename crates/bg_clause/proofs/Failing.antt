@@ -3,7 +3,7 @@ use Rattle.std.proofs.Common.{◌≡◌, ℕ, zero, suc, Bool, true, false, List
 use Rattle.std.specs.Prelude.{not, ◌&&◌, ◌||◌, if◌then◌else◌, nat_lt, slice_get, Option, Some, None}
 use Rattle.bg_ast.specs.Execution.{Spot}
 use Rattle.bg_passive.specs.Passive.{spot_eq, is_absent}
-use Rattle.bg_wp.specs.Equations.{is_well}
+use Rattle.bg_passive.specs.Equations.{is_well}
 use Rattle.bg_forms.specs.Forms.{Form, form_true, both_of, any_of, denied}
 use Rattle.bg_formed.specs.Formed.{Says, FormCmd, Asks, Takes, FormEdge, FormBlock, said, form_below, fits_candidate, cmds_below, edges_below}
 use Rattle.bg_formed.specs.Wells.{is_met, form_equation, all_form_well}

@@ -3,7 +3,7 @@ use Rattle.std.proofs.Common.{◌≡◌, ℕ, suc, ◌+◌, ◌≤◌, Bool, tru
 use Rattle.std.specs.Prelude.{not, ◌&&◌, nat_lt, slice_get}
 use Rattle.std.proofs.lemmas.Bool.Decides.{nat_tests}
 use Rattle.bg_ast.specs.Execution.{Spot}
-use Rattle.bg_wp.specs.Equations.{is_well}
+use Rattle.bg_passive.specs.Equations.{is_well}
 use Rattle.bg_formed.specs.Wells.{form_equation, all_form_well, form_equations}
 use Rattle.bg_formula.specs.Formulas.{clauses_below}
 use Rattle.bg_forms.specs.Forms.{Form, form_true, is_true}

@@ -1,7 +1,7 @@
 //! Laws of clauses, which are proved of the definitions alone.
 ghost use Rattle.std.specs.Prelude.{◌≡◌, ℕ, ℤ, ◌+◌, ◌<◌, Bool, true, false, List, Ok, None, length, slice_get};
 ghost use Rattle.bg_ast.specs.Execution.{Spot};
-ghost use Rattle.bg_wp.specs.Equations.{is_well};
+ghost use Rattle.bg_passive.specs.Equations.{is_well};
 ghost use Rattle.bg_formula.specs.Atoms.{AtomOf};
 ghost use Rattle.bg_formula.specs.Formulas.{Formula, rows_below, is_whole};
 ghost use Rattle.bg_formula.specs.Meaning.{Valuation, clauses_true};

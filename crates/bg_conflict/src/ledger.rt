@@ -2,8 +2,7 @@
 
 use crate::class::{Class, Near, class_of};
 use bg_formula::{Atom, Clauses};
-use bg_keys::key;
-use bg_rows::{Row, tighten};
+use bg_rows::{Row, key, tighten};
 use std::alloc::{AllocError, Global};
 use std::collections::BTreeMap;
 

@@ -7,8 +7,8 @@ use Rattle.std.proofs.lemmas.Int.{ints}
 use Rattle.bg_rows.specs.declared.entry.Entry.{Entry}
 use Rattle.bg_rows.specs.Rows.{RowOf}
 use Rattle.bg_rows.specs.Steps.{row_at}
-use Rattle.bg_keys.specs.Keys.{KeyOf, key_cmp, key_of}
-use Rattle.bg_keys.proofs.Keyed.{key_is, key_same, row_from_key}
+use Rattle.bg_rows.specs.Keys.{KeyOf, key_cmp, key_of}
+use Rattle.bg_rows.proofs.Keyed.{key_is, key_same, row_from_key}
 use Rattle.bg_elim.specs.Keys.{place_of}
 use Rattle.bg_elim.specs.Kept.{entries_eq, row_eq, is_new}
 

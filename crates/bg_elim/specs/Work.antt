@@ -19,7 +19,7 @@ use Rattle.bg_elim.specs.declared.work.Stand.{Stand}
 use Rattle.bg_elim.specs.declared.work.Stand.TheVariants.{Alone, Implied, Nearer}
 use Rattle.bg_elim.specs.declared.work.Taken.{Taken}
 use Rattle.bg_elim.specs.declared.work.Taken.TheVariants.{Done, False, Full}
-use Rattle.bg_keys.specs.Keys.{key_cmp}
+use Rattle.bg_rows.specs.Keys.{key_cmp}
 use Rattle.bg_elim.specs.Keys.{place_of}
 use Rattle.bg_elim.specs.Kept.{Solves, no_twice, is_in, none_before, made_rows, none_false, all_different, is_new, entries_in, reason_row, is_true_row, Among, leaves_at, MeetBehind, BoundsAgree, PairAgrees}
 

@@ -1,14 +1,13 @@
 //! Rows are kept once.
 ghost use Rattle.std.specs.Prelude.{◌≡◌, ◌≤◌, IfOk, OnOk, length, None, option_copied};
 ghost use Rattle.bg_rows.specs.Rows.{row_of};
-ghost use Rattle.bg_keys.specs.Keys.{key_of};
+ghost use Rattle.bg_rows.specs.Keys.{key_of};
 ghost use Rattle.bg_elim.specs.Keys.{place_of};
 ghost use Rattle.bg_elim.specs.Work.{work_of, with_row, IsIndexed, KeptAs, IsPlace};
 
 use crate::order::Reason;
 use crate::work::Work;
-use bg_keys::{Key, key};
-use bg_rows::Row;
+use bg_rows::{Key, Row, key};
 use std::alloc::{AllocError, Global};
 
 /// The number of the row with this key, if it is kept.

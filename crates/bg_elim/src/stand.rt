@@ -6,8 +6,7 @@ ghost use Rattle.bg_elim.specs.Kept.{entries_eq};
 ghost use Rattle.bg_elim.specs.Work.{WorkOf, work_of, IsStand};
 
 use crate::work::{Stand, Work};
-use bg_keys::key;
-use bg_rows::{Entry, Row};
+use bg_rows::{Entry, Row, key};
 use std::alloc::{AllocError, Global};
 
 /// Whether two lists of entries are equal.

@@ -3,8 +3,7 @@
 use crate::cost::Counts;
 use crate::order::{Further, Reason};
 use bg_base::OutOfRange;
-use bg_keys::Key;
-use bg_rows::Row;
+use bg_rows::{Key, Row};
 use std::collections::BTreeMap;
 
 /// The variables done, the kept rows with their reasons, where each row is found by its key, the

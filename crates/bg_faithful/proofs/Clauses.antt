@@ -7,7 +7,7 @@ use Rattle.bg_ast.specs.Execution.{Interp, Spot}
 use Rattle.bg_sense.specs.Eval.{Scope}
 use Rattle.bg_passive.specs.Passive.{PassiveBlock}
 use Rattle.bg_passive.specs.Incarnations.{passive_scope}
-use Rattle.bg_wp.specs.Equations.{is_well, equations}
+use Rattle.bg_passive.specs.Equations.{is_well, equations}
 use Rattle.bg_formula.specs.Atoms.{AtomOf}
 use Rattle.bg_formula.specs.Formulas.{Formula}
 use Rattle.bg_formula.specs.Meaning.{Valuation, clauses_true}

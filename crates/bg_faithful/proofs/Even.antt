@@ -4,7 +4,7 @@ use Rattle.bg_ast.specs.Values.{Ty}
 use Rattle.bg_ast.specs.Syntax.{Var, Exs, NoMore, More, Decl, Prog}
 use Rattle.bg_sense.specs.Types.{types_of}
 use Rattle.bg_sense.specs.Typing.{Sig, HaveTypes}
-use Rattle.bg_calls.specs.Core.{Cmd, Check, Suppose, Forget, Put, Perform, Finish}
+use Rattle.bg_flow.specs.Core.{Cmd, Check, Suppose, Forget, Put, Perform, Finish}
 use Rattle.bg_flow.specs.Blocks.{Block}
 use Rattle.bg_incarnate.specs.Even.{how_many, IsEven, AreEven, BlocksEven}
 use Rattle.bg_block_types.specs.TypedFlow.{CmdIsTyped, CmdsAreTyped, CodeIsTyped}

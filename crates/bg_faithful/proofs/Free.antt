@@ -7,7 +7,7 @@ use Rattle.bg_ast.specs.Execution.{Spot, AtAssert, AtEntry, AfterTurn, AtCall}
 use Rattle.bg_sense.specs.Types.{types_of}
 use Rattle.bg_sense.specs.Variables.{wheres_of, wheres_at, procedure_of, modified}
 use Rattle.bg_sense.proofs.Bools.{and_left, and_right}
-use Rattle.bg_calls.specs.Core.{Demand, Saying, Plan, Cmd, Check, Suppose, Forget, Put, Perform, Finish, Head, Core, Nil, Seq, Mark, Do, To, Choose, Loop, demands, demands_if, sayings, sayings_if, each_one, the_checked, the_free, plain, still, plan_of, calls_of, desugar}
+use Rattle.bg_flow.specs.Core.{Demand, Saying, Plan, Cmd, Check, Suppose, Forget, Put, Perform, Finish, Head, Core, Nil, Seq, Mark, Do, To, Choose, Loop, demands, demands_if, sayings, sayings_if, each_one, the_checked, the_free, plain, still, plan_of, calls_of, desugar}
 use Rattle.bg_flow.specs.Blocks.{Block, Places, past, next_one, code, to_closing, blocks_of}
 use Rattle.bg_fits.specs.Scalars.{clause_passes, guard_passes, st_passes, is_scalar}
 use Rattle.bg_faithful.proofs.Scalars.{AreScalars, FreeClauses, free_clause, free_clauses, ScalarProc}

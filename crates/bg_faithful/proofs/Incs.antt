@@ -3,7 +3,7 @@ use Rattle.std.proofs.Common.{ℕ, Bool, true, false, if◌then◌else◌, List,
 use Rattle.bg_ast.specs.Values.{Ty}
 use Rattle.bg_ast.specs.Syntax.{Var, Decl, Prog}
 use Rattle.bg_sense.specs.Types.{types_of}
-use Rattle.bg_calls.specs.Core.{Cmd, Check, Suppose, Forget, Put, Perform, Finish}
+use Rattle.bg_flow.specs.Core.{Cmd, Check, Suppose, Forget, Put, Perform, Finish}
 use Rattle.bg_flow.specs.Blocks.{Block}
 use Rattle.bg_passive.specs.Incarnations.{Env, pass_all, entry_env, ty_of, targets_of}
 use Rattle.bg_passive.specs.Arrivals.{all_begin, tails, merge_types, globals_in, frames_in, arrive_at, arrive_types, Ways, ways_here, ways_on, ways_to, cmd_types, cmds_types, arrive}

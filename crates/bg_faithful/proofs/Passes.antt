@@ -2,7 +2,7 @@
 use Rattle.std.proofs.Common.{◌≡◌, ℕ, suc, Bool, true, false, if◌then◌else◌, List, [], ◌∷◌, ◌++◌, map, Option, Some, None, refl}
 use Rattle.std.specs.Prelude.{◌==◌, slice_get}
 use Rattle.bg_ast.specs.Syntax.{Local, Read, Not, Exs, NoMore, More, Star, Test}
-use Rattle.bg_calls.specs.Core.{Demand, Saying, Cmd, Check, Suppose, Forget, Put, Perform, Finish}
+use Rattle.bg_flow.specs.Core.{Demand, Saying, Cmd, Check, Suppose, Forget, Put, Perform, Finish}
 use Rattle.bg_flow.specs.Blocks.{Exit, Leap, Either, Block}
 use Rattle.bg_passive.specs.Passive.{PassiveCmd, Claims, Supposes, Edge, PassiveBlock}
 use Rattle.bg_passive.specs.Incarnations.{Env, rename, claims_in, supposes_in, is_worth, set_to, pass, pass_all, Arrival, joins, join_env, edge_to, edges, passives}

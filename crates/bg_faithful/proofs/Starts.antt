@@ -8,7 +8,7 @@ use Rattle.bg_sense.specs.Eval.{value_at}
 use Rattle.bg_sense.specs.Variables.{count_from, procedure_of}
 use Rattle.bg_sense.specs.Claims.{frame_of, frame_with, IsState}
 use Rattle.bg_sense.proofs.Bools.{and_left, and_right, both}
-use Rattle.bg_calls.specs.Core.{frame_decls}
+use Rattle.bg_flow.specs.Core.{frame_decls}
 use Rattle.bg_passive.specs.Incarnations.{first_state}
 use Rattle.bg_block_types.specs.Typed.{arrivals_in, incarnations_in}
 

@@ -9,7 +9,7 @@ use Rattle.bg_sense.specs.Types.{types_of, const_types}
 use Rattle.bg_sense.specs.Typing.{Sig}
 use Rattle.bg_sense.specs.Variables.{procedure_of, wheres_of}
 use Rattle.bg_sense.proofs.Bools.{and_left, and_right}
-use Rattle.bg_calls.specs.Core.{frame_decls, demands, sayings, each_one, plain}
+use Rattle.bg_flow.specs.Core.{frame_decls, demands, sayings, each_one, plain}
 use Rattle.bg_fits.specs.Scalars.{is_empty, decls_pass, proc_passes, impl_passes, st_passes, is_scalar_type, is_scalar, is_over_scalars}
 use Rattle.bg_atoms.specs.Sorted.{blocks_sorted}
 use Rattle.bg_block_types.specs.Typed.{sig_over, TypedBlocks, blocks_in, arrivals_in, incarnations_in, passives_in}

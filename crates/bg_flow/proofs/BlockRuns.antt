@@ -11,9 +11,9 @@ use Rattle.bg_sense.specs.Clauses.{ensure, suppose, is_kept}
 use Rattle.bg_sense.specs.Choices.{choose_from, branch_from, forget_all, choose_all, decide}
 use Rattle.bg_sense.specs.Variables.{put, put_all, type_in, decl_of, procedure_of}
 use Rattle.bg_sense.specs.Run.{context, start, induction_run}
-use Rattle.bg_calls.specs.Core.{Demand, Saying, Plan, Cmd, Check, Suppose, Forget, Put, Perform, Finish, Core, Nil, Seq, Mark, Do, To, Choose, Loop, Routine, check_that, check_these, suppose_this, suppose_these, perform, act, act_all, arrival, turn, point_at, leap, follow_core, routine_run, routine_of}
+use Rattle.bg_flow.specs.Core.{Demand, Saying, Plan, Cmd, Check, Suppose, Forget, Put, Perform, Finish, Core, Nil, Seq, Mark, Do, To, Choose, Loop, Routine, check_that, check_these, suppose_this, suppose_these, perform, act, act_all, arrival, turn, point_at, leap, follow_core, routine_run, routine_of}
 use Rattle.bg_flow.specs.Blocks.{Leap, Either, Block, Table, at_table, enter, index, nth, leave, run_block, table, one, Places, past, next_one, here, to_points, Coded, code, to_closing, blocks_of, blocks_run}
-use Rattle.bg_calls.proofs.CoreRuns.{routines_same}
+use Rattle.bg_flow.proofs.CoreRuns.{routines_same}
 
 -- a flow that does not jump
 abbrev NoJump : Flow → Type 0

@@ -8,10 +8,10 @@ use Rattle.bg_sense.specs.Context.{Cut, Ctx, scope}
 use Rattle.bg_sense.specs.Choices.{forget_all}
 use Rattle.bg_sense.specs.Run.{context, start, induction_run}
 use Rattle.bg_sense.specs.Variables.{procedure_of}
-use Rattle.bg_calls.specs.Core.{Cmd, Check, Suppose, act, act_all, check_these, suppose_these, Head, arrival, turn, Core, Nil, Seq, Mark, Do, To, Choose, Loop, Routine, routine_of}
+use Rattle.bg_flow.specs.Core.{Cmd, Check, Suppose, act, act_all, check_these, suppose_these, Head, arrival, turn, Core, Nil, Seq, Mark, Do, To, Choose, Loop, Routine, routine_of}
 use Rattle.bg_flow.specs.Blocks.{Leap, Either, Block, Table, at_table, enter, index, leave, table, one, Places, past, next_one, code, to_closing, blocks_of, blocks_run}
 use Rattle.bg_flow.specs.Looped.{LoopCmd, Plain, Arrive, Turned, LoopBlock, act_loop, act_loops, loop_table, loops_run, plain_cmds, flow, flow_of, cut_cmd, cut_cmds, cut_block, cut}
-use Rattle.bg_calls.proofs.CoreRuns.{then_ext, then_next, then_assoc}
+use Rattle.bg_flow.proofs.CoreRuns.{then_ext, then_next, then_assoc}
 use Rattle.bg_flow.proofs.BlockRuns.{blocks_same}
 
 acts_append : (c : Ctx) (xs ys : List Cmd) (w : World) → act_all c (xs ++ ys) w ≡ and_then (act_all c xs w) (act_all c ys)

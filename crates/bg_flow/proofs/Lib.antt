@@ -1,2 +1,3 @@
 pub mod BlockRuns
 pub mod CutRuns
+pub mod CoreRuns

@@ -4,7 +4,7 @@ use Rattle.bg_ast.specs.Syntax.{Guard}
 use Rattle.bg_sense.specs.Flow.{World, Answer, Ended, Point, Behind, ToEnd, Flow, Next, Jumps, Over, and_then, point_eq}
 use Rattle.bg_sense.specs.Context.{Ctx}
 use Rattle.bg_sense.specs.Choices.{decide, branch}
-use Rattle.bg_calls.specs.Core.{Cmd, Check, Suppose, act_all, Head, arrival, turn, Core, Nil, Seq, Mark, Do, To, Choose, Loop, Routine}
+use Rattle.bg_flow.specs.Core.{Cmd, Check, Suppose, act_all, Head, arrival, turn, Core, Nil, Seq, Mark, Do, To, Choose, Loop, Routine}
 
 -- where a block leads, counted from the next one: to one of these, by a guard to one of two
 pub data Exit : Type 0 where

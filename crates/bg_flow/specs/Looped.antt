@@ -4,7 +4,7 @@ use Rattle.bg_sense.specs.Flow.{World, Answer, Flow, Next, and_then}
 use Rattle.bg_sense.specs.Context.{Ctx, scope}
 use Rattle.bg_sense.specs.Choices.{forget_all}
 use Rattle.bg_sense.specs.Loop.{end}
-use Rattle.bg_calls.specs.Core.{Cmd, Check, Suppose, act, check_these, suppose_these, Head, arrival, turn, Core, Nil, Seq, Mark, Do, To, Choose, Loop, Routine}
+use Rattle.bg_flow.specs.Core.{Cmd, Check, Suppose, act, check_these, suppose_these, Head, arrival, turn, Core, Nil, Seq, Mark, Do, To, Choose, Loop, Routine}
 use Rattle.bg_flow.specs.Blocks.{Exit, Leap, Either, Block, Table, at_table, enter, index, leave, Places, here, past, next_one, to_points, to_closing}
 
 pub data LoopCmd : Type 0 where

@@ -6,7 +6,7 @@ ghost use Rattle.bg_sense.specs.Context.{Cut, Ctx};
 ghost use Rattle.bg_sense.specs.Flow.{World};
 ghost use Rattle.bg_sense.specs.Variables.{procedure_of};
 ghost use Rattle.bg_sense.specs.Run.{context, start, induction_run};
-ghost use Rattle.bg_calls.specs.Core.{Routine, routine_of};
+ghost use Rattle.bg_flow.specs.Core.{Routine, routine_of};
 ghost use Rattle.bg_flow.specs.Looped.{LoopBlock, loops_run, flow_of, cut};
 ghost use Rattle.bg_flow.specs.Blocks.{blocks_of, blocks_run};
 

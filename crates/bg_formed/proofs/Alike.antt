@@ -7,7 +7,7 @@ use Rattle.bg_ast.specs.Syntax.{Ex}
 use Rattle.bg_ast.specs.Execution.{Spot}
 use Rattle.bg_sense.specs.Eval.{Scope, ev}
 use Rattle.bg_passive.specs.Passive.{PassiveCmd, Claims, Supposes, Edge, PassiveBlock, spot_eq, is_absent}
-use Rattle.bg_wp.specs.Equations.{equation_cmds, is_well, all_well, equations}
+use Rattle.bg_passive.specs.Equations.{equation_cmds, is_well, all_well, equations}
 use Rattle.bg_forms.specs.Forms.{form_true}
 use Rattle.bg_formed.specs.Formed.{Says, FormCmd, Asks, Takes, FormEdge, FormBlock, said}
 use Rattle.bg_formed.specs.Wells.{is_met, form_equation, all_form_well, form_equations}

@@ -3,7 +3,7 @@ ghost use Rattle.std.specs.Prelude.{◌≡◌, ℕ, Bool, List, None, slice_get}
 ghost use Rattle.bg_ast.specs.Execution.{Spot};
 ghost use Rattle.bg_sense.specs.Eval.{Scope};
 ghost use Rattle.bg_passive.specs.Passive.{PassiveBlock};
-ghost use Rattle.bg_wp.specs.Equations.{is_well, equations};
+ghost use Rattle.bg_passive.specs.Equations.{is_well, equations};
 ghost use Rattle.bg_formed.specs.Formed.{FormBlock};
 ghost use Rattle.bg_formed.specs.Wells.{form_equations};
 ghost use Rattle.bg_formed.specs.Said.{SaidBlocks};

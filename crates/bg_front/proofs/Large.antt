@@ -2,7 +2,7 @@
 use Rattle.std.proofs.Common.{◌≡◌, ℕ, nat_lt, Bool, true, false, if◌then◌else◌, List, length, Option, Some, None, refl, ap, ◌∙◌}
 use Rattle.bg_text.specs.Tokens.{Tok}
 use Rattle.bg_ast.specs.Resolved as r
-use Rattle.bg_size.specs.Counts.{most_places, most_expanded, place_counts, expanded_counts, first_above, is_any_above}
+use Rattle.bg_places.specs.Counts.{most_places, most_expanded, place_counts, expanded_counts, first_above, is_any_above}
 use Rattle.bg_typed.specs.Rules.{KeepsTypes}
 use Rattle.bg_front.specs.Later.{AreJudged}
 use Rattle.bg_front.specs.Limits.{most_implementations}

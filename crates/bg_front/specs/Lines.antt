@@ -10,7 +10,7 @@ use Rattle.bg_kinds.specs.Faults as types
 use Rattle.bg_kinds.specs.Texts.{type_text}
 use Rattle.bg_front.specs.Limits.{most_bytes}
 use Rattle.bg_front.specs.Refusals.{Refusal, TooLong, Bytes, Syntax, Nesting, Names, Types, Later, Implementations, Places, Expanded}
-use Rattle.bg_size.specs.Counts.{most_expanded}
+use Rattle.bg_places.specs.Counts.{most_expanded}
 
 -- line and column
 abbrev pub position_text : Pos → List ℕ

@@ -4,7 +4,7 @@ use Rattle.bg_text.specs.Tokens.{Tok}
 use Rattle.bg_text.specs.Trees.{Decl}
 use Rattle.bg_ast.specs.Resolved as r
 use Rattle.bg_resolve.specs.Resolves.{IsToldFault}
-use Rattle.bg_size.specs.Counts.{most_places, most_expanded, place_counts, expanded_counts, first_above, is_any_above}
+use Rattle.bg_places.specs.Counts.{most_places, most_expanded, place_counts, expanded_counts, first_above, is_any_above}
 use Rattle.bg_meant.specs.Declared.{MeansProgram}
 use Rattle.bg_types.specs.Verdicts.{IsFault}
 use Rattle.bg_typed.specs.Rules.{KeepsTypes}

@@ -8,8 +8,8 @@ use crate::limits::MOST_BYTES;
 use crate::lines::{put_fault, put_limit, put_named};
 use bg_base::Pos;
 use bg_lex::Fault;
+use bg_places::MOST_EXPANDED;
 use bg_resolve::NameFault;
-use bg_size::MOST_EXPANDED;
 use bg_types::Refusal as TypeRefusal;
 use std::alloc::{AllocError, Global};
 

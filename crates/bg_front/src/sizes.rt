@@ -7,7 +7,7 @@ ghost use Rattle.bg_front.specs.Refusals.{refusal_of};
 use crate::limits::MOST_IMPLEMENTATIONS;
 use crate::refusal::Refusal;
 use bg_ast::resolved::Resolved;
-use bg_size::{first_crowded, is_any_too_large};
+use bg_places::{first_crowded, is_any_too_large};
 use std::alloc::{AllocError, Global};
 
 /// The first limit that a program exceeds. Only want of memory is an error.

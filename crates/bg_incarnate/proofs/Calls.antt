@@ -12,7 +12,7 @@ use Rattle.bg_ast.specs.declared.resolved.Call.{Call}
 use Rattle.bg_ast.specs.declared.resolved.Procedure.{Procedure}
 use Rattle.bg_ast.specs.declared.resolved.Variable.{Variable}
 use Rattle.bg_sense.specs.Variables.{wheres_of, wheres_at, wheres_in, count_from, modified}
-use Rattle.bg_calls.specs.Core.{Demand, Saying, Plan, Perform, demands, sayings, plain, each_one, still}
+use Rattle.bg_flow.specs.Core.{Demand, Saying, Plan, Perform, demands, sayings, plain, each_one, still}
 use Rattle.bg_blocks.specs.Views.{clauses_in, procedure_in}
 use Rattle.bg_passive.specs.Passive.{PassiveCmd}
 use Rattle.bg_passive.specs.Incarnations.{Env, Passed, pass, pass_call, set_to, each_ex, after_exs, hold_next, hold_all, after_vars, each_decl, after_decls, claims_in, supposes_in}

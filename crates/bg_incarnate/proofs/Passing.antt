@@ -1,6 +1,6 @@
 -- Commands that are passed one after the other.
 use Rattle.std.proofs.Common.{◌≡◌, ℕ, List, [], ◌∷◌, ◌++◌, ◌+◌, ◌<◌, zero, suc, map, drop, length, get_or, refl, sym, ap, ◌∙◌, append_assoc, append-nil, add-one, arith}
-use Rattle.bg_calls.specs.Core.{Cmd, sayings}
+use Rattle.bg_flow.specs.Core.{Cmd, sayings}
 use Rattle.bg_ast.specs.Syntax as s
 use Rattle.bg_blocks.specs.declared.block.Kept.{Kept}
 use Rattle.bg_blocks.specs.declared.block.Kept.TheVariants as kept

@@ -4,7 +4,7 @@ use Rattle.std.specs.Prelude.{slice_set, slice_get}
 use Rattle.std.proofs.lemmas.List.{map-append, length-map}
 use Rattle.bg_ast.specs.Syntax.{Decl, Prog}
 use Rattle.bg_sense.specs.Variables.{count_from}
-use Rattle.bg_calls.specs.Core.{Cmd}
+use Rattle.bg_flow.specs.Core.{Cmd}
 use Rattle.bg_flow.specs.Blocks.{Block}
 use Rattle.bg_passive.specs.Passive.{PassiveCmd, PassiveBlock, Edge}
 use Rattle.bg_passive.specs.Incarnations.{Env, Arrival, edges, entry_env, passives, Passed, pass_all, targets_of}

@@ -1,7 +1,7 @@
 -- Commands in which each assignment has as many values as targets, and each call as many arguments as parameters.
 use Rattle.std.specs.Prelude.{◌≡◌, ℕ, suc, List, [], ◌∷◌, length}
 use Rattle.bg_ast.specs.Syntax.{Exs, NoMore, More}
-use Rattle.bg_calls.specs.Core.{Cmd, Put, Perform}
+use Rattle.bg_flow.specs.Core.{Cmd, Put, Perform}
 use Rattle.bg_flow.specs.Blocks.{Block}
 
 abbrev pub how_many : Exs → ℕ

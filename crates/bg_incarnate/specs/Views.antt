@@ -6,7 +6,7 @@ use Rattle.bg_ast.specs.Resolved as r
 use Rattle.bg_ast.specs.Meaning as m
 use Rattle.bg_ast.specs.Views.{ex_of, candidate_of, var_of}
 use Rattle.bg_places.specs.Views.{spot_of}
-use Rattle.bg_calls.specs.Core.{Plan, plan_of, each_one, the_checked, the_free}
+use Rattle.bg_flow.specs.Core.{Plan, plan_of, each_one, the_checked, the_free}
 use Rattle.bg_blocks.specs.declared.block.Kept.{Kept}
 use Rattle.bg_blocks.specs.declared.block.Kept.TheVariants as kept
 use Rattle.bg_blocks.specs.Views.{procedure_in}

@@ -3,7 +3,7 @@ ghost use Rattle.std.specs.Prelude.{◌≡◌, ◌+◌, ◌++◌, length, IfOk, 
 ghost use Rattle.bg_ast.specs.Resolved.{Program};
 ghost use Rattle.bg_ast.specs.Views.{call_of, proc_of};
 ghost use Rattle.bg_sense.specs.Variables.{count_from};
-ghost use Rattle.bg_calls.specs.Core.{Perform};
+ghost use Rattle.bg_flow.specs.Core.{Perform};
 ghost use Rattle.bg_passive.specs.Incarnations.{pass};
 ghost use Rattle.bg_incarnate.specs.Views.{passed_of, onto, plan_in};
 

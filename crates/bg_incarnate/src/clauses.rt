@@ -4,7 +4,7 @@ ghost use Rattle.bg_text.specs.Views.{option_of};
 ghost use Rattle.bg_ast.specs.Meaning as m;
 ghost use Rattle.bg_ast.specs.Views.{ex_of, candidate_of};
 ghost use Rattle.bg_places.specs.Views.{spot_in};
-ghost use Rattle.bg_calls.specs.Core.{demands, sayings};
+ghost use Rattle.bg_flow.specs.Core.{demands, sayings};
 ghost use Rattle.bg_blocks.specs.Views.{clauses_in};
 ghost use Rattle.bg_passive.specs.Passive.{Supposes};
 ghost use Rattle.bg_passive.specs.Incarnations.{claims_in, supposes_in};

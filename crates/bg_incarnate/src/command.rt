@@ -3,7 +3,7 @@ ghost use Rattle.std.specs.Prelude.{◌≡◌, map, OnOk};
 ghost use Rattle.bg_ast.specs.Resolved.{Program};
 ghost use Rattle.bg_ast.specs.Meaning as m;
 ghost use Rattle.bg_ast.specs.Views.{ex_of, exs_in, target_of};
-ghost use Rattle.bg_calls.specs.Core.{Put};
+ghost use Rattle.bg_flow.specs.Core.{Put};
 ghost use Rattle.bg_blocks.specs.Views.{cmd_of, target_variable};
 ghost use Rattle.bg_passive.specs.Incarnations.{pass, pass_all};
 ghost use Rattle.bg_incarnate.specs.Views.{passed_of, onto};

@@ -6,7 +6,7 @@ use Rattle.bg_ast.specs.Values.{Val}
 use Rattle.bg_ast.specs.Syntax.{Local, Exs, NoMore, More, Read, Not, Star, Test}
 use Rattle.bg_ast.specs.Execution.{Choice, Spot}
 use Rattle.bg_sense.specs.Eval.{Scope}
-use Rattle.bg_calls.specs.Core.{Demand, Saying, Cmd, Check, Suppose, Forget, Put, Perform, Finish}
+use Rattle.bg_flow.specs.Core.{Demand, Saying, Cmd, Check, Suppose, Forget, Put, Perform, Finish}
 use Rattle.bg_flow.specs.Blocks.{Exit, Leap, Either, Block}
 use Rattle.bg_passive.specs.Passive.{PassiveCmd, Claims, Supposes, Edge, Walked, On, Stopped, Hit, walk_cmds}
 use Rattle.bg_passive.specs.Incarnations.{Env, rename, hold_next, after_vars, after_exs, each_ex, each_decl, claims_in, supposes_in, is_worth, set_to, pass, pass_all, Arrival, joins, join_env, edge_to, edges, passives, targets_of}

@@ -3,7 +3,7 @@ use Rattle.std.proofs.Common.{◌≡◌, ℕ, zero, suc, Bool, true, false, List
 use Rattle.std.specs.Prelude.{not, ◌&&◌, ◌||◌, if◌then◌else◌, slice_get}
 use Rattle.bg_ast.specs.Execution.{Spot}
 use Rattle.bg_passive.specs.Passive.{spot_eq, Walked, On, Stopped, Hit}
-use Rattle.bg_wp.specs.Equations.{is_well}
+use Rattle.bg_passive.specs.Equations.{is_well}
 use Rattle.bg_formed.specs.Formed.{FormCmd, Asks, Takes, FormEdge, FormBlock}
 use Rattle.bg_formed.specs.Wells.{is_met, form_equation, all_form_well, form_equations}
 use Rattle.bg_model.specs.declared.turn.Turn.{Turn}

@@ -8,7 +8,7 @@ use Rattle.bg_sense.specs.Eval.{value_at}
 use Rattle.bg_sense.specs.Flow.{Failed}
 use Rattle.bg_sense.specs.Variables.{count_from, procedure_of}
 use Rattle.bg_sense.specs.Run.{induction_run}
-use Rattle.bg_calls.specs.Core.{frame_decls, routine_of}
+use Rattle.bg_flow.specs.Core.{frame_decls, routine_of}
 use Rattle.bg_flow.specs.Blocks.{Block, blocks_of}
 use Rattle.bg_passive.specs.Incarnations.{Arrival, passives, MakesPassive, ValuesFrom, passive_scope}
 use Rattle.bg_incarnate.specs.Walked.{next_in}

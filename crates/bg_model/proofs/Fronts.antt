@@ -11,12 +11,12 @@ use Rattle.bg_sense.specs.Choices.{choose_all, forget_all}
 use Rattle.bg_sense.specs.Variables.{put_all, type_in, decl_of, procedure_of}
 use Rattle.bg_sense.specs.Run.{context, start, induction_run}
 use Rattle.bg_sense.specs.Types.{are_of}
-use Rattle.bg_calls.specs.Core.{Saying, Plan, Cmd, Check, Suppose, Forget, Put, Perform, Finish, check_these, suppose_these, perform, act, act_all, frame_decls, routine_of}
+use Rattle.bg_flow.specs.Core.{Saying, Plan, Cmd, Check, Suppose, Forget, Put, Perform, Finish, check_these, suppose_these, perform, act, act_all, frame_decls, routine_of}
 use Rattle.bg_flow.specs.Blocks.{Block, Table, at_table, enter, index, leave, table, blocks_of}
 use Rattle.bg_passive.specs.Passive.{PassiveCmd, Walked, On, Stopped, Hit, is_absent, walk_cmds, walk_at, follow, walks}
 use Rattle.bg_passive.specs.Incarnations.{Env, rename, hold_next, after_vars, after_exs, each_ex, each_decl, claims_in, supposes_in, set_to, pass_call, pass, pass_all, Arrival, edges, passives, FitsCmd, FitsCmds, FitsBlocks, MakesPassive, ValuesFrom, first_state, entry_env, ty_of, incarnations, passive_scope}
 use Rattle.bg_passive.specs.ReadBack.{cmd_choices, choices_at, follow_choices}
-use Rattle.bg_calls.proofs.CoreRuns.{then_assoc}
+use Rattle.bg_flow.proofs.CoreRuns.{then_assoc}
 use Rattle.bg_flow.proofs.BlockRuns.{blocks_same}
 use Rattle.bg_passive.proofs.Renaming.{values, seen, same_scopes, Met, met_scope, MetBy}
 use Rattle.bg_passive.proofs.Walks.{Hits, hits_map, walk_hits, split_walk}

@@ -2,7 +2,7 @@
 use Rattle.std.proofs.Common.{◌≡◌, ℕ, zero, suc, ◌+◌, ◌-◌, ◌<◌, Bool, true, false, List, [], ◌∷◌, ◌++◌, length, map, take, drop, get_or, refl, sym, ap, ◌∙◌, append_assoc, arith}
 use Rattle.std.specs.Prelude.{min}
 use Rattle.bg_ast.specs.Execution as e
-use Rattle.bg_calls.specs.Core.{Cmd}
+use Rattle.bg_flow.specs.Core.{Cmd}
 use Rattle.bg_passive.specs.ReadBack.{cmd_choices}
 use Rattle.bg_incarnate.proofs.Passing.{drop_item}
 use Rattle.bg_formed.specs.declared.blocks.FormCmd as code

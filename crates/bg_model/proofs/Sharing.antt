@@ -16,7 +16,7 @@ use Rattle.bg_ast.specs.declared.resolved.Target.{Target}
 use Rattle.bg_ast.specs.declared.resolved.Call.{Call}
 use Rattle.bg_ast.specs.declared.resolved.Procedure.{Procedure}
 use Rattle.bg_ast.specs.declared.resolved.Variable.{Variable}
-use Rattle.bg_calls.specs.Core.{Plan, Forget, Put, Perform, demands, sayings, each_one}
+use Rattle.bg_flow.specs.Core.{Plan, Forget, Put, Perform, demands, sayings, each_one}
 use Rattle.bg_blocks.specs.Views.{clauses_in}
 use Rattle.bg_passive.specs.Incarnations.{Env, Passed, hold_next, after_vars, after_exs, each_ex, claims_in, supposes_in, set_to, pass}
 use Rattle.bg_passive.specs.ReadBack.{vars_choices, decls_choices, cmd_choices}

@@ -6,10 +6,10 @@ use Rattle.bg_ast.specs.Execution.{Interp, State, Spot}
 use Rattle.bg_sense.specs.Flow.{Failed}
 use Rattle.bg_sense.specs.Variables.{procedure_of}
 use Rattle.bg_sense.specs.Run.{induction_run}
-use Rattle.bg_calls.specs.Core.{frame_decls, routine_of}
+use Rattle.bg_flow.specs.Core.{frame_decls, routine_of}
 use Rattle.bg_flow.specs.Blocks.{Block, blocks_of}
 use Rattle.bg_passive.specs.Incarnations.{Arrival, passives, MakesPassive, ValuesFrom, passive_scope}
-use Rattle.bg_wp.specs.Equations.{is_well}
+use Rattle.bg_passive.specs.Equations.{is_well}
 use Rattle.bg_incarnate.specs.Walked.{next_in}
 use Rattle.bg_formed.specs.Formed.{FormBlock}
 use Rattle.bg_formed.specs.Wells.{form_equations}

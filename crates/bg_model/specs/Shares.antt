@@ -1,7 +1,7 @@
 -- What a command has of its block's passive commands and of the incarnations.
 use Rattle.std.specs.Prelude.{◌≡◌, ℕ, ◌+◌, List}
 use Rattle.bg_ast.specs.Values.{Val}
-use Rattle.bg_calls.specs.Core.{Cmd}
+use Rattle.bg_flow.specs.Core.{Cmd}
 use Rattle.bg_passive.specs.ReadBack.{cmd_choices}
 use Rattle.bg_model.specs.declared.share.Share.{Share}
 use Rattle.bg_model.specs.Fronts.{chosen_from}

@@ -2,7 +2,7 @@
 use Rattle.std.specs.Prelude.{ℕ, zero, suc, ◌+◌, Bool, true, false, if◌then◌else◌, List, [], ◌∷◌, ◌++◌, length, take, drop, Option, Some, None, slice_get}
 use Rattle.bg_ast.specs.Values.{Val}
 use Rattle.bg_ast.specs.Execution.{Choice}
-use Rattle.bg_calls.specs.Core.{Cmd, Check, Suppose, Forget, Put, Perform, Finish}
+use Rattle.bg_flow.specs.Core.{Cmd, Check, Suppose, Forget, Put, Perform, Finish}
 use Rattle.bg_flow.specs.Blocks.{Exit, Block}
 use Rattle.bg_passive.specs.Passive.{Walked, On, Stopped, Hit}
 use Rattle.bg_passive.specs.Incarnations.{after_exs, after_vars, after_decls, targets_of}

@@ -3,7 +3,7 @@ use Rattle.std.specs.Prelude.{ℕ, Bool, true, false, List, [], ◌++◌, map, s
 use Rattle.bg_ast.specs.Values.{Val}
 use Rattle.bg_ast.specs.Execution.{Choice}
 use Rattle.bg_places.specs.Views.{spot_of}
-use Rattle.bg_calls.specs.Core.{Cmd}
+use Rattle.bg_flow.specs.Core.{Cmd}
 use Rattle.bg_passive.specs.Passive.{Walked, On, Stopped, Hit}
 use Rattle.bg_forms.specs.Worth.{bools_at}
 use Rattle.bg_formed.specs.Formed.{FormCmd}

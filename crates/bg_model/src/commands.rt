@@ -2,7 +2,7 @@
 ghost use Rattle.std.specs.Prelude.{◌≡◌, ◌∷◌, List, map, IfOk};
 ghost use Rattle.bg_ast.specs.Execution as e;
 ghost use Rattle.bg_ast.specs.Resolved.{Program};
-ghost use Rattle.bg_calls.specs.Core as core;
+ghost use Rattle.bg_flow.specs.Core as core;
 ghost use Rattle.bg_blocks.specs.Views.{cmd_of};
 ghost use Rattle.bg_model.specs.Views.{if_goes, made_by, next_by};
 

@@ -3,7 +3,7 @@ ghost use Rattle.std.specs.Prelude.{◌≡◌, ◌+◌, ℕ, length, min, IfOk};
 ghost use Rattle.bg_ast.specs.Views.{call_of, proc_of};
 ghost use Rattle.bg_ast.specs.Execution.{Spot};
 ghost use Rattle.bg_ast.specs.Resolved.{Program};
-ghost use Rattle.bg_calls.specs.Core.{demands, sayings, Perform};
+ghost use Rattle.bg_flow.specs.Core.{demands, sayings, Perform};
 ghost use Rattle.bg_blocks.specs.Views.{clauses_in, cmd_of};
 ghost use Rattle.bg_incarnate.specs.Views.{is_kept_by, plan_in};
 ghost use Rattle.bg_model.specs.Shares.{IsShare, plain, assigned};

@@ -10,7 +10,7 @@ use Rattle.bg_sense.specs.Variables.{type_in, count_from}
 use Rattle.bg_sense.specs.Run.{context}
 use Rattle.bg_sense.specs.Types.{types_of}
 use Rattle.bg_sense.specs.Typing.{Sig, HaveTypes, sig_of, IsTypedSt}
-use Rattle.bg_calls.specs.Core.{Cmd, Check, Suppose, Forget, Put, Perform, Finish, frame_decls, routine_of}
+use Rattle.bg_flow.specs.Core.{Cmd, Check, Suppose, Forget, Put, Perform, Finish, frame_decls, routine_of}
 use Rattle.bg_flow.specs.Blocks.{Block, blocks_of}
 use Rattle.bg_passive.specs.Incarnations.{Env, hold, hold_all, hold_next, after_vars, after_exs, after_decls, each_ex, each_decl, pass, pass_all, Arrival, ty_of, TypesFrom, FitsCmd, FitsCmds, Below, EnvBelow, ForBool, JoinsFit, after_joins, FitsJoin, FitEach, targets_of, FitsBlocks, IsTypedCmd, AreTypedCmds, AreTypedBlocks, entry_env, TypedNums, EnvTyped, ArrivalsTyped, incarnations, MakesPassive}
 use Rattle.bg_passive.specs.Arrivals.{all_begin, tails, merge, after_merge, merge_types, globals_in, frames_in, arrive_at, arrive_types, Ways, ways_here, ways_on, way_to, ways_to, cmd_types, cmds_types, arrive, arrived}

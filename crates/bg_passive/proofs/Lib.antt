@@ -5,3 +5,6 @@ pub mod PassiveBackward
 pub mod PassiveTyped
 pub mod Arriving
 pub mod PassiveRuns
+pub mod DeniedWalks
+pub mod EquationRuns
+pub mod Capped

@@ -11,12 +11,12 @@ use Rattle.bg_sense.specs.Context.{Ctx, scope, callee_scope}
 use Rattle.bg_sense.specs.Choices.{choose_from, forget_all, choose_all}
 use Rattle.bg_sense.specs.Variables.{put, put_all, type_in, decl_of}
 use Rattle.bg_sense.specs.Types.{are_of, types_of}
-use Rattle.bg_calls.specs.Core.{Demand, Saying, Plan, Cmd, Check, Suppose, Forget, Put, Perform, Finish, check_that, check_these, suppose_this, suppose_these, perform, act, act_all}
+use Rattle.bg_flow.specs.Core.{Demand, Saying, Plan, Cmd, Check, Suppose, Forget, Put, Perform, Finish, check_that, check_these, suppose_this, suppose_these, perform, act, act_all}
 use Rattle.bg_flow.specs.Blocks.{Exit, Leap, Either, Block, Table, at_table, enter, index, nth, leave, table}
 use Rattle.bg_passive.specs.Passive.{PassiveCmd, Supposes, PassiveBlock, spot_eq, is_absent, Walked, On, Stopped, Hit, walk_cmds, walk_at, walk_edge, follow, walks}
 use Rattle.bg_passive.specs.Incarnations.{Env, rename, hold, hold_next, after_vars, after_exs, each_ex, each_decl, claims_in, supposes_in, is_worth, set_to, pass_call, pass, pass_all, Arrival, joins, join_env, edge_to, edges, passives, TypesFrom, FitsCmd, FitsCmds, ForBool, JoinsFit, after_joins, FitsJoin, FitEach, targets_of, FitsBlocks}
 use Rattle.bg_passive.specs.ReadBack.{vars_choices, decls_choices, cmd_choices, cmds_choices, choices_at, choices_to, follow_choices, walk_choices}
-use Rattle.bg_calls.proofs.CoreRuns.{then_assoc}
+use Rattle.bg_flow.proofs.CoreRuns.{then_assoc}
 use Rattle.bg_passive.proofs.Renaming.{val_eq_true, get_are, map_append, spot_true, values, seen, renamed, same_scopes, Met, met_scope, hold_met, hold_all_met, MetBy}
 use Rattle.bg_passive.proofs.Walks.{Hits, hits_map, walk_hits, split_walk, checked, supposed}
 

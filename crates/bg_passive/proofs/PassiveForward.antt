@@ -13,12 +13,12 @@ use Rattle.bg_sense.specs.Variables.{put, put_all, type_in, decl_of}
 use Rattle.bg_sense.specs.Types.{are_of, types_of}
 use Rattle.bg_sense.proofs.Keeping.{AreTyped}
 use Rattle.bg_sense.specs.Typing.{Sig, HaveTypes}
-use Rattle.bg_calls.specs.Core.{Demand, Saying, Plan, Cmd, Check, Suppose, Forget, Put, Perform, Finish, check_that, check_these, suppose_this, suppose_these, perform, act, act_all}
+use Rattle.bg_flow.specs.Core.{Demand, Saying, Plan, Cmd, Check, Suppose, Forget, Put, Perform, Finish, check_that, check_these, suppose_this, suppose_these, perform, act, act_all}
 use Rattle.bg_flow.specs.Blocks.{Exit, Leap, Either, Block, Table, at_table, enter, index, nth, leave, table}
 use Rattle.bg_passive.specs.Passive.{PassiveCmd, Supposes, Edge, PassiveBlock, spot_eq, is_absent, Walked, On, Stopped, Hit, walk_cmds, walk_on, walk_at, walk_edge, follow, walks}
 use Rattle.bg_passive.specs.Incarnations.{Env, rename, hold, hold_next, after_vars, after_exs, after_decls, each_ex, each_decl, claims_in, supposes_in, is_worth, set_to, pass_call, pass, pass_all, Arrival, joins, join_env, edge_to, edges, passives, TypesFrom, FitsCmd, FitsCmds, Below, EnvBelow, ForBool, JoinsFit, after_joins, FitsJoin, FitEach, targets_of, FitsBlocks, IsTypedCmd, AreTypedCmds, AreTypedBlocks}
 use Rattle.bg_sense.proofs.Bools.{and_left, and_right, both}
-use Rattle.bg_calls.proofs.CoreRuns.{then_assoc}
+use Rattle.bg_flow.proofs.CoreRuns.{then_assoc}
 use Rattle.bg_passive.proofs.Renaming.{val_eq_refl, set_there, set_elsewhere, set_are, get_are, Agree, agree_on, map_agree, below_more, below_append, map_append, env_more, hold_below, hold_all_below, spot_refl, values, seen, renamed, same_scopes, Met, met_scope, seen_agree, met_agree, hold_met, head_same, tail_same, hold_all_met}
 use Rattle.bg_sense.proofs.Renews.{put_typed}
 use Rattle.bg_passive.proofs.Walks.{Hits, hits_walk, join_walk, checked, supposed}

@@ -14,7 +14,7 @@ use Rattle.bg_sense.specs.Interps.{IsInterp}
 use Rattle.bg_sense.specs.Claims.{IsState, frame_of, frame_with}
 use Rattle.bg_sense.proofs.Keeping.{AreTyped}
 use Rattle.bg_sense.specs.Typing.{AreTypedBodies, IsTypedSt, HaveTypes, sig_of}
-use Rattle.bg_calls.specs.Core.{frame_decls, routine_of}
+use Rattle.bg_flow.specs.Core.{frame_decls, routine_of}
 use Rattle.bg_flow.specs.Blocks.{Block, at_table, table, blocks_of}
 use Rattle.bg_passive.specs.Passive.{walk_at, walks, SomeWalk}
 use Rattle.bg_passive.specs.Incarnations.{Arrival, passives, ty_of, entry_env, incarnations, MakesPassive, first_state, passive_scope, ValuesFrom}

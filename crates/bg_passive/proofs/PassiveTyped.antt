@@ -6,7 +6,7 @@ use Rattle.bg_ast.specs.Syntax.{Proc, Impl, Var, Global, Local, Call, St, Skip, 
 use Rattle.bg_sense.specs.Context.{Ctx}
 use Rattle.bg_sense.specs.Variables.{type_in, decl_of, procedure_of}
 use Rattle.bg_sense.specs.Typing.{Sig, HaveTypes, sig_of, types_at, CallHasType, IsTypedSt}
-use Rattle.bg_calls.specs.Core.{Core, Nil, Seq, Mark, Do, To, Choose, Loop, calls_of, desugar, frame_decls, routine_of}
+use Rattle.bg_flow.specs.Core.{Core, Nil, Seq, Mark, Do, To, Choose, Loop, calls_of, desugar, frame_decls, routine_of}
 use Rattle.bg_flow.specs.Blocks.{Block, Places, past, next_one, code, to_closing, blocks_of}
 use Rattle.bg_passive.specs.Incarnations.{ty_of, AreTypedCmds, AreTypedBlocks}
 

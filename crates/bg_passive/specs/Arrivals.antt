@@ -3,7 +3,7 @@ use Rattle.std.specs.Prelude.{ℕ, zero, suc, ◌+◌, Bool, true, false, ◌&&�
 use Rattle.bg_ast.specs.Values.{Ty}
 use Rattle.bg_ast.specs.Syntax.{Var, Decl, Prog}
 use Rattle.bg_sense.specs.Types.{types_of}
-use Rattle.bg_calls.specs.Core.{Cmd, Forget, Put, Perform}
+use Rattle.bg_flow.specs.Core.{Cmd, Forget, Put, Perform}
 use Rattle.bg_flow.specs.Blocks.{Block}
 use Rattle.bg_passive.specs.Incarnations.{Env, pass_all, Arrival, targets_of, ty_of, entry_env}
 

@@ -4,7 +4,7 @@ use Rattle.bg_ast.specs.Values.{Val}
 use Rattle.bg_ast.specs.Syntax.{Var, Star, Test, Decl}
 use Rattle.bg_sense.specs.Eval.{value_at}
 use Rattle.bg_ast.specs.Execution.{Choice, Branch, Chosen}
-use Rattle.bg_calls.specs.Core.{Cmd, Forget, Perform}
+use Rattle.bg_flow.specs.Core.{Cmd, Forget, Perform}
 use Rattle.bg_flow.specs.Blocks.{Exit, Leap, Either, Block}
 use Rattle.bg_passive.specs.Incarnations.{Env, after_vars, after_exs, pass, Arrival, targets_of}
 

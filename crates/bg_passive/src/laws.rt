@@ -13,7 +13,7 @@ ghost use Rattle.bg_sense.specs.Typing.{AreTypedBodies, IsTypedSt};
 ghost use Rattle.bg_sense.specs.Interps.{IsInterp, Meets};
 ghost use Rattle.bg_sense.specs.Places.{places};
 ghost use Rattle.bg_sense.specs.Claims.{Safe, IsState, EachAt};
-ghost use Rattle.bg_calls.specs.Core.{frame_decls, routine_of, still};
+ghost use Rattle.bg_flow.specs.Core.{frame_decls, routine_of, still};
 ghost use Rattle.bg_flow.specs.Blocks.{blocks_of};
 ghost use Rattle.bg_passive.specs.Passive.{walk_at, walks, SomeWalk};
 ghost use Rattle.bg_passive.specs.Incarnations.{Arrival, passives, MakesPassive, passive_scope, ValuesFrom, incarnations, ArrivalsTyped};

@@ -1,2 +1,4 @@
 pub mod Placed
 pub mod Views
+pub mod Checks
+pub mod Counts

@@ -13,7 +13,7 @@ use Rattle.bg_sense.specs.Context.{Cut, Ctx}
 use Rattle.bg_sense.specs.Clauses.{ensure, suppose, is_kept}
 use Rattle.bg_sense.specs.Variables as v
 use Rattle.bg_sense.specs.Choices.{choose, choose_from, forget_all}
-use Rattle.bg_calls.specs.Core.{Demand, Saying, check_that, check_these, suppose_this, suppose_these}
+use Rattle.bg_flow.specs.Core.{Demand, Saying, check_that, check_these, suppose_this, suppose_these}
 use Rattle.bg_scalar.specs.Worths.{Seen, worth}
 use Rattle.bg_scalar.specs.Values.{val_of, scope_in}
 use Rattle.bg_scalar.specs.Choices.{choice_of}

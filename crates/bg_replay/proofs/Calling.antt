@@ -11,7 +11,7 @@ use Rattle.bg_sense.specs.Flow.{World, BadChoice, Flow, Next, and_then}
 use Rattle.bg_sense.specs.Context.{Ctx, scope, callee_scope}
 use Rattle.bg_sense.specs.Variables as v
 use Rattle.bg_sense.specs.Choices.{forget_all, choose_all}
-use Rattle.bg_calls.specs.Core.{Saying, Plan, Cmd, Check, Suppose, Forget, Put, Perform, Finish, check_these, suppose_these, act, act_all}
+use Rattle.bg_flow.specs.Core.{Saying, Plan, Cmd, Check, Suppose, Forget, Put, Perform, Finish, check_these, suppose_these, act, act_all}
 use Rattle.bg_scalar.specs.Worths.{Seen}
 use Rattle.bg_scalar.specs.Lists.{Listed, Are, Leave, NoScalars, worths}
 use Rattle.bg_scalar.specs.Values.{val_of}

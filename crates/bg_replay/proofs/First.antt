@@ -12,7 +12,7 @@ use Rattle.bg_fits.specs.Holdings.{holdings_of}
 use Rattle.bg_sense.specs.Eval.{Scope, ev}
 use Rattle.bg_sense.specs.Flow.{Answer, Blocked, Failed}
 use Rattle.bg_sense.specs.Clauses.{is_kept}
-use Rattle.bg_calls.specs.Core.{Demand, Saying, Plan, Cmd, Check, Suppose, Forget, Put, Perform, Finish}
+use Rattle.bg_flow.specs.Core.{Demand, Saying, Plan, Cmd, Check, Suppose, Forget, Put, Perform, Finish}
 use Rattle.bg_flow.specs.Blocks.{Exit, Leap, Either, Block}
 use Rattle.bg_scalar.specs.Worths.{Seen, and_then, exact, takes, on_truths, on_numbers, operate, joined, not_on, minus_on, known, at_entry, worth}
 use Rattle.bg_scalar.specs.Lists as lists

@@ -8,7 +8,7 @@ use Rattle.bg_sense.specs.Clauses.{is_kept}
 use Rattle.bg_sense.specs.Types.{are_of}
 use Rattle.bg_sense.specs.Typing.{Sig, HaveTypes}
 use Rattle.bg_sense.proofs.Bools.{both}
-use Rattle.bg_calls.specs.Core.{Demand, Saying}
+use Rattle.bg_flow.specs.Core.{Demand, Saying}
 use Rattle.bg_block_types.specs.TypedFlow.{DemandsAreTyped, SayingsAreTyped}
 use Rattle.bg_scalar.specs.Worths.{Seen, worth}
 use Rattle.bg_scalar.specs.Lists.{Listed, Are, Leave, NoScalars, cons, worths}

@@ -4,7 +4,7 @@ use Rattle.bg_ast.specs.Syntax.{Var, Global, Local, Star, Test}
 use Rattle.bg_fits.specs.Holdings.{holdings_of}
 use Rattle.bg_fits.specs.declared.types.Holding.{Holding}
 use Rattle.bg_sense.specs.Flow.{BadChoice}
-use Rattle.bg_calls.specs.Core.{Demand, Saying, Cmd, Check, Suppose, Forget, Put, Perform, Finish}
+use Rattle.bg_flow.specs.Core.{Demand, Saying, Cmd, Check, Suppose, Forget, Put, Perform, Finish}
 use Rattle.bg_flow.specs.Blocks.{Exit, Leap, Either, Block}
 use Rattle.bg_scalar.specs.Lists.{Listed, Are, Leave, NoScalars, worths}
 use Rattle.bg_scalar.specs.Worths.{worth}

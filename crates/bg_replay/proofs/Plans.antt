@@ -12,7 +12,7 @@ use Rattle.bg_ast.specs.declared.resolved.Procedure.{Procedure}
 use Rattle.bg_ast.specs.declared.resolved.Variable.{Variable}
 use Rattle.bg_sense.specs.Flow.{Blocked}
 use Rattle.bg_sense.specs.Variables.{wheres_of, wheres_at, wheres_in, modified}
-use Rattle.bg_calls.specs.Core.{Saying, Plan, Perform, demands, sayings, plain, each_one, plan_of, still}
+use Rattle.bg_flow.specs.Core.{Saying, Plan, Perform, demands, sayings, plain, each_one, plan_of, still}
 use Rattle.bg_blocks.specs.Views.{clauses_in, procedure_in}
 use Rattle.bg_scalar.specs.Worths.{Seen, worth}
 use Rattle.bg_scalar.specs.declared.scalar.Scalar.TheVariants.{Truth, Number}

@@ -9,7 +9,7 @@ use Rattle.bg_sense.specs.Flow as f
 use Rattle.bg_sense.specs.Flow.{World, Answer, Ended, BadChoice, Flow, Next, Jumps, Behind, and_then}
 use Rattle.bg_sense.specs.Context.{Ctx, scope}
 use Rattle.bg_sense.specs.Choices.{branch_from, decide}
-use Rattle.bg_calls.specs.Core.{act_all}
+use Rattle.bg_flow.specs.Core.{act_all}
 use Rattle.bg_flow.specs.Blocks.{Block, Exit, Leap, Either, Table, at_table, enter, index, leave, table}
 use Rattle.bg_scalar.specs.Worths.{worth}
 use Rattle.bg_scalar.specs.Choices.{choice_of}

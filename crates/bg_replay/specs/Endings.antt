@@ -9,7 +9,7 @@ use Rattle.bg_sense.specs.Types.{are_of, types_of}
 use Rattle.bg_sense.specs.Flow.{Answer}
 use Rattle.bg_sense.specs.Context.{Cut}
 use Rattle.bg_sense.specs.Run.{context, start}
-use Rattle.bg_calls.specs.Core.{frame_decls}
+use Rattle.bg_flow.specs.Core.{frame_decls}
 use Rattle.bg_flow.specs.Blocks.{blocks_run}
 use Rattle.bg_block_types.specs.TypedFlow.{CodeIsTyped}
 use Rattle.bg_blocks.specs.Views.{block_of}

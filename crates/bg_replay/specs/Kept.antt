@@ -1,6 +1,6 @@
 -- Which clauses are assumed.
 use Rattle.std.specs.Prelude.{Bool}
-use Rattle.bg_calls.specs.Core.{each_one, the_checked, the_free}
+use Rattle.bg_flow.specs.Core.{each_one, the_checked, the_free}
 use Rattle.bg_blocks.specs.declared.block.Kept.{Kept}
 use Rattle.bg_blocks.specs.declared.block.Kept.TheVariants as kept
 

@@ -9,7 +9,7 @@ use Rattle.bg_ast.specs.Syntax.{Op, Plus, Minus, Times, Ex, Not, Negative, Binar
 use Rattle.bg_fits.specs.Holdings.{holdings_of}
 use Rattle.bg_sense.specs.Eval.{Scope, ev}
 use Rattle.bg_sense.specs.Clauses.{is_kept}
-use Rattle.bg_calls.specs.Core.{Demand, Saying, Plan, Cmd, Check, Suppose, Forget, Put, Perform, Finish}
+use Rattle.bg_flow.specs.Core.{Demand, Saying, Plan, Cmd, Check, Suppose, Forget, Put, Perform, Finish}
 use Rattle.bg_flow.specs.Blocks.{Exit, Either, Block}
 use Rattle.bg_scalar.specs.Worths.{Seen}
 use Rattle.bg_scalar.specs.Lists.{Listed, Are, worths}

@@ -2,7 +2,7 @@
 use Rattle.std.specs.Prelude.{Bool, true, ◌&&◌, List, [], ◌∷◌}
 use Rattle.bg_ast.specs.Syntax.{Exs, NoMore, More, Star, Test}
 use Rattle.bg_fits.specs.Holdings.{holdings_of}
-use Rattle.bg_calls.specs.Core.{Demand, Saying, Plan, Cmd, Check, Suppose, Forget, Put, Perform, Finish}
+use Rattle.bg_flow.specs.Core.{Demand, Saying, Plan, Cmd, Check, Suppose, Forget, Put, Perform, Finish}
 use Rattle.bg_flow.specs.Blocks.{Exit, Leap, Either, Block}
 use Rattle.bg_scalar.specs.Typed.{is_scalar}
 use Rattle.bg_replay.specs.Holds.{hold_scalars}

@@ -3,7 +3,7 @@ use Rattle.std.specs.Prelude.{ℕ, Bool, true, false, if◌then◌else◌, List,
 use Rattle.bg_base.specs.declared.exact.OutOfRange.{OutOfRange}
 use Rattle.bg_sense.specs.Flow.{Answer, Blocked, Failed}
 use Rattle.bg_sense.specs.Clauses.{is_kept}
-use Rattle.bg_calls.specs.Core.{Demand, Saying}
+use Rattle.bg_flow.specs.Core.{Demand, Saying}
 use Rattle.bg_scalar.specs.Worths.{Seen, worth}
 use Rattle.bg_scalar.specs.declared.scalar.Scalar.TheVariants.{Truth, Number}
 use Rattle.bg_scalar.specs.declared.scalar.Worth.{Worth}

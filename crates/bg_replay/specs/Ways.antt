@@ -3,7 +3,7 @@ use Rattle.std.specs.Prelude.{ℕ, zero, suc, true, false, List, [], ◌∷◌, 
 use Rattle.bg_base.specs.declared.exact.OutOfRange.{OutOfRange}
 use Rattle.bg_ast.specs.Syntax.{Guard, Star, Test}
 use Rattle.bg_sense.specs.Flow.{Answer, Ended, BadChoice}
-use Rattle.bg_calls.specs.Core.{Cmd}
+use Rattle.bg_flow.specs.Core.{Cmd}
 use Rattle.bg_flow.specs.Blocks.{Exit, Leap, Either, Block}
 use Rattle.bg_scalar.specs.Worths.{worth}
 use Rattle.bg_scalar.specs.declared.choice.Choice.{Choice}

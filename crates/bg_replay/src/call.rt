@@ -3,7 +3,7 @@ ghost use Rattle.std.specs.Prelude.{◌≡◌, map, IfOk};
 ghost use Rattle.bg_ast.specs.Meaning as m;
 ghost use Rattle.bg_ast.specs.Execution.{AtCall};
 ghost use Rattle.bg_ast.specs.Views.{program_of, declared_of, exs_in, placed_of, var_of};
-ghost use Rattle.bg_calls.specs.Core.{demands, sayings, each_one};
+ghost use Rattle.bg_flow.specs.Core.{demands, sayings, each_one};
 ghost use Rattle.bg_blocks.specs.Views.{clauses_in};
 ghost use Rattle.bg_scalar.specs.Lists.{Are};
 ghost use Rattle.bg_replay.specs.Acts.{chosen, called, called_with, given_back};

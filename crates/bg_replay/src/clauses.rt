@@ -5,7 +5,7 @@ ghost use Rattle.bg_ast.specs.Views.{candidate_of};
 ghost use Rattle.bg_sense.specs.Flow.{Blocked, Failed};
 ghost use Rattle.bg_sense.specs.Clauses as kept;
 ghost use Rattle.bg_places.specs.Views.{spot_in};
-ghost use Rattle.bg_calls.specs.Core.{demands, sayings};
+ghost use Rattle.bg_flow.specs.Core.{demands, sayings};
 ghost use Rattle.bg_blocks.specs.Views.{clauses_in};
 ghost use Rattle.bg_replay.specs.Said.{checks, supposes, or_stops};
 ghost use Rattle.bg_replay.specs.Kept.{which_of};

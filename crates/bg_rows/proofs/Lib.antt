@@ -5,3 +5,4 @@ pub mod Agree
 pub mod Normal
 pub mod Places
 pub mod Sound
+pub mod Keyed

@@ -3,10 +3,12 @@
 
 mod derive;
 mod entry;
+pub mod keys;
 pub mod laws;
 mod made;
 mod refused;
 mod row;
+mod row_key;
 mod step;
 mod sums;
 mod tight;
@@ -16,6 +18,7 @@ pub use entry::Entry;
 pub use made::{copy, is_false};
 pub use refused::Refused;
 pub use row::Row;
+pub use row_key::{Key, key};
 pub use step::Step;
 pub use sums::{combine, deny};
 pub use tight::{

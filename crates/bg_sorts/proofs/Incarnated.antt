@@ -6,7 +6,7 @@ use Rattle.bg_ast.specs.Values.{Ty}
 use Rattle.bg_ast.specs.Syntax.{Var, Global, Local, Decl, Prog}
 use Rattle.bg_sense.specs.Types.{types_of}
 use Rattle.bg_sense.specs.Variables.{type_in}
-use Rattle.bg_calls.specs.Core.{Cmd, Check, Suppose, Forget, Put, Perform, Finish}
+use Rattle.bg_flow.specs.Core.{Cmd, Check, Suppose, Forget, Put, Perform, Finish}
 use Rattle.bg_flow.specs.Blocks.{Block}
 use Rattle.bg_passive.specs.Incarnations.{Env, Below, EnvBelow, pass_all, entry_env, ty_of, incarnations}
 use Rattle.bg_passive.specs.Arrivals.{Ways, all_begin, tails, merge, after_merge, merge_types, globals_in, frames_in, arrive_at, arrive_types, ways_here, cmd_types, cmds_types, arrive, arrived}

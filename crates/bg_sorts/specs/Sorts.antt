@@ -3,7 +3,7 @@ use Rattle.std.specs.Prelude.{List, [], ◌∷◌, ◌++◌, map, Option, Some, 
 use Rattle.bg_ast.specs.Values.{Ty, IntTy, BoolTy}
 use Rattle.bg_ast.specs.Syntax.{Var, Global, Local, Decl}
 use Rattle.bg_sense.specs.Types.{types_of}
-use Rattle.bg_calls.specs.Core.{Cmd, Forget, Put, Perform}
+use Rattle.bg_flow.specs.Core.{Cmd, Forget, Put, Perform}
 use Rattle.bg_linear.specs.declared.scalar.Sort.{Sort}
 use Rattle.bg_linear.specs.declared.scalar.Sort.TheVariants as sort
 

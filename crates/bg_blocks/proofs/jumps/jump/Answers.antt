@@ -1,4 +1,4 @@
-use Rattle.bg_calls.specs.Core.{to_each}
+use Rattle.bg_flow.specs.Core.{to_each}
 use Rattle.std.proofs.lemmas.Result.{on_ok_weaker}
 use Rattle.bg_blocks.proofs.jumps.jump.Goals as goal
 

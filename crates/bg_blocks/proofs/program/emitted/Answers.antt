@@ -2,7 +2,7 @@ use Rattle.std.proofs.Common.{◌≡◌, [], map, ap}
 use Rattle.std.specs.Prelude.{reverse}
 use Rattle.bg_ast.specs.Meaning as m
 use Rattle.bg_ast.specs.Views.{program_of, sts_in}
-use Rattle.bg_calls.specs.Core.{desugar}
+use Rattle.bg_flow.specs.Core.{desugar}
 use Rattle.bg_blocks.specs.declared.emit.Emitted.{Emitted}
 use Rattle.bg_blocks.specs.Views.{block_of, clauses_in}
 use Rattle.bg_blocks.specs.EmittedViews.{state_of, frame_of}

@@ -2,7 +2,7 @@ use Rattle.std.proofs.Common.{map, ◌∙◌, arith}
 use Rattle.std.proofs.lemmas.Result.{on_ok_weaker}
 use Rattle.bg_ast.specs.Meaning as m
 use Rattle.bg_ast.specs.Views.{guard_of, var_of}
-use Rattle.bg_calls.specs.Core.{head_of}
+use Rattle.bg_flow.specs.Core.{head_of}
 use Rattle.bg_blocks.specs.Views.{clauses_in}
 use Rattle.bg_blocks.proofs.TakenBack.{left_sound, closed}
 use Rattle.bg_blocks.proofs.sides.close_loop.Goals as goal

@@ -2,7 +2,7 @@ use Rattle.std.proofs.Common.{◌≡◌, [], ◌∷◌, map, sym, subst, ap, ◌
 use Rattle.std.proofs.lemmas.Result.{on_ok_weaker}
 use Rattle.bg_ast.specs.Meaning.{meaning_of, variable_of}
 use Rattle.bg_ast.specs.Views.{placed_of}
-use Rattle.bg_calls.specs.Core.{Forget, Suppose, Do, plain, still}
+use Rattle.bg_flow.specs.Core.{Forget, Suppose, Do, plain, still}
 use Rattle.bg_blocks.specs.Views.{cmd_of}
 use Rattle.bg_blocks.specs.Emitted.{Emits}
 use Rattle.bg_sense.specs.Variables.{wheres_at}

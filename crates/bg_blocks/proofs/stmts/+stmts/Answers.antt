@@ -5,7 +5,7 @@ use Rattle.bg_ast.specs.Syntax as s
 use Rattle.bg_ast.specs.Meaning as m
 use Rattle.bg_ast.specs.Views.{program_of, st_of, sts_in, arms_from, arm_view, guard_of, clause_of, var_of, placed_of, target_of, exs_in}
 use Rattle.bg_sense.specs.Flow.{Behind}
-use Rattle.bg_calls.specs.Core.{Seq, Mark, Loop, desugar, head_of}
+use Rattle.bg_flow.specs.Core.{Seq, Mark, Loop, desugar, head_of}
 use Rattle.bg_blocks.specs.Views.{clauses_in, target_variable}
 use Rattle.bg_blocks.specs.Emitted.{Emits, marked_at, marked_each}
 use Rattle.bg_blocks.specs.EmittedViews.{state_of, EmitsBody, frame_of}

@@ -2,7 +2,7 @@ use Rattle.std.proofs.Common.{◌≡◌, ◌+◌, ◌*◌, ◌≤◌, List, leng
 use Rattle.bg_ast.specs.Resolved as r
 use Rattle.bg_ast.specs.Meaning as m
 use Rattle.bg_ast.specs.Views.{program_of, st_of, sts_in, arms_from, arm_view}
-use Rattle.bg_calls.specs.Core.{desugar}
+use Rattle.bg_flow.specs.Core.{desugar}
 use Rattle.bg_blocks.specs.Emitted.{Emits, marked_each}
 use Rattle.bg_blocks.specs.EmittedViews.{state_of, IsSound, EmitsBody, frame_of}
 use Rattle.bg_blocks.proofs.Sizes.{size_st, size_sts, size_arms}

@@ -1,7 +1,7 @@
 use Rattle.std.proofs.Common.{sym, subst}
 use Rattle.std.proofs.lemmas.Result.{on_ok_weaker}
 use Rattle.bg_sense.specs.Flow.{ToLabel}
-use Rattle.bg_calls.specs.Core.{Mark}
+use Rattle.bg_flow.specs.Core.{Mark}
 use Rattle.bg_blocks.specs.Emitted.{Emits}
 use Rattle.bg_blocks.specs.EmittedViews.{state_of}
 use Rattle.bg_blocks.proofs.Emission.{emits_mark}

@@ -1,7 +1,7 @@
 use Rattle.std.proofs.Common.{rules, ◌≡◌, map, inr, sym, ap, Some, None, length, ◌++◌, ◌∷◌, []}
 use Rattle.std.proofs.lemmas.List.{length-map}
 use Rattle.bg_rows.specs.Rows.{row_of}
-use Rattle.bg_keys.specs.Keys.{key_of}
+use Rattle.bg_rows.specs.Keys.{key_of}
 use Rattle.bg_elim.specs.Keys.{place_of}
 use Rattle.bg_elim.proofs.Orders.{at_last}
 use Rattle.bg_elim.proofs.Places.{found, new_from}

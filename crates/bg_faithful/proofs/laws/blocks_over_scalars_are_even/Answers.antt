@@ -1,4 +1,4 @@
-use Rattle.bg_calls.specs.Core.{frame_decls}
+use Rattle.bg_flow.specs.Core.{frame_decls}
 use Rattle.bg_block_types.specs.Typed.{blocks_in}
 use Rattle.bg_faithful.proofs.Even.{blocks_even}
 use Rattle.bg_faithful.proofs.laws.blocks_over_scalars_are_even.Goals as goal

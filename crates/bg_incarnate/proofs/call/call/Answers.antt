@@ -2,7 +2,7 @@ use Rattle.std.proofs.Common.{map, length, refl, ◌∙◌}
 use Rattle.bg_ast.specs.Meaning as m
 use Rattle.bg_ast.specs.Execution.{AtCall}
 use Rattle.bg_ast.specs.Views.{exs_in, placed_of, var_of}
-use Rattle.bg_calls.specs.Core.{demands, sayings, each_one}
+use Rattle.bg_flow.specs.Core.{demands, sayings, each_one}
 use Rattle.bg_blocks.specs.Views.{clauses_in}
 use Rattle.bg_incarnate.specs.Views.{cmds_of, held_env}
 use Rattle.bg_incarnate.proofs.Calls.{called_steps, onto_plan}

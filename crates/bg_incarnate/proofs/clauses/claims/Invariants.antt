@@ -1,6 +1,6 @@
 use Rattle.std.proofs.Common.{◌≡◌, ◌++◌, drop}
 use Rattle.bg_places.specs.Views.{spot_in}
-use Rattle.bg_calls.specs.Core.{demands}
+use Rattle.bg_flow.specs.Core.{demands}
 use Rattle.bg_blocks.specs.Views.{clauses_in}
 use Rattle.bg_passive.specs.Incarnations.{claims_in}
 use Rattle.bg_renamed.specs.Views.{env_of}

@@ -5,7 +5,7 @@ use Rattle.bg_ast.specs.Meaning as m
 use Rattle.bg_ast.specs.Meaning.{meaning_of}
 use Rattle.bg_ast.specs.Views.{program_of}
 use Rattle.bg_blocks.specs.Views.{block_of}
-use Rattle.bg_calls.specs.Core.{frame_decls}
+use Rattle.bg_flow.specs.Core.{frame_decls}
 use Rattle.bg_forms.specs.Worth.{bools_at}
 use Rattle.bg_formed.specs.Views.{form_block_of}
 use Rattle.bg_places.specs.Views.{spot_of}

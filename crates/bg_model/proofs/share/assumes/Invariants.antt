@@ -1,5 +1,5 @@
 use Rattle.std.proofs.Common.{◌≡◌, ◌+◌, length, ◌≤◌, drop}
-use Rattle.bg_calls.specs.Core.{sayings}
+use Rattle.bg_flow.specs.Core.{sayings}
 use Rattle.bg_blocks.specs.Views.{clauses_in}
 use Rattle.bg_incarnate.specs.Views.{is_kept_by}
 use Rattle.bg_model.proofs.share.assumes.Given as goal

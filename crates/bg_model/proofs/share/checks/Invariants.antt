@@ -1,6 +1,6 @@
 use Rattle.std.proofs.Common.{◌≡◌, ◌+◌, ℕ, length, ◌≤◌, drop}
 use Rattle.bg_ast.specs.Execution.{Spot}
-use Rattle.bg_calls.specs.Core.{demands}
+use Rattle.bg_flow.specs.Core.{demands}
 use Rattle.bg_blocks.specs.Views.{clauses_in}
 use Rattle.bg_model.proofs.share.checks.Given as goal
 

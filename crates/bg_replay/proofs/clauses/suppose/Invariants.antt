@@ -1,5 +1,5 @@
 use Rattle.std.proofs.Common.{◌≡◌, drop}
-use Rattle.bg_calls.specs.Core.{sayings}
+use Rattle.bg_flow.specs.Core.{sayings}
 use Rattle.bg_blocks.specs.Views.{clauses_in}
 use Rattle.bg_replay.specs.Said.{supposes}
 use Rattle.bg_replay.specs.Kept.{which_of}

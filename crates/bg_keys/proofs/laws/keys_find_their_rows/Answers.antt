@@ -1,7 +1,0 @@
-use Rattle.bg_rows.specs.Rows.{RowOf}
-use Rattle.bg_keys.specs.Keys.{key_of}
-use Rattle.bg_keys.proofs.Keyed.{key_same}
-use Rattle.bg_keys.proofs.laws.keys_find_their_rows.Goals as goal
-
-pub returns : goal.returns
-returns c = λ (r : RowOf). key_same (key_of r)

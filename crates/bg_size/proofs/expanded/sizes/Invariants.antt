@@ -1,8 +1,0 @@
-use Rattle.std.proofs.Common.{◌≡◌, ◌++◌, drop, map}
-use Rattle.bg_ast.specs.Views.{proc_of}
-use Rattle.bg_size.specs.Counts.{capped, spec_nodes}
-use Rattle.bg_size.proofs.expanded.sizes.Given as goal
-
-abbrev pub invariant-loop-q : goal.invariant-loop-q
-invariant-loop-q l =
-    l.made.items ++ map capped (map spec_nodes (map proc_of (drop l.q-index l.procedures))) ≡ map capped (map spec_nodes (map proc_of l.procedures))

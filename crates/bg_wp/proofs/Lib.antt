@@ -1,3 +1,0 @@
-pub mod Equations
-pub mod EquationRuns
-pub mod Capped
