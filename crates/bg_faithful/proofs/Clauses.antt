@@ -1,4 +1,4 @@
--- The clauses of an encoding have a valuation exactly where the equations deny the entry.
+-- The clauses of an encoding have a valuation where the equations deny the entry.
 use Rattle.std.proofs.Common.{◌≡◌, ℕ, ℤ, ◌+◌, ◌<◌, Bool, true, false, List, length, Some, None, Ok, refl, sym, ap, ◌∙◌, arith}
 use Rattle.std.specs.Prelude.{slice_get}
 use Rattle.bg_ast.specs.Values.{Val, Truth}
@@ -11,13 +11,12 @@ use Rattle.bg_passive.specs.Equations.{is_well, equations}
 use Rattle.bg_formula.specs.Atoms.{AtomOf}
 use Rattle.bg_formula.specs.Formulas.{Formula}
 use Rattle.bg_formula.specs.Meaning.{Valuation, clauses_true}
-use Rattle.bg_formed.specs.Agree.{AreRows, RowsAgree}
+use Rattle.bg_formed.specs.Agree.{RowsAgree}
 use Rattle.bg_formed.specs.Formed.{FormBlock, blocks_below}
 use Rattle.bg_formed.specs.Wells.{form_equations}
 use Rattle.bg_formed.specs.Said.{SaidBlocks}
 use Rattle.bg_formed.specs.Used.{refused}
 use Rattle.bg_clause.specs.Whole.{clauses_of}
-use Rattle.bg_clause.specs.Valued.{worth_in}
 use Rattle.bg_linear.specs.declared.scalar.Sort.{Sort}
 use Rattle.bg_linear.specs.declared.scalar.Sort.TheVariants as sort
 use Rattle.bg_linear.specs.Sorts.{scalar_values, HoldScalars}
@@ -41,37 +40,15 @@ MetLaw =
     is_well (slice_get (form_equations set target truth blocks) 0) ≡ false →
     (v : Valuation) × ((v.numbers ≡ numbers) × (((j : ℕ) → j < first + candidates → v.truths j ≡ truth j) × (clauses_true v f.atoms f.clauses ≡ true)))
 
-abbrev DeniedLaw : Type 0
-DeniedLaw =
-    (first candidates terms : ℕ) (rows : List AtomOf) (target : Spot) (blocks : List FormBlock) (f : Formula) → clauses_of first candidates terms rows target blocks ≡ Ok f →
-    blocks_below (first + candidates + length rows) candidates blocks ≡ true →
-    (v : Valuation) → clauses_true v f.atoms f.clauses ≡ true → is_well (slice_get (form_equations (λ b. v.truths (first + b)) target (worth_in v f.atoms) blocks) 0) ≡ false
-
 abbrev InsideLaw : Type 0
 InsideLaw =
     (first candidates terms : ℕ) (rows : List AtomOf) (target : Spot) (blocks : List FormBlock) (f : Formula) → clauses_of first candidates terms rows target blocks ≡ Ok f → refused target blocks ≡ None
-
-abbrev TruthsLaw : Type 0
-TruthsLaw =
-    (first candidates terms : ℕ) (rows : List AtomOf) (target : Spot) (blocks : List FormBlock) (f : Formula) → clauses_of first candidates terms rows target blocks ≡ Ok f →
-    blocks_below (first + candidates + length rows) candidates blocks ≡ true →
-    (v : Valuation) (j : ℕ) → j < first + candidates → worth_in v f.atoms j ≡ v.truths j
-
-abbrev RowsLaw : Type 0
-RowsLaw =
-    (first candidates terms : ℕ) (rows : List AtomOf) (target : Spot) (blocks : List FormBlock) (f : Formula) → clauses_of first candidates terms rows target blocks ≡ Ok f →
-    blocks_below (first + candidates + length rows) candidates blocks ≡ true →
-    (v : Valuation) → AreRows rows → RowsAgree v.numbers (worth_in v f.atoms) (first + candidates) rows
-
-abbrev HoldLaw : Type 0
-HoldLaw =
-    (sorts : List Sort) (numbers : ℕ → ℤ) (bits : ℕ → Bool) → HoldScalars sorts numbers bits (scalar_values numbers bits sorts)
 
 -- what holds truth values holds those that are the same at truth incarnations
 hold_same : (ss : List Sort) (numbers : ℕ → ℤ) (t u : ℕ → Bool) (frame : List Val) → HoldScalars ss numbers t frame → ((j : ℕ) → slice_get ss j ≡ Some sort.Truth → t j ≡ u j) → HoldScalars ss numbers u frame
 hold_same ss numbers t u frame h f = record { number = h.number; truth = λ j e. h.truth j e ∙ ap Truth (f j e) }
 
-module _ (alike : AlikeLaw) (met : MetLaw) (denied : DeniedLaw) (inside : InsideLaw) (truths_law : TruthsLaw) (rows_law : RowsLaw) (hold_law : HoldLaw) (sorts : List Sort) (m : ℕ) (bs : List PassiveBlock) (a : Encoding) (is : Encodes sorts m bs a) (t : Spot) (f : Formula) (made : clauses_of a.first m a.terms a.rows t a.blocks ≡ Ok f) where
+module _ (alike : AlikeLaw) (met : MetLaw) (inside : InsideLaw) (sorts : List Sort) (m : ℕ) (bs : List PassiveBlock) (a : Encoding) (is : Encodes sorts m bs a) (t : Spot) (f : Formula) (made : clauses_of a.first m a.terms a.rows t a.blocks ≡ Ok f) where
   same : (set w : ℕ → Bool) (numbers : ℕ → ℤ) (c : Scope) → RowsAgree numbers w (a.first + m) a.rows → HoldScalars sorts numbers (λ j. w (rank sorts j)) c.frame → is_well (slice_get (form_equations set t w a.blocks) 0) ≡ is_well (slice_get (equations set t c bs) 0)
   same set w numbers c r h =
       alike set t w c bs a.blocks (is.said numbers w c r h) (inside a.first m a.terms a.rows t a.blocks f made)
@@ -110,11 +87,3 @@ module _ (alike : AlikeLaw) (met : MetLaw) (denied : DeniedLaw) (inside : Inside
         let x = met a.first m a.terms a.rows t a.blocks f made is.below numbers w set of_candidates of_rows (same set w numbers (passive_scope p i values) of_rows held_here ∙ q) in
         let v = x.0 in
         (v, (read ∙ (ap (λ z. scalar_values z bits sorts) (sym x.1.0) ∙ values_same sorts v.numbers bits (λ j. v.truths (rank sorts j)) (λ j e. of_truths j e ∙ sym (x.1.1.0 (rank sorts j) (low j e)))), ((λ b lt. x.1.1.0 (a.first + b) (omega arith) ∙ of_candidates b lt), x.1.1.1)))
-
-  pub denies : (p : Prog) (i : Interp) (v : Valuation) → clauses_true v f.atoms f.clauses ≡ true → is_well (slice_get (equations (λ b. v.truths (a.first + b)) t (passive_scope p i (scalar_values v.numbers (λ j. v.truths (rank sorts j)) sorts)) bs) 0) ≡ false
-  denies p i v h =
-      let w = worth_in v f.atoms in
-      let values = scalar_values v.numbers (λ j. v.truths (rank sorts j)) sorts in
-      let r = rows_law a.first m a.terms a.rows t a.blocks f made is.below v is.rows in
-      let held = hold_same sorts v.numbers (λ j. v.truths (rank sorts j)) (λ j. w (rank sorts j)) values (hold_law sorts v.numbers (λ j. v.truths (rank sorts j))) (λ j e. sym (truths_law a.first m a.terms a.rows t a.blocks f made is.below v (rank sorts j) (low j e))) in
-      sym (same (λ b. v.truths (a.first + b)) w v.numbers (passive_scope p i values) r held) ∙ denied a.first m a.terms a.rows t a.blocks f made is.below v h

@@ -1,6 +1,5 @@
 -- Typed values of scalars are numbers and truth values, and such values are typed.
-use Rattle.std.proofs.Common.{◌≡◌, ℕ, ℤ, zero, suc, Bool, true, false, List, [], ◌∷◌, map, Some, refl, ap}
-use Rattle.std.specs.Prelude.{slice_get}
+use Rattle.std.proofs.Common.{◌≡◌, ℕ, ℤ, suc, Bool, true, false, List, [], ◌∷◌, map, refl, ap}
 use Rattle.bg_ast.specs.Values.{Ty, IntTy, BoolTy, UserTy, MapTy, Val, Num, Truth, Element, Default, Entry, number_of, truth_of}
 use Rattle.bg_sense.specs.Types.{are_of}
 use Rattle.bg_sense.specs.Eval.{value_at}
@@ -39,11 +38,3 @@ values_typed (BoolTy ∷ ts) numbers truths h = values_typed ts (λ j. numbers (
 values_typed (IntTy ∷ ts) numbers truths h = values_typed ts (λ j. numbers (suc j)) (λ j. truths (suc j)) h.1
 values_typed (UserTy u ∷ ts) numbers truths h = absurd (let no : false ≡ true = h.0 in let bad : ⊥ = cc in bad)
 values_typed (MapTy ks u ∷ ts) numbers truths h = absurd (let no : false ≡ true = h.0 in let bad : ⊥ = cc in bad)
-
-pub no_other : (ts : List Ty) (j : ℕ) → AreScalars ts → slice_get (map sort_of_type ts) j ≡ Some sort.Other → ⊥
-no_other [] j h e = let bad : ⊥ = cc in bad
-no_other (BoolTy ∷ ts) zero h e = let bad : ⊥ = cc in bad
-no_other (IntTy ∷ ts) zero h e = let bad : ⊥ = cc in bad
-no_other (UserTy u ∷ ts) zero h e = let no : false ≡ true = h.0 in let bad : ⊥ = cc in bad
-no_other (MapTy ks u ∷ ts) zero h e = let no : false ≡ true = h.0 in let bad : ⊥ = cc in bad
-no_other (t ∷ ts) (suc j) h e = no_other ts j h.1 e

@@ -16,7 +16,6 @@ ghost use Rattle.bg_formula.specs.Meaning.{Valuation, clauses_true};
 ghost use Rattle.bg_incarnate.specs.Even.{BlocksEven};
 ghost use Rattle.bg_fits.specs.Scalars.{is_over_scalars};
 ghost use Rattle.bg_clause.specs.Whole.{clauses_of};
-ghost use Rattle.bg_linear.specs.declared.scalar.Sort.TheVariants as sort;
 ghost use Rattle.bg_linear.specs.Sorts.{scalar_values, HoldScalars};
 ghost use Rattle.bg_atoms.specs.Ranks.{rank};
 ghost use Rattle.bg_atoms.specs.Sorted.{blocks_sorted};
@@ -53,9 +52,6 @@ pub fn typed_values_hold_scalars()
         slice_get p.implementations k ≡ Some m → procedure_of p m.procedure ≡ Some q →
         (values : List Val) → are_of (incarnations_in p k m q) values ≡ true →
         (numbers : ℕ → ℤ) × ((truths : ℕ → Bool) × ((values ≡ scalar_values numbers truths (sorts_in p k m q)) × HoldScalars (sorts_in p k m q) numbers truths values)) }
-    ensures none { (p : Prog) (k : ℕ) (m : Impl) (q : Proc) → IsTyped p → is_over_scalars true p ≡ true →
-        slice_get p.implementations k ≡ Some m → procedure_of p m.procedure ≡ Some q →
-        (j : ℕ) → slice_get (sorts_in p k m q) j ≡ Some sort.Other → ⊥ }
     ensures typed { (p : Prog) (k : ℕ) (m : Impl) (q : Proc) → IsTyped p → is_over_scalars true p ≡ true →
         slice_get p.implementations k ≡ Some m → procedure_of p m.procedure ≡ Some q →
         (numbers : ℕ → ℤ) (truths : ℕ → Bool) → are_of (incarnations_in p k m q) (scalar_values numbers truths (sorts_in p k m q)) ≡ true }
@@ -76,8 +72,7 @@ pub fn no_interpretation_is_needed_for_scalars()
 {}
 
 /// Where the equations deny the entry of the passive blocks, under typed values of the incarnations and truth values of the candidates,
-/// there is a valuation that agrees with them and makes the clauses true; and under a valuation that makes the clauses true the
-/// equations deny the entry.
+/// there is a valuation that agrees with them and makes the clauses true.
 pub fn clauses_over_scalars_fail_alike()
     ensures met { (p : Prog) (k : ℕ) (m : Impl) (q : Proc) → IsTyped p → is_over_scalars true p ≡ true →
         slice_get p.implementations k ≡ Some m → procedure_of p m.procedure ≡ Some q →
@@ -87,15 +82,9 @@ pub fn clauses_over_scalars_fail_alike()
         (v : Valuation) × ((values ≡ scalar_values v.numbers (λ j. v.truths (rank (sorts_in p k m q) j)) (sorts_in p k m q))
         × (((b : ℕ) → b < p.candidates → v.truths (a.first + b) ≡ set b)
         × (clauses_true v f.atoms f.clauses ≡ true))) }
-    ensures denied { (p : Prog) (k : ℕ) (m : Impl) (q : Proc) → IsTyped p → is_over_scalars true p ≡ true →
-        slice_get p.implementations k ≡ Some m → procedure_of p m.procedure ≡ Some q →
-        (a : Encoding) → IsEncoding p k m q a → (target : Spot) (f : Formula) → clauses_of a.first p.candidates a.terms a.rows target a.blocks ≡ Ok f →
-        (i : Interp) (v : Valuation) → clauses_true v f.atoms f.clauses ≡ true →
-        is_well (slice_get (equations (λ b. v.truths (a.first + b)) target (passive_scope p i (scalar_values v.numbers (λ j. v.truths (rank (sorts_in p k m q) j)) (sorts_in p k m q))) (passives_in p k m q)) 0) ≡ false }
 {
     blocks_of_forms_are_well_alike();
     clauses_fail_alike();
-    atoms_of_clauses();
     scalar_values_hold()
 }
 

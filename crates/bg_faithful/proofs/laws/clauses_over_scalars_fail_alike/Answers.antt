@@ -4,17 +4,14 @@ use Rattle.bg_linear.specs.Sorts.{HoldScalars}
 use Rattle.bg_faithful.specs.Sorted.{sorts_in}
 use Rattle.bg_faithful.proofs.Whole.{scalars}
 use Rattle.bg_faithful.proofs.Values.{numbers_of, truths_of, values_read}
-use Rattle.bg_faithful.proofs.Clauses.{valued, denies}
+use Rattle.bg_faithful.proofs.Clauses.{valued}
 use Rattle.bg_faithful.proofs.laws.clauses_over_scalars_fail_alike.Goals as goal
 
 pub returns : goal.returns
 returns c =
     let alike = c.blocks_of_forms_are_well_alike.ensures in
     let met = c.clauses_fail_alike.ensures.met in
-    let denied = c.clauses_fail_alike.ensures.denied in
     let inside = c.clauses_fail_alike.ensures.inside in
-    let truths = c.atoms_of_clauses.ensures.truths in
-    let rows = c.atoms_of_clauses.ensures.rows in
     let hold = c.scalar_values_hold.ensures in
     record {
       met =
@@ -22,8 +19,5 @@ returns c =
           let sorts = sorts_in p k m q in
           let read = values_read (incarnations_in p k m q) values (scalars p o k m q im pr) h in
           let held = subst (λ vs. HoldScalars sorts (numbers_of values) (truths_of values) vs) (sym read) (hold sorts (numbers_of values) (truths_of values)) in
-          valued alike met denied inside truths rows hold sorts p.candidates (passives_in p k m q) a is target f made (numbers_of values) (truths_of values) set p i values read held e;
-      denied =
-          λ p k m q t o im pr a is target f made i v h.
-          denies alike met denied inside truths rows hold (sorts_in p k m q) p.candidates (passives_in p k m q) a is target f made p i v h;
+          valued alike met inside sorts p.candidates (passives_in p k m q) a is target f made (numbers_of values) (truths_of values) set p i values read held e;
     }

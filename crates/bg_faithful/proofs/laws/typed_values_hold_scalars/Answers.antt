@@ -3,7 +3,7 @@ use Rattle.bg_block_types.specs.Typed.{incarnations_in}
 use Rattle.bg_linear.specs.Sorts.{HoldScalars}
 use Rattle.bg_faithful.specs.Sorted.{sorts_in}
 use Rattle.bg_faithful.proofs.Whole.{scalars}
-use Rattle.bg_faithful.proofs.Values.{numbers_of, truths_of, values_read, values_typed, no_other}
+use Rattle.bg_faithful.proofs.Values.{numbers_of, truths_of, values_read, values_typed}
 use Rattle.bg_faithful.proofs.laws.typed_values_hold_scalars.Goals as goal
 
 pub returns : goal.returns
@@ -13,7 +13,6 @@ returns c =
           λ p k m q t o im pr values h.
           let read = values_read (incarnations_in p k m q) values (scalars p o k m q im pr) h in
           (numbers_of values, (truths_of values, (read, subst (λ vs. HoldScalars (sorts_in p k m q) (numbers_of values) (truths_of values) vs) (sym read) (c.scalar_values_hold.ensures (sorts_in p k m q) (numbers_of values) (truths_of values)))));
-      none = λ p k m q t o im pr j e. no_other (incarnations_in p k m q) j (scalars p o k m q im pr) e;
       typed =
           λ p k m q t o im pr numbers truths. values_typed (incarnations_in p k m q) numbers truths (scalars p o k m q im pr);
     }
