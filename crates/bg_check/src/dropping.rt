@@ -20,8 +20,8 @@ fn drop_last(
     question: Question<'_, '_>,
     cex: &mut Counterexample,
 ) -> Result<bool, AllocError>
-    requires prepared { IsPrepared (program_of question.entry.program.now) question.entry.place.now.implementation question.entry.prepared.now }
-    requires fails { FailsWithin (meaning_of (program_of question.entry.program.now)) (has question.entry.set.now) (placed_of question.entry.place.now).place cex.old }
+    requires prepared { IsPrepared (program_of question.program.now) question.place.now.implementation question.prepared.now }
+    requires fails { FailsWithin (meaning_of (program_of question.program.now)) (has question.set.now) (placed_of question.place.now).place cex.old }
     ensures { IfOk result (λ dropped. IsDropped (meaning_of (program_of question.entry.program.now)) (has question.entry.set.now) (placed_of question.entry.place.now).place cex.old dropped cex.new) }
 {
     replays_are_induction_runs();
@@ -54,8 +54,8 @@ pub fn used_up(
     question: Question<'_, '_>,
     cex: Counterexample,
 ) -> Result<Counterexample, AllocError>
-    requires prepared { IsPrepared (program_of question.entry.program.now) question.entry.place.now.implementation question.entry.prepared.now }
-    requires fails { FailsWithin (meaning_of (program_of question.entry.program.now)) (has question.entry.set.now) (placed_of question.entry.place.now).place cex }
+    requires prepared { IsPrepared (program_of question.program.now) question.place.now.implementation question.prepared.now }
+    requires fails { FailsWithin (meaning_of (program_of question.program.now)) (has question.set.now) (placed_of question.place.now).place cex }
     ensures fails { IfOk result (λ made. FailsWithin (meaning_of (program_of question.entry.program.now)) (has question.entry.set.now) (placed_of question.entry.place.now).place made) }
     ensures used { IfOk result (λ made. IsUsed (meaning_of (program_of question.entry.program.now)) (has question.entry.set.now) (placed_of question.entry.place.now).place made) }
 {

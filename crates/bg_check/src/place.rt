@@ -53,10 +53,10 @@ fn place_clauses(
     question: Question<'_, '_>,
     atoms: &Atoms,
 ) -> Result<Made, AllocError>
-    requires typed { IsTyped (meaning_of (program_of question.entry.program.now)) }
-    requires scalars { is_over_scalars true (meaning_of (program_of question.entry.program.now)) ≡ true }
-    requires prepared { IsPrepared (program_of question.entry.program.now) question.entry.place.now.implementation question.entry.prepared.now }
-    requires slice { IsSliceFor (program_of question.entry.program.now) question.entry.place.now.implementation question.entry.prepared.now (spot_of question.entry.place.now.spot) atoms.now }
+    requires typed { IsTyped (meaning_of (program_of question.program.now)) }
+    requires scalars { is_over_scalars true (meaning_of (program_of question.program.now)) ≡ true }
+    requires prepared { IsPrepared (program_of question.program.now) question.place.now.implementation question.prepared.now }
+    requires slice { IsSliceFor (program_of question.program.now) question.place.now.implementation question.prepared.now (spot_of question.place.now.spot) atoms.now }
     ensures { IfOk result (λ made. IsMade (meaning_of (program_of question.entry.program.now)) atoms.now (placed_of question.entry.place.now).place made) }
 {
     let candidates = count_candidates(question.program)?;
@@ -81,12 +81,12 @@ fn failing<'q, 'p>(
     f: &Clauses,
     leaf: &Leaf,
 ) -> Result<Counterexample, AllocError>
-    requires typed { IsTyped (meaning_of (program_of question.entry.program.now)) }
-    requires scalars { is_over_scalars true (meaning_of (program_of question.entry.program.now)) ≡ true }
-    requires prepared { IsPrepared (program_of question.entry.program.now) question.entry.place.now.implementation question.entry.prepared.now }
-    requires slice { IsSliceFor (program_of question.entry.program.now) question.entry.place.now.implementation question.entry.prepared.now (spot_of question.entry.place.now.spot) atoms.now }
-    requires clauses { ClausesOf (meaning_of (program_of question.entry.program.now)) atoms.now (placed_of question.entry.place.now).place (formula_of f.now) }
-    requires leaf { IsLeaf (formula_of f.now) (has question.entry.set.now) leaf.now }
+    requires typed { IsTyped (meaning_of (program_of question.program.now)) }
+    requires scalars { is_over_scalars true (meaning_of (program_of question.program.now)) ≡ true }
+    requires prepared { IsPrepared (program_of question.program.now) question.place.now.implementation question.prepared.now }
+    requires slice { IsSliceFor (program_of question.program.now) question.place.now.implementation question.prepared.now (spot_of question.place.now.spot) atoms.now }
+    requires clauses { ClausesOf (meaning_of (program_of question.program.now)) atoms.now (placed_of question.place.now).place (formula_of f.now) }
+    requires leaf { IsLeaf (formula_of f.now) (has question.set.now) leaf.now }
     ensures { IfOk result (λ cex. HasLeaf (meaning_of (program_of question.entry.program.now)) (has question.entry.set.now) (placed_of question.entry.place.now).place cex × IsFailure (meaning_of (program_of question.entry.program.now)) (has question.entry.set.now) (placed_of question.entry.place.now).place cex) }
 {
     typed_programs_have_typed_bodies();
@@ -127,11 +127,11 @@ fn search_place(
     budget: Budget,
     f: &Clauses,
 ) -> Result<Verdict, AllocError>
-    requires typed { IsTyped (meaning_of (program_of question.entry.program.now)) }
-    requires scalars { is_over_scalars true (meaning_of (program_of question.entry.program.now)) ≡ true }
-    requires prepared { IsPrepared (program_of question.entry.program.now) question.entry.place.now.implementation question.entry.prepared.now }
-    requires slice { IsSliceFor (program_of question.entry.program.now) question.entry.place.now.implementation question.entry.prepared.now (spot_of question.entry.place.now.spot) atoms.now }
-    requires clauses { ClausesOf (meaning_of (program_of question.entry.program.now)) atoms.now (placed_of question.entry.place.now).place (formula_of f.now) }
+    requires typed { IsTyped (meaning_of (program_of question.program.now)) }
+    requires scalars { is_over_scalars true (meaning_of (program_of question.program.now)) ≡ true }
+    requires prepared { IsPrepared (program_of question.program.now) question.place.now.implementation question.prepared.now }
+    requires slice { IsSliceFor (program_of question.program.now) question.place.now.implementation question.prepared.now (spot_of question.place.now.spot) atoms.now }
+    requires clauses { ClausesOf (meaning_of (program_of question.program.now)) atoms.now (placed_of question.place.now).place (formula_of f.now) }
     ensures { IfOk result (λ verdict. IsRight budget (meaning_of (program_of question.entry.program.now)) (has question.entry.set.now) (placed_of question.entry.place.now).place verdict) }
 {
     clauses_over_scalars_are_whole();
@@ -154,9 +154,9 @@ pub fn check_place(
     question: Question<'_, '_>,
     budget: Budget,
 ) -> Result<Verdict, AllocError>
-    requires typed { IsTyped (meaning_of (program_of question.entry.program.now)) }
-    requires scalars { is_over_scalars true (meaning_of (program_of question.entry.program.now)) ≡ true }
-    requires prepared { IsPrepared (program_of question.entry.program.now) question.entry.place.now.implementation question.entry.prepared.now }
+    requires typed { IsTyped (meaning_of (program_of question.program.now)) }
+    requires scalars { is_over_scalars true (meaning_of (program_of question.program.now)) ≡ true }
+    requires prepared { IsPrepared (program_of question.program.now) question.place.now.implementation question.prepared.now }
     ensures { IfOk result (λ verdict. IsRight budget (meaning_of (program_of question.entry.program.now)) (has question.entry.set.now) (placed_of question.entry.place.now).place verdict) }
 {
     let atoms = place_atoms(alloc, question.program, question.prepared, question.place)?;

@@ -24,9 +24,9 @@ use std::alloc::{AllocError, Global};
 
 /// What is known of a place.
 fn judge(alloc: Global, question: Question<'_, '_>, budget: Budget) -> Result<Judged, AllocError>
-    requires typed { IsTyped (meaning_of (program_of question.entry.program.now)) }
-    requires scalars { is_over_scalars true (meaning_of (program_of question.entry.program.now)) ≡ true }
-    requires prepared { IsPrepared (program_of question.entry.program.now) question.entry.place.now.implementation question.entry.prepared.now }
+    requires typed { IsTyped (meaning_of (program_of question.program.now)) }
+    requires scalars { is_over_scalars true (meaning_of (program_of question.program.now)) ≡ true }
+    requires prepared { IsPrepared (program_of question.program.now) question.place.now.implementation question.prepared.now }
     ensures place { IfOk result (λ j. j.place ≡ question.entry.place.now) }
     ensures right { IfOk result (λ j. IsRight budget (meaning_of (program_of question.entry.program.now)) (has question.entry.set.now) (placed_at j).place j.verdict) }
 {

@@ -27,11 +27,11 @@ pub fn replayed(
     question: Question<'_, '_>,
     cex: Counterexample,
 ) -> Result<Verdict, AllocError>
-    requires typed { IsTyped (meaning_of (program_of question.entry.program.now)) }
-    requires scalars { is_over_scalars true (meaning_of (program_of question.entry.program.now)) ≡ true }
-    requires prepared { IsPrepared (program_of question.entry.program.now) question.entry.place.now.implementation question.entry.prepared.now }
-    requires leaf { HasLeaf (meaning_of (program_of question.entry.program.now)) (has question.entry.set.now) (placed_of question.entry.place.now).place cex }
-    requires fails { IsFailure (meaning_of (program_of question.entry.program.now)) (has question.entry.set.now) (placed_of question.entry.place.now).place cex }
+    requires typed { IsTyped (meaning_of (program_of question.program.now)) }
+    requires scalars { is_over_scalars true (meaning_of (program_of question.program.now)) ≡ true }
+    requires prepared { IsPrepared (program_of question.program.now) question.place.now.implementation question.prepared.now }
+    requires leaf { HasLeaf (meaning_of (program_of question.program.now)) (has question.set.now) (placed_of question.place.now).place cex }
+    requires fails { IsFailure (meaning_of (program_of question.program.now)) (has question.set.now) (placed_of question.place.now).place cex }
     ensures { IfOk result (λ verdict. (budget : Budget) → IsRight budget (meaning_of (program_of question.entry.program.now)) (has question.entry.set.now) (placed_of question.entry.place.now).place verdict) }
 {
     blocks_are_typed();
