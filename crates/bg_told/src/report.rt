@@ -27,7 +27,8 @@ fn put_head(
     put_position(out, implementation.pos)?;
     out.push(b' ')?;
     put_word(out, word)?;
-    out.extend_from_slice(b"\n")
+    out.push(b'\n')?;
+    Ok(())
 }
 
 /// An implementation, and its ordinary places that aren't proved.
