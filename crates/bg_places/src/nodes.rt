@@ -7,7 +7,7 @@ use bg_ast::resolved::{Bracket, Expr, Link};
 
 /// What is left behind an expression.
 #[cycle(spend)]
-#[tactic(auto, using(crate::proofs::Forms::node_forms))]
+#[tactic(auto, using(crate::proofs::SizedForms::node_forms))]
 pub fn spend(left: u32, e: &Expr) -> u32
     ensures { result ≡ left - nodes (ex_of e.now) }
 {
@@ -39,7 +39,7 @@ pub fn spend_all(left: u32, es: &[Expr]) -> u32
 
 /// What is left behind one bracket.
 #[cycle(spend)]
-#[tactic(auto, using(crate::proofs::Forms::node_forms))]
+#[tactic(auto, using(crate::proofs::SizedForms::node_forms))]
 fn spend_bracket(left: u32, bracket: &Bracket) -> u32
     ensures { result ≡ left - bracket_nodes (bracket_view bracket.now) }
 {

@@ -68,7 +68,7 @@ fn spend_call(left: u32, sizes: &[u32], k: &Call) -> u32
 
 /// What is left behind a statement, where the procedures' clauses have these sizes.
 #[cycle(spend_stmts)]
-#[tactic(auto, using(crate::proofs::Forms::node_forms))]
+#[tactic(auto, using(crate::proofs::SizedForms::node_forms))]
 fn spend_stmt(left: u32, sizes: &[u32], s: &Stmt) -> u32
     ensures { result ≡ left - st_nodes sizes.now (st_of s.now) }
 {
