@@ -1,6 +1,9 @@
 //! Rows and formulas of tables.
+ghost use Rattle.std.specs.Prelude.{◌≡◌};
+ghost use Rattle.bg_rows.specs.Entries.{rising};
+
 use bg_formula::{Atom, Clauses, Linear, Literal, deny_row};
-use bg_rows::{Entry, Row, combine};
+use bg_rows::{Entry, Row};
 use std::alloc::{AllocError, Global};
 use std::test::Fail;
 
@@ -13,30 +16,37 @@ pub type Given = (Entries, i128);
 /// The atoms of a clause with their signs.
 pub type Signed = &'static [(u32, bool)];
 
-/// A row and one entry more.
-fn with(alloc: Global, row: &Row, variable: u32, by: i128) -> Result<Row, Fail> {
-    if by == 0 {
-        return Err("no entry".into());
+/// Whether the variables rise and no coefficient is 0.
+fn is_rising(entries: &[Entry]) -> bool
+    ensures { result ≡ rising 0 entries.now }
+{
+    let mut low: u64 = 0;
+    for t in entries {
+        if (t.variable as u64) < low {
+            return false;
+        }
+        if t.by == 0 {
+            return false;
+        }
+        low = t.variable as u64 + 1;
     }
-    let one = Row {
-        entries: vec![in alloc; Entry { variable, by }]?,
-        bound: 0,
-    };
-    match combine(alloc, row, 1, &one, 1) {
-        Ok(both) => Ok(both),
-        Err(_) => Err("no row".into()),
-    }
+    true
 }
 
 pub fn row(alloc: Global, given: Given) -> Result<Row, Fail> {
-    let mut made = Row {
-        entries: Vec::new(alloc),
-        bound: given.1,
-    };
+    let mut entries = Vec::new(alloc);
     for (variable, by) in given.0 {
-        made = with(alloc, &made, *variable, *by)?;
+        entries.push(Entry {
+            variable: *variable,
+            by: *by,
+        })?;
     }
-    Ok(made)
+    let bound = given.1;
+    if is_rising(&entries) {
+        Ok(Row { entries, bound })
+    } else {
+        Err("no row".into())
+    }
 }
 
 pub fn rows(alloc: Global, given: &[Given]) -> Result<Vec<Row>, Fail> {
