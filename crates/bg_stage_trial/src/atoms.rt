@@ -35,9 +35,15 @@ const CASES: [Case; 5] = [
     (b"assume x < p", b"", 0, None),
 ];
 
-fn rows_of(alloc: Global, text: &[u8], more: &[u8], many: u32) -> Result<Option<usize>, Fail> {
-    let front: &[u8] = b"procedure P(x: int, y: int, p: bool) { ";
-    let p = program(alloc, &[(front, 1), (text, 1), (more, many), (b"; }", 1)])?;
+const FRONT: &[u8] = b"procedure P(x: int, y: int, p: bool) { ";
+
+fn rows_of(
+    alloc: Global,
+    text: &'static [u8],
+    more: &'static [u8],
+    many: u32,
+) -> Result<Option<usize>, Fail> {
+    let p = program(alloc, &[(FRONT, 1), (text, 1), (more, many), (b"; }", 1)])?;
     let passive = passive_of(alloc, &p)?;
     Ok(atoms(alloc, &SORTS, 0, &passive.blocks)?.map(|a| a.rows.len()))
 }
@@ -45,7 +51,7 @@ fn rows_of(alloc: Global, text: &[u8], more: &[u8], many: u32) -> Result<Option<
 #[test]
 fn relations_are_atoms_of_rows(rt: HostRuntime) -> Result<(), Fail> {
     for (text, more, many, wanted) in &CASES {
-        assert!(rt; rows_of(rt.alloc(), text, more, *many)? == *wanted);
+        assert!(rt; rows_of(rt.alloc(), *text, *more, *many)? == *wanted);
     }
     Ok(())
 }
