@@ -101,9 +101,10 @@ class RandomChoices:
 class Run:
     """A run of an implementation. `outer` and `inner` have the values of the globals and of the implementation's own names."""
 
-    def __init__(self, program, implementation, choices, steps=None):
-        """An induction run, or a source run of at most so many steps."""
+    def __init__(self, program, implementation, choices, steps=None, candidates=()):
+        """An induction run, or a source run of at most so many steps, under a set of candidates: clauses of others are absent."""
         self.program, self.implementation, self.choices, self.steps = program, implementation, choices, steps
+        self.candidates = candidates
         self.procedure = program.procedures[implementation.procedure]
         self.is_induction = steps is None
         self.outer, self.inner, self.entry = {}, {}, {}
@@ -137,11 +138,16 @@ class Run:
     def value(self, says):
         return evaluate(self.now(), self.before(), says)
 
+    def is_there(self, clause):
+        return clause.candidate is None or clause.candidate in self.candidates
+
     def holds_all(self, clauses):
         now, before = self.own()
-        return all(evaluate(now, before, it.says) for it in clauses)
+        return all(evaluate(now, before, it.says) for it in clauses if self.is_there(it))
 
     def check(self, clause, place, scope):
+        if not self.is_there(clause):
+            return
         self.step()
         if not evaluate(*scope, clause.says):
             raise End("failed", place)
@@ -214,6 +220,9 @@ class Run:
     def do_if(self, it):
         return self.statements(it.body if self.is_first(it.says) else it.other)
 
+    def holds_here(self, clauses):
+        return all(self.value(it.says) for it in clauses if self.is_there(it))
+
     def do_while(self, it):
         when = "entry"
         while True:
@@ -223,8 +232,8 @@ class Run:
             if self.is_induction:
                 if when == "turn":
                     raise End("ended")
-                self.settle(lambda: self.forget(it.body), lambda: all(self.value(clause.says) for clause in it.invariants))
-            elif not all(self.value(clause.says) for clause in it.invariants):
+                self.settle(lambda: self.forget(it.body), lambda: self.holds_here(it.invariants))
+            elif not self.holds_here(it.invariants):
                 raise End("blocked")
             self.step()
             if not self.is_first(it.says):
@@ -273,7 +282,7 @@ class Run:
 
         def holds():
             now, entry = {**self.outer, **given, **results}, {**before, **given, **results}
-            return all(evaluate(now, entry, clause.says) for clause in callee.clauses if clause.kind == "ensures")
+            return all(evaluate(now, entry, it.says) for it in callee.clauses if it.kind == "ensures" and self.is_there(it))
 
         self.settle(choose, holds)
         for name, v in zip(it.names, callee.results):
@@ -285,22 +294,22 @@ def spot(it):
 
 
 def places(program, implementation):
-    """The places of an implementation, in their order."""
+    """The places of an implementation, in their order: what is checked and where, and the candidate that guards it, or None."""
     found = []
 
     def add(statements):
         for it in statements:
             if it.kind == "assert":
-                found.append(f"assert {spot(it)}")
+                found.append((f"assert {spot(it)}", it.clause.candidate))
             if it.kind == "call":
                 checked = program.procedures[it.callee].checked("requires")
-                found.extend(f"precondition {spot(it)} of {spot(clause)}" for clause in checked)
+                found.extend((f"precondition {spot(it)} of {spot(clause)}", clause.candidate) for clause in checked)
             checked = [clause for clause in it.invariants if not clause.free]
-            found.extend(f"invariant entry {spot(clause)}" for clause in checked)
+            found.extend((f"invariant entry {spot(clause)}", clause.candidate) for clause in checked)
             add(it.body)
             add(it.other)
-            found.extend(f"invariant turn {spot(clause)}" for clause in checked)
+            found.extend((f"invariant turn {spot(clause)}", clause.candidate) for clause in checked)
 
     add(implementation.body)
     own = program.procedures[implementation.procedure].checked("ensures")
-    return found + [f"postcondition {spot(clause)}" for clause in own]
+    return found + [(f"postcondition {spot(clause)}", clause.candidate) for clause in own]

@@ -6,8 +6,8 @@ usage: judge.py FILE.bpl REPORT [--runs N] [--seed K] [--nodes N] [--rows N]
 The report has the form that docs/FORMATS.md gives, with the places that the program has. Each counterexample is replayed: the run
 fails at the place that it is printed for, and takes each printed choice. What is kept of an unknown place is its budget, or an
 operation that leaves 128 bits. Of each implementation N runs (100) are made at random, half with loops that turn and half with
-loops that are cut, from entry values that its preconditions take; none may fail at a place that the report doesn't list. The status
-is 0 where nothing is wrong, and 1 where something is, which is printed.
+loops that are cut, from entry values that its preconditions take; none may fail at a place that the report doesn't list. All runs are
+made under the retained candidates. The status is 0 where nothing is wrong, and 1 where something is, which is printed.
 """
 import argparse
 import random
@@ -18,7 +18,7 @@ from dataclasses import dataclass, field
 from evaluator import ListedChoices, RandomChoices, Run, places, text_of, value_of
 from language import TextFault, read_program
 
-FRONT = ["axioms: consistent", "retained set: greatest"]
+FATES = r"retained|retained unchecked|dropped|dropped unknown (?:nodes|rows|range)"
 WORDS = ("verified", "refuted", "unknown")
 OPERATIONS = {"+": lambda a, b: a + b, "-": lambda a, b: a - b, "*": lambda a, b: a * b, "neg": lambda a, _: -a}
 NUMBER = r"(?:0|-?[1-9][0-9]*)"
@@ -47,13 +47,39 @@ class Said:
     places: list = field(default_factory=list)
 
 
-def read_report(text):
-    """Returns what a report says of each implementation; its lines are those of the form, and its counts are right."""
-    lines = text.split("\n")
-    if lines[:2] != FRONT or lines[-1] != "" or len(lines) < 4:
+@dataclass
+class Report:
+    """What a report says: of each candidate, of the retained set, and of each implementation."""
+
+    fates: dict
+    is_greatest: bool
+    said: list
+
+    def retained(self):
+        return {name for name, fate in self.fates.items() if fate.startswith("retained")}
+
+
+def read_front(lines):
+    """Takes what a report says of candidates from its lines, and returns it with whether the retained set is called greatest."""
+    if lines[:1] != ["axioms: consistent"] or lines[-1] != "" or len(lines) < 4:
         raise Wrong("the report has not the form of one")
+    fates, at = {}, 1
+    while found := re.fullmatch(rf"candidate (\S+) ({FATES})", lines[at]):
+        fates[found[1]] = found[2]
+        at += 1
+    found = re.fullmatch("retained set: (greatest|inductive)", lines[at])
+    if not found:
+        raise Wrong(f"a line that no report has: {lines[at]}")
+    del lines[: at + 1]
+    return fates, found[1] == "greatest"
+
+
+def read_report(text):
+    """Returns what a report says; its lines are those of the form, and its counts are right."""
+    lines = text.split("\n")
+    fates, is_greatest = read_front(lines)
     said = []
-    for line in lines[2:-2]:
+    for line in lines[:-2]:
         found = re.fullmatch(r"implementation (\S+ \d+:\d+) (verified|refuted|unknown)", line)
         below = re.fullmatch(r"  (refuted) (.+)|  (unknown) (.+ (?:nodes|rows|range))", line)
         if found:
@@ -64,10 +90,24 @@ def read_report(text):
             said[-1].places[-1].lines.append(line[4:])
         else:
             raise Wrong(f"a line that no report has: {line}")
-    counts = ", ".join(f"{sum(it.word == word for it in said)} {word}" for word in WORDS)
-    if lines[-2] != f"summary: 0 retained, 0 dropped; {counts}":
+    report = Report(fates, is_greatest, said)
+    counts = f"{len(report.retained())} retained, {len(fates) - len(report.retained())} dropped; "
+    counts += ", ".join(f"{sum(it.word == word for it in said)} {word}" for word in WORDS)
+    if lines[-2] != f"summary: {counts}":
         raise Wrong(f"the summary is {lines[-2]}, and the counts are {counts}")
-    return said
+    return report
+
+
+def check_candidates(program, report):
+    """The report speaks of each candidate, in order; those without a place are unchecked, and the set is the greatest but for unknown drops."""
+    if list(report.fates) != program.candidates:
+        raise Wrong(f"the candidates are {program.candidates}")
+    checked = {candidate for own in program.implementations for _, candidate in places(program, own)}
+    for name, fate in report.fates.items():
+        if (fate == "retained unchecked") != (name not in checked):
+            raise Wrong(f"candidate {name} is {fate}, and has {'a' if name in checked else 'no'} place")
+    if report.is_greatest and any("unknown" in fate for fate in report.fates.values()):
+        raise Wrong("a candidate was dropped unknown, and the set is called greatest")
 
 
 def check_form(program, said):
@@ -76,7 +116,7 @@ def check_form(program, said):
     if [it.title for it in said] != titles:
         raise Wrong(f"the implementations are {titles}")
     for it, own in zip(said, program.implementations):
-        there = places(program, own)
+        there = [name for name, candidate in places(program, own) if candidate is None]
         listed = [place.name for place in it.places]
         if [name for name in there if name in listed] != listed:
             raise Wrong(f"{it.title}: the places listed are {listed}, and its places are {there}")
@@ -110,7 +150,7 @@ def entry_values(variables, lines):
     return values
 
 
-def check_counterexample(program, own, place):
+def check_counterexample(program, own, place, retained):
     """The printed run fails at its place, and takes each printed choice."""
     outer, inner = program.globals, own.inner()
     state = entry_values(outer, place.lines), entry_values(inner, place.lines[len(outer) :])
@@ -118,7 +158,7 @@ def check_counterexample(program, own, place):
     if not all(line.startswith("choice ") for line in lines):
         raise Wrong(f"choices are wanted behind the variables: {lines}")
     choices = ListedChoices([line[len("choice ") :] for line in lines])
-    end = Run(program, own, choices).run(*state)
+    end = Run(program, own, choices, candidates=retained).run(*state)
     if (end.word, end.place) != ("failed", place.name):
         raise Wrong(f"the run {end}")
     if choices.taken != len(lines):
@@ -132,9 +172,9 @@ def pool_of(text):
     return [*range(-3, 6)] * (1 + len(near) // 12) + sorted(near)
 
 
-def start(program, own, choices):
+def start(program, own, choices, retained):
     """Entry values at random, if they are found, of those that the preconditions take."""
-    run = Run(program, own, choices)
+    run = Run(program, own, choices, candidates=retained)
     wanted = [it for it in run.procedure.clauses if it.kind == "requires"]
     for _ in range(30):
         outer = {it.name: choices.value(it.type) for it in program.globals}
@@ -145,28 +185,39 @@ def start(program, own, choices):
     return outer, inner
 
 
-def attack(program, own, said, pool, runs, seed):
-    """No run at random fails at a place that is not listed."""
+def attack(program, own, said, asked):
+    """No run at random fails at a place that is not listed, that of a retained candidate among them."""
     open_places = {it.name for it in said.places}
-    for number in range(runs):
-        choices = RandomChoices(f"{seed} {said.title} {number}", pool)
-        outer, inner = start(program, own, choices)
-        end = Run(program, own, choices, None if number % 2 else STEPS).run(outer, inner)
+    for number in range(asked.runs):
+        choices = RandomChoices(f"{asked.seed} {said.title} {number}", asked.pool)
+        outer, inner = start(program, own, choices, asked.retained)
+        end = Run(program, own, choices, None if number % 2 else STEPS, asked.retained).run(outer, inner)
         if end.word == "failed" and end.place not in open_places:
             values = ", ".join(f"{name} = {text_of(value)}" for name, value in {**outer, **inner}.items())
             kind = "with loops cut" if number % 2 else "with loops that turn"
             raise Wrong(f"{end.place} is called proved, and a run {kind} fails there from {values or 'the only state'}")
 
 
+@dataclass
+class Asked:
+    """How a program is attacked: by how many runs, from which seed, with which numbers, and under which candidates."""
+
+    runs: int
+    seed: int
+    pool: list
+    retained: set
+
+
 def faults_in(text, report, runs=100, seed=1, nodes=20_000, rows=20_000):
     """What is wrong with the report of a program: a list of lines."""
     program = read_program(text)
     try:
-        said = read_report(report)
-        check_form(program, said)
+        report = read_report(report)
+        check_candidates(program, report)
+        check_form(program, report.said)
     except Wrong as wrong:
         return [str(wrong)]
-    faults, pool = [], pool_of(text)
+    faults, asked = [], Asked(runs, seed, pool_of(text), report.retained())
 
     def ask(where, question, *words):
         try:
@@ -174,14 +225,14 @@ def faults_in(text, report, runs=100, seed=1, nodes=20_000, rows=20_000):
         except Wrong as wrong:
             faults.append(f"{where}: {wrong}")
 
-    for it, own in zip(said, program.implementations):
+    for it, own in zip(report.said, program.implementations):
         for place in it.places:
             where = f"{it.title}, {place.name}"
             if place.word == "refuted":
-                ask(where, check_counterexample, program, own, place)
+                ask(where, check_counterexample, program, own, place, asked.retained)
             else:
                 ask(where, check_kept, place, {"nodes": nodes, "rows": rows})
-        ask(it.title, attack, program, own, it, pool, runs, seed)
+        ask(it.title, attack, program, own, it, asked)
     return faults
 
 

@@ -117,7 +117,35 @@ implementation Far 1:1 unknown
 summary: 0 retained, 0 dropped; 0 verified, 0 refuted, 1 unknown
 """
 BUDGET_REPORT = FAR_REPORT.replace(" range\n    kept + 170141183460469231731687303715884105727 1", " nodes\n    kept 20000")
-RIGHT = [("loop", STEP, STEP_REPORT), ("jumps", PICK, PICK_REPORT), ("range", FAR, FAR_REPORT), ("budget", FAR, BUDGET_REPORT)]
+KEPT = """const {:existential true} low, high, past: bool;
+const {:why} {:existential true} lone: bool;
+procedure Next(k: int) returns (r: int);
+  requires low ==> k >= 0;
+  ensures lone ==> r == k + 1;
+procedure Count(n: int) returns (i: int)
+  requires n >= 0;
+  ensures i >= n;
+{
+  i := 0;
+  while (i < n)
+    invariant low ==> i >= 0;
+    invariant (high ==> i <= n);
+    invariant past ==> i < n ==> i < 3;
+  {
+    call i := Next(i);
+  }
+}
+"""
+KEPT_REPORT = """axioms: consistent
+candidate low retained
+candidate high retained
+candidate past dropped
+candidate lone retained unchecked
+retained set: greatest
+implementation Count 6:1 verified
+summary: 3 retained, 1 dropped; 1 verified, 0 refuted, 0 unknown
+"""
+RIGHT = [("loop", STEP, STEP_REPORT), ("jumps", PICK, PICK_REPORT), ("range", FAR, FAR_REPORT), ("budget", FAR, BUDGET_REPORT), ("candidates", KEPT, KEPT_REPORT)]
 # What is doctored, the program, its right report, a text of it and what stands in its place, and a phrase of the answer.
 DOCTORED = [
     ("a counterexample's value", STEP, STEP_REPORT, "var n = 1", "var n = 2", "the run ended"),
@@ -146,6 +174,14 @@ DOCTORED = [
     ("an operation within 128 bits", FAR, FAR_REPORT, "727 1", "726 1", "no operation that leaves"),
     ("no operation", FAR, FAR_REPORT, "kept + 1", "kept / 1", "no operation that leaves"),
     ("a budget", FAR, BUDGET_REPORT, "kept 20000", "kept 19999", "the budget 20000"),
+    ("a candidate that doesn't hold", KEPT, KEPT_REPORT.replace("3 retained, 1", "4 retained, 0"), "past dropped", "past retained", "invariant turn 14:5 is called proved"),
+    ("a candidate that another one rests on", KEPT, KEPT_REPORT.replace("3 retained, 1", "2 retained, 2"), "lone retained unchecked", "lone dropped", "candidate lone is dropped"),
+    ("a candidate that is checked", KEPT, KEPT_REPORT, "low retained", "low retained unchecked", "candidate low is retained unchecked"),
+    ("a candidate that is missing", KEPT, KEPT_REPORT.replace("3 retained", "2 retained"), "candidate high retained\n", "", "the candidates are"),
+    ("candidates in another order", KEPT, KEPT_REPORT, "candidate low retained\ncandidate high retained", "candidate high retained\ncandidate low retained", "the candidates are"),
+    ("how many are retained", KEPT, KEPT_REPORT, "3 retained", "4 retained", "the counts are"),
+    ("a greatest set after an unknown drop", KEPT, KEPT_REPORT, "past dropped", "past dropped unknown nodes", "the set is called greatest"),
+    ("the set", KEPT, KEPT_REPORT, "set: greatest", "set: great", "a line that no report has"),
 ]
 # A program of which one place fails in some runs, and the place; the report calls it proved.
 UNSOUND = [
@@ -173,7 +209,7 @@ def verified(text):
     """The report that calls each implementation of a program verified."""
     titles = [it.title() for it in judge.read_program(text).implementations]
     lines = [f"implementation {it} verified" for it in titles]
-    return "\n".join([*judge.FRONT, *lines, f"summary: 0 retained, 0 dropped; {len(titles)} verified, 0 refuted, 0 unknown", ""])
+    return "\n".join(["axioms: consistent", "retained set: greatest", *lines, f"summary: 0 retained, 0 dropped; {len(titles)} verified, 0 refuted, 0 unknown", ""])
 
 
 def trials():

@@ -70,12 +70,13 @@ class Variable:
 
 @dataclass
 class Clause:
-    """A clause of a procedure or a loop, or an assertion: its kind, what it says, and where its first word stands."""
+    """A clause of a procedure or a loop, or an assertion: its kind, what it says, where its first word stands, and the candidate that guards it."""
 
     kind: str
     free: bool
     says: tuple
     pos: tuple
+    candidate: str = None
 
 
 @dataclass
@@ -126,6 +127,7 @@ class Statement:
 
 @dataclass
 class Program:
+    candidates: list = field(default_factory=list)
     globals: list = field(default_factory=list)
     procedures: dict = field(default_factory=dict)
     implementations: list = field(default_factory=list)
@@ -167,19 +169,33 @@ class Reader:
         return items
 
     def attributes(self):
+        """Passes attributes, and returns the texts between their braces."""
+        found = []
         while self.sees("{") and self.now(1).text == ":":
+            found.append([])
             while self.take().text != "}":
-                pass
+                found[-1].append(self.now().text)
+            found[-1].pop()
+        return found
 
     def whole(self):
-        rules = {"var": self.globals, "procedure": self.procedure, "implementation": self.implementation}
+        rules = {"const": self.constants, "var": self.globals, "procedure": self.procedure, "implementation": self.implementation}
         while self.now().kind != "end":
             token = self.take(kind="word")
             if token.text not in rules:
                 raise TextFault(f"{token.pos}: {token.text} is not judged")
-            self.attributes()
+            if token.text != "const":
+                self.attributes()
             rules[token.text](token.pos)
         return self.program
+
+    def constants(self, pos):
+        if [":", "existential", "true"] not in self.attributes():
+            raise TextFault(f"{pos}: a constant that is no candidate is not judged")
+        self.program.candidates += self.commas(self.name)
+        self.take(":")
+        self.take("bool")
+        self.take(";")
 
     def globals(self, _):
         self.program.globals += self.formals()
@@ -232,6 +248,15 @@ class Reader:
         says = self.expression()
         self.take(";")
         return Clause(word.text, free, says, word.pos)
+
+    def guard_clauses(self):
+        """A clause that is checked and says `b ==> e` of a candidate b says e, guarded by b."""
+        names = set(self.program.candidates)
+        for clause in clauses_of(self.program):
+            says = clause.says
+            is_guarded = not clause.free and says[:2] == ("bin", "==>") and says[2][0] == "name" and says[2][1] in names
+            if is_guarded:
+                clause.candidate, clause.says = says[2][1], says[3]
 
     def implementation(self, pos):
         self.body(self.name(), *self.signature(), pos)
@@ -405,6 +430,17 @@ def walk(statements):
         yield from walk(it.other)
 
 
+def clauses_of(program):
+    """All clauses that a candidate may guard."""
+    for it in program.procedures.values():
+        yield from it.clauses
+    for it in program.implementations:
+        for statement in walk(it.body):
+            yield from statement.invariants
+            if statement.clause:
+                yield statement.clause
+
+
 def type_of(types, says):
     """Returns the type of an expression over variables of these types; a fault where it has none."""
     kind = says[0]
@@ -476,6 +512,8 @@ def check_list(types, values, kinds):
 
 
 def read_program(text):
-    program = Reader(text).whole()
+    reader = Reader(text)
+    program = reader.whole()
+    reader.guard_clauses()
     check_types(program)
     return program

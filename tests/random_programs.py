@@ -1,10 +1,12 @@
 #!/usr/bin/env python3
 """Makes random programs over truth values and whole numbers with the whole statement language, and judges their reports (judge.py).
 
-usage: random_programs.py --bg COMMAND [--count N] [--seed K] [--runs N] [--truths] [--budget N] [--jobs N] [--keep FOLDER]
+usage: random_programs.py --bg COMMAND [--count N] [--seed K] [--runs N] [--truths] [--candidates] [--workers N..] [--budget N] [--jobs N] [--keep FOLDER]
 
-Of each implementation N runs are tried. With --truths there are no whole numbers. With --budget the program gets as many inner nodes
-and rows. With --keep programs and reports are written to a folder, and left there. The last line is `N passed, M failed`.
+Of each implementation N runs are tried. With --truths there are no whole numbers. With --candidates most programs declare some. With
+--workers each program is judged once with each of these numbers of workers: where no report has an unknown, their verdict lines are the
+same. With --budget the program gets as many inner nodes and rows. With --keep programs and reports are written to a folder, and left
+there. The last line is `N passed, M failed`.
 """
 import argparse
 import collections
@@ -71,6 +73,10 @@ class Body:
             return self.program.number(self.rng, self.reads, depth, old=True)
         return self.formula(depth)
 
+    def clause(self):
+        """What an assertion or an invariant that is checked says."""
+        return self.program.guarded(self.rng, self.formula())
+
     def sides(self, most=2):
         names = self.rng.sample(self.writes, min(len(self.writes), self.rng.randint(1, most)))
         return names, [self.value(name) for name in names]
@@ -102,8 +108,8 @@ class Body:
         lines = [f"{indent}{label}:"] if label else []
         lines.append(f"{indent}while ({guard})")
         for _ in range(self.rng.randrange(3)):
-            free = "free " if self.rng.random() < 0.25 else ""
-            lines.append(f"{indent}  {free}invariant {self.formula()};")
+            is_free = self.rng.random() < 0.25
+            lines.append(f"{indent}  free invariant {self.formula()};" if is_free else f"{indent}  invariant {self.clause()};")
         within = inside + [None] + ([label] if label else [])
         return lines + [f"{indent}{{"] + self.statements(indent + "  ", depth - 1, ahead, within) + [f"{indent}}}"]
 
@@ -132,7 +138,7 @@ class Body:
     def statement(self, indent, depth, ahead, inside):
         kind = self.rng.random()
         if kind < 0.2:
-            return [f"{indent}assert {self.formula()};"]
+            return [f"{indent}assert {self.clause()};"]
         if kind < 0.3:
             return [f"{indent}assume {self.formula()};"]
         if kind < 0.4 and self.writes:
@@ -164,13 +170,22 @@ class Body:
 
 
 class Program:
-    """A program: globals, procedures and implementations."""
+    """A program: candidates, at most as many as asked, globals, procedures and implementations."""
 
-    def __init__(self, rng, numbers):
+    def __init__(self, rng, numbers, candidates=0):
         self.numbers = numbers
+        self.candidates = [f"c{k}" for k in range(rng.randint(0, candidates))] if candidates else []
         self.names = some_names(rng, "g", 4, numbers)
         self.procedures = [Procedure(rng, k, self.names, numbers) for k in range(rng.randint(1, 4))]
         self.text = "\n".join(self.lines(rng)) + "\n"
+
+    def guarded(self, rng, says):
+        """The same, or guarded by a candidate."""
+        if not self.candidates or rng.random() < 0.3:
+            return says
+        guard = rng.choice(self.candidates)
+        whole = f"{guard} ==> {self.bracketed(says)}"
+        return f"({whole})" if rng.random() < 0.1 else whole
 
     def formula(self, rng, names, depth, old=False):
         kind = rng.random()
@@ -217,8 +232,8 @@ class Program:
         lines = [f"  modifies {', '.join(q.modifies)};"] if q.modifies else []
         for word, names in (("requires", self.names + q.params), ("ensures", self.names + q.params + q.results)):
             for _ in range(rng.randrange(3)):
-                free = "free " if rng.random() < 0.2 else ""
-                lines.append(f"  {free}{word} {self.formula(rng, names, 2, old=word == 'ensures')};")
+                says = self.formula(rng, names, 2, old=word == "ensures")
+                lines.append(f"  free {word} {says};" if rng.random() < 0.2 else f"  {word} {self.guarded(rng, says)};")
         return lines
 
     def head(self, word, q, params, results):
@@ -227,7 +242,8 @@ class Program:
         return f"{word} {q.name}({typed(params)}){returns}"
 
     def lines(self, rng):
-        lines = [f"var {name}: {type_of(name)};" for name in self.names]
+        lines = [f"const {{:existential true}} {name}: bool;" for name in self.candidates]
+        lines += [f"var {name}: {type_of(name)};" for name in self.names]
         for q in self.procedures:
             if rng.random() < 0.6:
                 lines.append(self.head("procedure", q, q.params, q.results))
@@ -243,23 +259,43 @@ class Program:
         return lines
 
 
-def judged(args, folder, number):
-    """Returns what is wrong with the report of one program, a list of lines, and the words that the report says of implementations."""
-    text = Program(random.Random(args.seed * 1_000_003 + number), not args.truths).text
+def verdict_lines(report):
+    """The lines of a report that its program determines where nothing is unknown."""
+    return [line for line in report.split("\n") if not line.startswith("    ")]
+
+
+def reported(args, folder, number, text, workers):
+    """The report of a program, and what is wrong with it, a list of lines."""
     source = os.path.join(folder, f"{number}.bpl")
     with open(source, "w", encoding="ascii") as file:
         file.write(text)
     budget = ["--nodes", str(args.budget), "--rows", str(args.budget)] if args.budget else []
-    ran = subprocess.run([*shlex.split(args.bg), "verify", *budget, source], capture_output=True, timeout=600)
+    seats = ["--workers", str(workers)] if workers else []
+    ran = subprocess.run([*shlex.split(args.bg), "verify", *seats, *budget, source], capture_output=True, timeout=600)
     report = ran.stdout.decode("latin-1")
     with open(os.path.join(folder, f"{number}.report"), "w", encoding="latin-1") as file:
         file.write(report)
     said = re.findall(r"^implementation \S+ \S+ (\w+)$", report, re.M)
     want = 1 if "refuted" in said else 2 if "unknown" in said else 0
     if ran.returncode != want or ran.stderr:
-        return [f"status {ran.returncode} for {want}: {ran.stderr.decode('latin-1').strip()}"], said
+        return report, [f"status {ran.returncode} for {want}: {ran.stderr.decode('latin-1').strip()}"]
     budgets = {"nodes": args.budget, "rows": args.budget} if args.budget else {}
-    return judge.faults_in(text, report, args.runs, args.seed, **budgets), said
+    return report, judge.faults_in(text, report, args.runs, args.seed, **budgets)
+
+
+def judged(args, folder, number):
+    """What is wrong with the reports of one program, a list of lines, and the words that they say of candidates and implementations."""
+    rng = random.Random(args.seed * 1_000_003 + number)
+    text = Program(rng, not args.truths, 8 if args.candidates else 0).text
+    reports, faults = [], []
+    for workers in args.workers or [None]:
+        report, wrong = reported(args, folder, number, text, workers)
+        reports.append(report)
+        faults += wrong
+    is_known = not any(re.search(r" unknown", report) for report in reports)
+    if is_known and any(verdict_lines(report) != verdict_lines(reports[0]) for report in reports):
+        faults.append(f"the verdict lines of {args.workers} workers differ")
+    return faults, re.findall(r"^(?:candidate|implementation) \S+ (?:\d+:\d+ )?(\w+)", "\n".join(reports), re.M)
 
 
 def main():
@@ -269,6 +305,8 @@ def main():
     parser.add_argument("--seed", type=int, default=1)
     parser.add_argument("--runs", type=int, default=100)
     parser.add_argument("--truths", action="store_true")
+    parser.add_argument("--candidates", action="store_true")
+    parser.add_argument("--workers", type=int, nargs="+")
     parser.add_argument("--budget", type=int)
     parser.add_argument("--jobs", type=int, default=1)
     parser.add_argument("--keep")
@@ -286,7 +324,8 @@ def main():
                 failed += bool(wrong)
                 for line in wrong:
                     print(f"{number}: {line}", flush=True)
-    print(", ".join(f"{words[word]} {word}" for word in ("verified", "refuted", "unknown")))
+    told = ("retained", "dropped") * args.candidates + ("verified", "refuted", "unknown")
+    print(", ".join(f"{words[word]} {word}" for word in told))
     print(f"{args.count - failed} passed, {failed} failed")
     return 1 if failed or not args.count else 0
 
