@@ -13,12 +13,13 @@ use Rattle.bg_flow.specs.Core.{frame_decls, demands, sayings, each_one, plain}
 use Rattle.bg_fits.specs.Scalars.{is_empty, decls_pass, proc_passes, impl_passes, st_passes, is_scalar_type, is_scalar, is_over_scalars}
 use Rattle.bg_atoms.specs.Sorted.{blocks_sorted}
 use Rattle.bg_block_types.specs.Typed.{sig_over, TypedBlocks, blocks_in, arrivals_in, incarnations_in, passives_in}
+use Rattle.bg_faithful.specs.Checks.{BlocksPlaced}
 use Rattle.bg_faithful.specs.Sorted.{sorts_in}
 use Rattle.bg_faithful.proofs.Scalars.{AreScalars, scalars_append, decls_scalar, ScalarProc, scalar_proc, passes_at, none_there}
 use Rattle.bg_faithful.proofs.Kinded.{sig_bare}
-use Rattle.bg_faithful.proofs.Guards.{FitBlocks, fit_demands, fit_sayings, fit_plain, routine_fits}
+use Rattle.bg_faithful.proofs.Guards.{FitBlocks, fit_demands, fit_sayings, fit_plain, routine_fits, body_placed, ends_placed}
 use Rattle.bg_faithful.proofs.Incs.{made_scalars}
-use Rattle.bg_faithful.proofs.Passes.{passives_fit}
+use Rattle.bg_faithful.proofs.Passes.{FitPassives, passives_fit, blocks_placed}
 use Rattle.bg_faithful.proofs.Sorting.{blocks_all}
 
 module _ (p : Prog) (o : is_over_scalars true p ≡ true) where
@@ -86,18 +87,25 @@ module _ (p : Prog) (o : is_over_scalars true p ≡ true) where
         types_both [] es h k = k
         types_both (d ∷ ds) es h k = (h.0, types_both ds es h.1 k)
 
-    fits : FitBlocks p.candidates (blocks_in p k m q)
+    fits : FitBlocks p (blocks_in p k m q)
     fits =
-        routine_fits p ds procs m.body (plain (wheres_of (p.globals ++ ds)) (sayings each_one q.requires_)) (demands (AtReturn k) q.ensures_) (and_right (decls_pass (is_scalar_type true) (is_scalar true) m.locals) (st_passes p.candidates (is_scalar true) m.body) here)
-        (fit_plain p.candidates (wheres_of (p.globals ++ ds)) (sayings each_one q.requires_) (fit_sayings p.candidates each_one q.requires_ its.requires_))
-        (fit_demands p.candidates (AtReturn k) q.ensures_ its.ensures_)
+        routine_fits p ds k procs m.body (plain (wheres_of (p.globals ++ ds)) (sayings each_one q.requires_)) (demands (AtReturn k) q.ensures_) (and_right (decls_pass (is_scalar_type true) (is_scalar true) m.locals) (st_passes p.candidates (is_scalar true) m.body) here)
+        (body_placed p k m im)
+        (fit_plain p (wheres_of (p.globals ++ ds)) (sayings each_one q.requires_) (fit_sayings p each_one q.requires_ its.requires_))
+        (fit_demands p k (AtReturn k) q.ensures_ its.ensures_ (ends_placed p k m im q pr))
 
     pub scalars : AreScalars (incarnations_in p k m q)
     scalars =
         scalars_append (types_of p.globals) _ globals_scalar
         (scalars_append (types_of ds) _ frame_scalar (made_scalars p ds globals_scalar frame_scalar (blocks_in p k m q) [] (length p.globals + length ds) fits))
 
+    fits_passive : FitPassives p (passives_in p k m q)
+    fits_passive = passives_fit p (arrivals_in p k m q).arrivals (blocks_in p k m q) fits
+
+    pub placed : BlocksPlaced p (passives_in p k m q)
+    placed = blocks_placed p (passives_in p k m q) fits_passive
+
     pub sorted : TypedBlocks (sig_over p (incarnations_in p k m q)) (passives_in p k m q) → blocks_sorted (sorts_in p k m q) p.candidates (passives_in p k m q) ≡ true
     sorted h =
         let t = subst (λ g. TypedBlocks g (passives_in p k m q)) (sig_same (incarnations_in p k m q)) h in
-        blocks_all (incarnations_in p k m q) scalars p.candidates (passives_in p k m q) t (passives_fit p.candidates (arrivals_in p k m q).arrivals (blocks_in p k m q) fits)
+        blocks_all (incarnations_in p k m q) scalars p (passives_in p k m q) t fits_passive
