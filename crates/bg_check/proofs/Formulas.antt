@@ -5,7 +5,7 @@ use Rattle.bg_base.specs.declared.exact.OutOfRange.{OutOfRange}
 use Rattle.bg_ast.specs.Execution.{Spot}
 use Rattle.bg_sense.specs.Variables.{count_from}
 use Rattle.bg_formula.specs.Atoms.{AtomOf, IsTruth, IsRow, at}
-use Rattle.bg_formula.specs.Formulas.{Formula, joined}
+use Rattle.bg_formula.specs.Formulas.{Formula, joined, unit_atom}
 use Rattle.bg_formula.specs.Meaning.{Valuation, signed, same, unit_true, MeetsUnits, AtomsAgree}
 use Rattle.bg_formed.specs.Agree.{AreRows}
 use Rattle.bg_formed.specs.Formed.{FormBlock}
@@ -121,3 +121,21 @@ meets_units n m rows f v set h t c s =
   where
     zero_plus : (i : ℕ) → 0 + i ≡ i
     zero_plus i = omega arith
+
+true_same : (b : Bool) → same b true ≡ true → b ≡ true
+true_same true e = refl
+true_same false e = e
+
+-- a valuation that meets a set's units makes its candidates true
+pub unit_met : (n m : ℕ) (rows : List AtomOf) (f : Formula) (v : Valuation) (set : ℕ → Bool) → IsPlainFormula n m rows f → MeetsUnits v f set → (b : ℕ) → b < m → set b ≡ true → v.truths (n + b) ≡ true
+unit_met n m rows f v set h units b l s =
+    true_same (v.truths (n + b)) (sym here ∙ units b s)
+  where
+    zero_plus : (i : ℕ) → 0 + i ≡ i
+    zero_plus i = omega arith
+
+    here : unit_true v f (unit_atom f b) ≡ same (v.truths (n + b)) true
+    here =
+        ap (λ o. unit_true v f (joined o)) (ap (λ cs. at cs b) h.candidates ∙ at_candidate n m b l)
+        ∙ (ap (λ o. signed v o true) (ap (λ xs. at xs (n + b)) h.atoms ∙ at_front 0 (n + m) (n + b) (rows ++ map IsTruth (count_from (n + m + length rows) h.names)) (omega (arith, l)))
+        ∙ ap (λ i. same (v.truths i) true) (zero_plus (n + b)))

@@ -1,15 +1,24 @@
 -- Verdicts, one after the other.
-use Rattle.std.proofs.Common.{◌≡◌, ℕ, zero, suc, ◌+◌, ◌<◌, Bool, List, [], ◌∷◌, ◌++◌, length, map, Some, refl, sym, ap, ◌∙◌, subst, take, arith}
-use Rattle.std.specs.Prelude.{slice_get, get_or}
+use Rattle.std.proofs.Common.{◌≡◌, ℕ, zero, suc, ◌+◌, ◌<◌, Bool, List, [], ◌∷◌, ◌++◌, length, map, Option, Some, None, is_none, true, false, cond, refl, sym, ap, ◌∙◌, subst, inl, inr, take, arith}
+use Rattle.std.specs.Prelude.{slice_get, get_or, filter}
+use Rattle.std.proofs.lemmas.List.{map-append}
 use Rattle.bg_ast.specs.Syntax.{Prog}
 use Rattle.bg_ast.specs.Resolved as r
+use Rattle.bg_ast.specs.Meaning.{meaning_of}
+use Rattle.bg_ast.specs.Execution as run
+use Rattle.bg_sense.specs.Clauses.{is_kept}
+use Rattle.bg_sense.specs.Places.{places}
+use Rattle.bg_sense.specs.Resolved.{IsResolved}
+use Rattle.bg_sense.proofs.Members.{In, in_left, in_right, contained}
+use Rattle.bg_sound.specs.Told.{is_ordinary}
 use Rattle.bg_places.specs.declared.place.Place.{Place}
 use Rattle.bg_places.specs.Views.{placed_of, placed_in}
 use Rattle.bg_tree.specs.declared.outcome.Budget.{Budget}
 use Rattle.bg_check.specs.declared.verdict.Judged.{Judged}
-use Rattle.bg_places.specs.Placed.{Placed}
+use Rattle.bg_places.specs.Placed.{Placed, place_in, placed_impl, placed_from, placed}
 use Rattle.bg_check.specs.declared.prepared.Prepared.{Prepared}
 use Rattle.bg_check.specs.Prepared.{IsPrepared, ArePrepared}
+use Rattle.bg_check.specs.Asked.{IsAsked, AreAsked}
 use Rattle.bg_check.proofs.Prepares.{get_some}
 use Rattle.bg_check.proofs.Numbered.{OfNumber}
 use Rattle.bg_check.specs.Verdicts.{IsRight, placed_at, AreRightAt, AreRightOf, AreRightFrom}
@@ -42,6 +51,47 @@ pub prepared_at : (p : r.Program) (w : Prepared) (ps : List Place) (n : ℕ) (x 
 prepared_at p w [] n x h l = absurd (omega arith)
 prepared_at p w (q ∷ ps) zero x h l = h.0
 prepared_at p w (q ∷ ps) (suc n) x h l = prepared_at p w ps n x h.1 (omega arith)
+
+pub asked_at : (p : Prog) (set : ℕ → Bool) (ps : List Place) (n : ℕ) (x : Place) → AreAsked p set (placed_in ps) → n < length ps → IsAsked p set (placed_of (get_or ps n x)).place
+asked_at p set [] n x h l = absurd (omega arith)
+asked_at p set (q ∷ ps) zero x h l = h.0
+asked_at p set (q ∷ ps) (suc n) x h l = asked_at p set ps n x h.1 (omega arith)
+
+-- ordinary places of a program are asked under any set
+pub ordinary_asked : (p : Prog) (set : ℕ → Bool) (xs : List Placed) → IsResolved p → ((u : run.Place) → In (map place_in xs) u → In (places p) u) → AreAsked p set (filter is_ordinary xs)
+ordinary_asked p set [] h w = tt
+ordinary_asked p set (x ∷ xs) h w = by (is_ordinary x) refl (ordinary_asked p set xs h (λ u i. w u (inr i)))
+  where
+    bare : (o : Option ℕ) → is_none o ≡ true → is_kept set o ≡ true
+    bare None e = refl
+    bare (Some b) e = absurd (let bad : ⊥ = cc in bad)
+
+    by : (b : Bool) → is_ordinary x ≡ b → AreAsked p set (filter is_ordinary xs) → AreAsked p set (cond b (x ∷ filter is_ordinary xs) (filter is_ordinary xs))
+    by true e k =
+        (record { resolved = h; is_place = contained (places p) x.place (w x.place (inl refl)); kept = bare x.place.candidate e }, k)
+    by false e k = k
+
+-- so are those of an implementation
+module _ (p : r.Program) (all : map place_in (placed p) ≡ places (meaning_of p)) where
+  impl_among : (n k : ℕ) (ms : List r.Impl) (m : r.Impl) (u : run.Place) → slice_get ms k ≡ Some m → In (map place_in (placed_impl p.procedures (n + k) m)) u → In (map place_in (placed_from p.procedures n ms)) u
+  impl_among n k [] m u e h = absurd (let bad : ⊥ = cc in bad)
+  impl_among n zero (x ∷ ms) m u e h =
+      let same : x ≡ m = cc in
+      let zero_is : n + 0 ≡ n = omega arith in
+      let here = subst (λ y. In (map place_in (placed_impl p.procedures n y)) u) (sym same) (subst (λ j. In (map place_in (placed_impl p.procedures j m)) u) zero_is h) in
+      subst (λ l. In l u) (sym (map-append place_in (placed_impl p.procedures n x) (placed_from p.procedures (suc n) ms))) (in_left (map place_in (placed_impl p.procedures n x)) _ u here)
+  impl_among n (suc k) (x ∷ ms) m u e h =
+      let next : n + suc k ≡ suc n + k = omega arith in
+      let there = impl_among (suc n) k ms m u e (subst (λ j. In (map place_in (placed_impl p.procedures j m)) u) next h) in
+      subst (λ l. In l u) (sym (map-append place_in (placed_impl p.procedures n x) (placed_from p.procedures (suc n) ms))) (in_right (map place_in (placed_impl p.procedures n x)) _ u there)
+
+  pub its_asked : (set : ℕ → Bool) (k : ℕ) (m : r.Impl) → IsResolved (meaning_of p) → slice_get p.implementations k ≡ Some m → AreAsked (meaning_of p) set (filter is_ordinary (placed_impl p.procedures k m))
+  its_asked set k m h e =
+      ordinary_asked (meaning_of p) set (placed_impl p.procedures k m) h
+      (λ u i. subst (λ l. In l u) all (impl_among 0 k p.implementations m u e (subst (λ j. In (map place_in (placed_impl p.procedures j m)) u) zero_plus i)))
+    where
+      zero_plus : k ≡ 0 + k
+      zero_plus = omega arith
 
 -- one more implementation
 pub from_more : (budget : Budget) (p : r.Program) (set : ℕ → Bool) (k : ℕ) (ms : List r.Impl) (os : List (List Judged)) (m : r.Impl) (js : List Judged) → AreRightFrom budget p set k ms os → AreRightOf budget p set (k + length ms) m js → AreRightFrom budget p set k (ms ++ (m ∷ [])) (os ++ (js ∷ []))

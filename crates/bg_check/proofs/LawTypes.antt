@@ -18,6 +18,7 @@ use Rattle.bg_sense.specs.Interps.{IsInterp, Meets}
 use Rattle.bg_sense.specs.Claims.{IsState, Safe, Fails}
 use Rattle.bg_sense.specs.Typing.{AreTypedBodies, IsTypedSt}
 use Rattle.bg_sense.specs.Typed.{IsTyped}
+use Rattle.bg_sense.specs.Resolved.{IsResolved}
 use Rattle.bg_flow.specs.Core.{frame_decls, routine_of}
 use Rattle.bg_flow.specs.Blocks.{blocks_of}
 use Rattle.bg_passive.specs.Passive.{PassiveBlock, SomeWalk}
@@ -29,7 +30,7 @@ use Rattle.bg_block_types.specs.TypedFlow.{CodeIsTyped}
 use Rattle.bg_incarnate.specs.Even.{BlocksEven}
 use Rattle.bg_formula.specs.Atoms.{AtomOf, at}
 use Rattle.bg_formula.specs.Formulas.{Formula, is_whole}
-use Rattle.bg_formula.specs.Meaning.{Valuation, signed, clauses_true, AtomsAgree}
+use Rattle.bg_formula.specs.Meaning.{Valuation, signed, clauses_true, MeetsUnits, AtomsAgree}
 use Rattle.bg_formula.specs.Instances.{Instance, SignedAtom, atoms_of}
 use Rattle.bg_cert.specs.Paths.{decides}
 use Rattle.bg_cert.specs.Certs.{NodeOf, Accepts, HasNoValuation, uses}
@@ -46,6 +47,7 @@ use Rattle.bg_linear.specs.declared.scalar.Sort.{Sort}
 use Rattle.bg_linear.specs.Sorts.{scalar_values, HoldScalars}
 use Rattle.bg_atoms.specs.Ranks.{rank}
 use Rattle.bg_atoms.specs.Sorted.{blocks_sorted}
+use Rattle.bg_faithful.specs.Checks.{BlocksPlaced}
 use Rattle.bg_faithful.specs.Sorted.{sorts_in}
 use Rattle.bg_faithful.specs.Encoded.{Encoding, IsEncoding}
 use Rattle.bg_faithful.specs.Interps.{no_interp}
@@ -162,11 +164,27 @@ LeafLaw =
     (f : Formula) (set : ℕ → Bool) (leaf : Leaf) (v : Valuation) → is_whole f ≡ true → AtomsAgree f.atoms → IsLeaf f set leaf →
     ((x : ℕ) → v.numbers x ≡ value_of leaf.spots.items x) → TruthsAgree v f.atoms leaf.path.items → clauses_true v f.atoms f.clauses ≡ true
 
+abbrev pub UnitLaw : Type 0
+UnitLaw =
+    (f : Formula) (set : ℕ → Bool) (leaf : Leaf) (v : Valuation) → is_whole f ≡ true → AtomsAgree f.atoms → IsLeaf f set leaf →
+    ((x : ℕ) → v.numbers x ≡ value_of leaf.spots.items x) → TruthsAgree v f.atoms leaf.path.items → MeetsUnits v f set
+
 abbrev pub SignLaw : Type 0
 SignLaw =
     (f : Formula) (set : ℕ → Bool) (leaf : Leaf) (v : Valuation) → AtomsAgree f.atoms → IsLeaf f set leaf →
     ((x : ℕ) → v.numbers x ≡ value_of leaf.spots.items x) → TruthsAgree v f.atoms leaf.path.items →
     (a : ℕ) (s : Bool) → a < length f.atoms → decides a s leaf.path.items ≡ true → signed v (at f.atoms a) s ≡ true
+
+-- of places
+abbrev pub SpotLaw : Type 0
+SpotLaw =
+    (p : Prog) (t u : Place) → IsResolved p →
+    Contains (places p) t → Contains (places p) u → t.spot ≡ u.spot → t.candidate ≡ u.candidate
+
+abbrev pub CheckLaw : Type 0
+CheckLaw =
+    (p : Prog) (k : ℕ) (m : Impl) (q : Proc) → is_over_scalars true p ≡ true →
+    slice_get p.implementations k ≡ Some m → procedure_of p m.procedure ≡ Some q → BlocksPlaced p (passives_in p k m q)
 
 abbrev pub CertLaw : Type 0
 CertLaw =

@@ -1,6 +1,6 @@
 -- Typed code of a program over truth values and whole numbers is made of scalars.
 use Rattle.std.proofs.Common.{◌≡◌, ℕ, zero, suc, Bool, true, false, List, [], ◌∷◌, ◌++◌, Some, None, map, refl, sym, subst}
-use Rattle.std.specs.Prelude.{◌==◌, slice_get}
+use Rattle.std.specs.Prelude.{slice_get}
 use Rattle.std.specs.List.{list_all}
 use Rattle.bg_ast.specs.Values.{Ty, IntTy, BoolTy, UserTy, MapTy}
 use Rattle.bg_ast.specs.Syntax.{Var, Global, Local, Op, And, Or, Implies, Iff, Equal, Unequal, Less, AtMost, Greater, AtLeast, Plus, Minus, Times, Ex, Number, Fact, Constant, Read, Not, Negative, Binary, Apply, Select, Update, Old, Exs, NoMore, More, Star, Test, Decl, Impl, Proc, Prog}
@@ -185,9 +185,9 @@ typed_code_is_scalar p k m q o im pr bs h =
     let o1 = and_right (decls_pass (is_scalar_type true) (fits.is_scalar true) p.globals) _ o in
     let o2 = and_right (is_empty p.constants) _ o1 in
     let o3 = and_right (is_empty p.functions) _ o2 in
-    let o4 = and_right (p.candidates == 0) _ (and_right (is_empty p.axioms) _ o3) in
-    let a = passes_at (proc_passes (is_scalar_type true) (fits.is_scalar true)) p.procedures m.procedure q (and_left _ (list_all (impl_passes (is_scalar_type true) (fits.is_scalar true)) p.implementations) o4) pr in
-    let b = passes_at (impl_passes (is_scalar_type true) (fits.is_scalar true)) p.implementations k m (and_right (list_all (proc_passes (is_scalar_type true) (fits.is_scalar true)) p.procedures) _ o4) im in
+    let o4 = and_right (is_empty p.axioms) _ o3 in
+    let a = passes_at (proc_passes p.candidates (is_scalar_type true) (fits.is_scalar true)) p.procedures m.procedure q (and_left _ (list_all (impl_passes p.candidates (is_scalar_type true) (fits.is_scalar true)) p.implementations) o4) pr in
+    let b = passes_at (impl_passes p.candidates (is_scalar_type true) (fits.is_scalar true)) p.implementations k m (and_right (list_all (proc_passes p.candidates (is_scalar_type true) (fits.is_scalar true)) p.procedures) _ o4) im in
     let a1 = and_right (decls_pass (is_scalar_type true) (fits.is_scalar true) q.params) _ a in
     let params = and_left (decls_pass (is_scalar_type true) (fits.is_scalar true) q.params) _ a in
     let results = and_left (decls_pass (is_scalar_type true) (fits.is_scalar true) q.results) _ a1 in

@@ -1,27 +1,27 @@
 -- From a complete leaf to a run that fails.
-use Rattle.std.proofs.Common.{◌≡◌, ℕ, ◌+◌, pos, Bool, true, false, List, length, map, Option, Some, None, refl, sym, ap, ◌∙◌, subst, replicate, arith}
-use Rattle.std.specs.Prelude.{◌==◌, not, slice_get, unwrap_or}
-use Rattle.std.proofs.lemmas.Bool.{eqb-true}
+use Rattle.std.proofs.Common.{◌≡◌, ℕ, ◌+◌, ◌<◌, pos, Bool, true, false, List, length, map, Option, Some, None, refl, sym, ap, ◌∙◌, subst, replicate, arith}
+use Rattle.std.specs.Prelude.{not, slice_get, unwrap_or, Contains}
 use Rattle.std.proofs.lemmas.Option.{unwrap_or-slice_get}
 use Rattle.bg_ast.specs.Values.{Val}
 use Rattle.bg_ast.specs.Syntax as s
 use Rattle.bg_ast.specs.Resolved as r
 use Rattle.bg_ast.specs.Meaning.{meaning_of}
-use Rattle.bg_ast.specs.Execution.{Spot}
+use Rattle.bg_ast.specs.Execution.{Spot, Place}
 use Rattle.bg_sense.specs.Types.{are_of}
 use Rattle.bg_sense.specs.Flow.{Failed}
 use Rattle.bg_sense.specs.Context.{Turning}
 use Rattle.bg_sense.specs.Run.{induction_run}
+use Rattle.bg_sense.specs.Clauses.{is_kept}
+use Rattle.bg_sense.specs.Places.{places}
 use Rattle.bg_sense.specs.Claims.{IsState}
 use Rattle.bg_sense.specs.Typed.{IsTyped}
-use Rattle.bg_sense.proofs.Bools.{and_left, and_right}
 use Rattle.bg_flow.specs.Core.{frame_decls}
 use Rattle.bg_passive.specs.Passive.{Walked}
 use Rattle.bg_passive.specs.Incarnations.{passives, MakesPassive, first_state, passive_scope}
 use Rattle.bg_passive.specs.Equations.{is_well}
 use Rattle.bg_block_types.specs.Typed.{blocks_in, arrivals_in, incarnations_in}
 use Rattle.bg_formula.specs.Atoms.{IsTruth, at}
-use Rattle.bg_formula.specs.Formulas.{Formula}
+use Rattle.bg_formula.specs.Formulas.{Formula, is_whole}
 use Rattle.bg_formula.specs.Meaning.{Valuation, AtomsAgree, clauses_true}
 use Rattle.bg_cert.specs.Walks.{has}
 use Rattle.bg_cert.specs.declared.cert.Decision.{Decision}
@@ -33,15 +33,16 @@ use Rattle.bg_blocks.specs.declared.block.Block.{Block}
 use Rattle.bg_blocks.specs.Views.{block_of}
 use Rattle.bg_forms.specs.Worth.{bools_at}
 use Rattle.bg_formed.specs.Agree.{RowsAgree}
-use Rattle.bg_formed.specs.Formed.{FormCmd, FormBlock, blocks_below}
+use Rattle.bg_formed.specs.Formed.{FormCmd, FormBlock}
 use Rattle.bg_formed.specs.Said.{SaidBlocks}
 use Rattle.bg_formed.specs.Wells.{form_equations}
 use Rattle.bg_clause.specs.Valued.{worth_in}
-use Rattle.bg_fits.specs.Scalars.{is_empty, is_over_scalars, decls_pass, is_scalar_type, is_scalar}
+use Rattle.bg_fits.specs.Scalars.{is_over_scalars}
 use Rattle.bg_linear.specs.declared.scalar.Sort.{Sort}
 use Rattle.bg_linear.specs.Sorts.{scalar_values}
 use Rattle.bg_atoms.specs.Ranks.{rank}
 use Rattle.bg_atoms.specs.declared.product.Atoms.{Atoms}
+use Rattle.bg_faithful.specs.Checks.{BlocksPlaced}
 use Rattle.bg_faithful.specs.Encoded.{Encoding, IsEncoding}
 use Rattle.bg_faithful.specs.Interps.{no_interp}
 use Rattle.bg_faithful.specs.Sorted.{sorts_in}
@@ -57,25 +58,21 @@ use Rattle.bg_check.specs.Leaves.{marked, numbered, scalars_from}
 use Rattle.bg_check.specs.Prepared.{IsPrepared, encoding_of}
 use Rattle.bg_check.specs.Slices.{IsSliceFor}
 use Rattle.bg_check.specs.Made.{ClausesOf}
+use Rattle.bg_check.specs.Asked.{IsAsked}
 use Rattle.bg_check.specs.Verdicts.{IsFailure}
-use Rattle.bg_check.proofs.LawTypes.{BodyLaw, FitLaw, WholeLaw, ValueLaw, StartLaw, MeetLaw, HoldLaw, DeniedLaw, WithinLaw, RowsLaw, LeafLaw, SignLaw}
-use Rattle.bg_check.proofs.Formulas.{IsPlainFormula, plain_formula, plain_agree, own_number}
+use Rattle.bg_check.proofs.LawTypes.{BodyLaw, FitLaw, WholeLaw, ValueLaw, StartLaw, MeetLaw, HoldLaw, DeniedLaw, WithinLaw, RowsLaw, LeafLaw, UnitLaw, SignLaw, SpotLaw, CheckLaw}
+use Rattle.bg_check.proofs.Formulas.{IsPlainFormula, plain_formula, plain_agree, own_number, unit_met}
 use Rattle.bg_check.proofs.Leaves.{leaf_number, scalars_are}
-use Rattle.bg_check.proofs.Alike.{blocks_alike}
+use Rattle.bg_check.proofs.Alike.{blocks_kept, blocks_fewer}
 use Rattle.bg_check.specs.LeafRuns.{leaf_bools, HasLeaf}
 use Rattle.bg_check.proofs.Worths.{leaf_valuation, truths_agree, worths_are}
 use Rattle.bg_check.proofs.Prepares.{impl, proc, impl_at, proc_at, frame_long, blocks_are, firsts_are, clauses_here}
-
-pub no_candidates : (p : s.Prog) → is_over_scalars true p ≡ true → p.candidates ≡ 0
-no_candidates p o =
-    eqb-true p.candidates 0
-    (and_left (p.candidates == 0) _ (and_right (is_empty p.axioms) _ (and_right (is_empty p.functions) _ (and_right (is_empty p.constants) _ (and_right (decls_pass (is_scalar_type true) (is_scalar true) p.globals) _ o)))))
 
 -- a set as a list, by either reading
 pub set_same : (bs : List Bool) → set_of bs ≡ has bs
 set_same bs = λ i b. unwrap_or-slice_get bs b false i
 
-module _ (bodies : BodyLaw) (fits : FitLaw) (whole : WholeLaw) (values : ValueLaw) (starts : StartLaw) (meets : MeetLaw) (holds : HoldLaw) (denies : DeniedLaw) (within : WithinLaw) (rows : RowsLaw) (leaves : LeafLaw) (signs : SignLaw) (p : r.Program) (n : ℕ) (w : Prepared) (h : IsPrepared p n w) (t : IsTyped (meaning_of p)) (o : is_over_scalars true (meaning_of p) ≡ true) where
+module _ (bodies : BodyLaw) (fits : FitLaw) (whole : WholeLaw) (values : ValueLaw) (starts : StartLaw) (meets : MeetLaw) (holds : HoldLaw) (denies : DeniedLaw) (within : WithinLaw) (rows : RowsLaw) (leaves : LeafLaw) (units : UnitLaw) (signs : SignLaw) (own_spots : SpotLaw) (checks : CheckLaw) (p : r.Program) (n : ℕ) (w : Prepared) (h : IsPrepared p n w) (t : IsTyped (meaning_of p)) (o : is_over_scalars true (meaning_of p) ≡ true) where
   abbrev P : s.Prog
   P = meaning_of p
 
@@ -88,7 +85,7 @@ module _ (bodies : BodyLaw) (fits : FitLaw) (whole : WholeLaw) (values : ValueLa
   abbrev S : List Sort
   S = sorts_in P n M Q
 
-  module _ (spot : Spot) (candidate : Option ℕ) (cuts : Atoms) (cut : IsSliceFor p n w spot cuts) (f : Formula) (set : List Bool) (leaf : Leaf) (made : ClausesOf P cuts (record { implementation = n; spot = spot; candidate = candidate }) f) (is_leaf : IsLeaf f (has set) leaf) where
+  module _ (spot : Spot) (candidate : Option ℕ) (cuts : Atoms) (cut : IsSliceFor p n w spot cuts) (f : Formula) (set : List Bool) (leaf : Leaf) (made : ClausesOf P cuts (record { implementation = n; spot = spot; candidate = candidate }) f) (is_leaf : IsLeaf f (has set) leaf) (asked : IsAsked P (has set) (record { implementation = n; spot = spot; candidate = candidate })) where
     abbrev A : Encoding
     A = encoding_of cuts
 
@@ -110,21 +107,26 @@ module _ (bodies : BodyLaw) (fits : FitLaw) (whole : WholeLaw) (values : ValueLa
     abbrev T : ℕ → Bool
     T = bools_at (leaf_bools f leaf)
 
+    is_whole_here : is_whole f ≡ true
+    is_whole_here = whole P n M Q t o (impl_at p n w h) (proc_at p n w h) A encoding spot f made
+
     is_met : clauses_true V f.atoms f.clauses ≡ true
     is_met =
-        leaves f (has set) leaf V (whole P n M Q t o (impl_at p n w h) (proc_at p n w h) A encoding spot f made) agree is_leaf (λ x. refl) (truths_agree f leaf own is_leaf.once)
+        leaves f (has set) leaf V is_whole_here agree is_leaf (λ x. refl) (truths_agree f leaf own is_leaf.once)
 
     worths : worth_in V f.atoms ≡ T
     worths = worths_are signs f (has set) leaf agree is_leaf own
 
-    -- the equations of the forms deny the entry
-    denied : is_denied (set_of set) spot T A.blocks ≡ true
-    denied =
-        let d = denies A.first P.candidates A.terms A.rows spot A.blocks f made encoding.below V is_met in
-        let e = subst (λ (u : ℕ → Bool). is_well (slice_get (form_equations (λ b. V.truths (A.first + b)) spot u A.blocks) 0) ≡ false) worths d in
-        let below = subst (λ k. blocks_below (A.first + P.candidates + length A.rows) k A.blocks ≡ true) (no_candidates P o) encoding.below in
-        ap (λ l. not (is_well (slice_get l 0))) (blocks_alike (A.first + P.candidates + length A.rows) (set_of set) (λ b. V.truths (A.first + b)) spot T A.blocks below)
-        ∙ ap not e
+    -- members of the set are true
+    members : (b : ℕ) → b < P.candidates → set_of set b ≡ true → V.truths (A.first + b) ≡ true
+    members b l s =
+        unit_met A.first P.candidates A.rows f V (has set) plain (units f (has set) leaf V is_whole_here agree is_leaf (λ x. refl) (truths_agree f leaf own is_leaf.once)) b l (sym (ap (λ x. x b) (set_same set)) ∙ s)
+
+    -- the check of the place is there under the set
+    kept : (u : Place) → Contains (places P) u → u.spot ≡ spot → is_kept (set_of set) u.candidate ≡ true
+    kept u mem e =
+        ap (λ x. is_kept x u.candidate) (set_same set)
+        ∙ (ap (is_kept (has set)) (own_spots P u (record { implementation = n; spot = spot; candidate = candidate }) asked.resolved mem asked.is_place e) ∙ asked.kept)
 
     -- ---- the values of the incarnations
 
@@ -167,6 +169,15 @@ module _ (bodies : BodyLaw) (fits : FitLaw) (whole : WholeLaw) (values : ValueLa
         let agrees = subst (λ (u : ℕ → Bool). RowsAgree (value_of leaf.spots.items) u (A.first + P.candidates) A.rows) worths r in
         let x = encoding.said (value_of leaf.spots.items) T (passive_scope P no_interp X) agrees (holds S (value_of leaf.spots.items) (λ j. T (rank S j))) in
         subst (λ bs. SaidBlocks T (passive_scope P no_interp X) (passives (arrivals_in P n M Q).arrivals bs) A.blocks) (sym (blocks_are p n w h)) x
+
+    -- the equations of the forms deny the entry
+    denied : is_denied (set_of set) spot T A.blocks ≡ true
+    denied =
+        let d = denies A.first P.candidates A.terms A.rows spot A.blocks f made encoding.below V is_met in
+        let e = subst (λ (u : ℕ → Bool). is_well (slice_get (form_equations (λ b. V.truths (A.first + b)) spot u A.blocks) 0) ≡ false) worths d in
+        let placed = subst (λ bs. BlocksPlaced P (passives (arrivals_in P n M Q).arrivals bs)) (sym (blocks_are p n w h)) (checks P n M Q o (impl_at p n w h) (proc_at p n w h)) in
+        let there = blocks_kept P (set_of set) spot T (passive_scope P no_interp X) kept (passives (arrivals_in P n M Q).arrivals (map (block_of p) w.blocks.items)) A.blocks said placed in
+        ap not (blocks_fewer (A.first + P.candidates + length A.rows) P.candidates (set_of set) (λ b. V.truths (A.first + b)) members spot T A.blocks encoding.below there 0 e)
 
     failure : (cex : Counterexample) → IsCounterexample P (map (block_of p) w.blocks.items) w.frame w.passive.firsts.items A.blocks (set_of set) spot T X cex → IsFailure P (has set) (record { implementation = n; spot = spot; candidate = candidate }) cex
     failure cex c =

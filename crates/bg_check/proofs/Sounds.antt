@@ -1,4 +1,4 @@
--- Right verdicts are sound.
+-- What a report tells of right verdicts is true.
 use Rattle.std.proofs.Common.{◌≡◌, ℕ, suc, Bool, true, false, ◌&&◌, ◌||◌, List, [], ◌∷◌, map, cond, if◌then◌else◌, refl, sym, ap, ◌∙◌, subst}
 use Rattle.std.specs.Prelude.{filter}
 use Rattle.std.specs.List.{list_any, list_all}
@@ -6,21 +6,19 @@ use Rattle.bg_ast.specs.Syntax.{Prog}
 use Rattle.bg_ast.specs.Resolved as r
 use Rattle.bg_ast.specs.Meaning.{meaning_of}
 use Rattle.bg_ast.specs.Execution.{Interp, State, Choice, Place}
-use Rattle.bg_sense.specs.Claims.{Fails, Inductive}
+use Rattle.bg_sense.specs.Claims.{Fails}
 use Rattle.bg_sense.proofs.Bools.{and_left, and_right}
 use Rattle.bg_places.specs.Placed.{placed_impl}
 use Rattle.bg_cert.specs.declared.cert.Node.{Node}
-use Rattle.bg_fits.specs.Scalars.{is_over_scalars}
 use Rattle.bg_tree.specs.declared.outcome.Budget.{Budget}
 use Rattle.bg_sound.specs.Told as t
-use Rattle.bg_sound.specs.Sound.{IsTrueAt, AreTrueAt, AreTrueFrom, IsSound}
-use Rattle.bg_sound.proofs.Plain.{plain, no_candidates}
+use Rattle.bg_sound.specs.Sound.{IsTrueAt, AreTrueAt, AreTrueFrom}
 use Rattle.bg_check.specs.declared.verdict.Cause.{Cause}
 use Rattle.bg_check.specs.declared.verdict.Verdict.{Verdict}
 use Rattle.bg_check.specs.declared.verdict.Verdict.TheVariants.{Proved, Refuted, Unknown}
 use Rattle.bg_check.specs.declared.verdict.Judged.{Judged}
-use Rattle.bg_check.specs.Verdicts.{none, HasCertificate, IsRight, placed_at, AreRightAt, AreRightFrom, is_proved, are_proved, ProvedAreSafe}
-use Rattle.bg_check.specs.Outcomes.{verdict_of, told_one, is_ordinary, told, outcome_of}
+use Rattle.bg_check.specs.Verdicts.{HasCertificate, IsRight, placed_at, AreRightAt, AreRightFrom, is_proved, are_proved, ProvedAreSafe}
+use Rattle.bg_check.specs.Outcomes.{verdict_of, told_one, is_ordinary, told}
 
 -- what certificates give
 abbrev pub NoFailures : Prog → (ℕ → Bool) → Type 0
@@ -30,10 +28,6 @@ NoFailures p set =
 same_placed : (words : Cause → t.Why) (js : List Judged) → map t.placed_at (map (told_one words) js) ≡ map placed_at js
 same_placed words [] = refl
 same_placed words (j ∷ js) = ap (λ ys. placed_at j ∷ ys) (same_placed words js)
-
--- the empty set is inductive
-pub none_inductive : (p : Prog) → Inductive p none
-none_inductive p t b c e h = absurd (let bad : false ≡ true = h in cc)
 
 -- what is ordinary already is all there
 all_filtered : {A : Type 0} (f : A → Bool) (xs : List A) → list_all f (filter f xs) ≡ true
@@ -97,14 +91,3 @@ true_from p set budget words f k (m ∷ ms) (js ∷ os) h s =
       },
       true_from p set budget words f (suc k) ms os h.1 s.1,
     )
-
-pub sound : (p : r.Program) (os : List (List Judged)) (words : Cause → t.Why) → is_over_scalars true (meaning_of p) ≡ true → AreTrueFrom p none 0 p.implementations (map (told words) os) → IsSound p (outcome_of words os)
-sound p os words over h =
-    let easy = plain (meaning_of p) true over in
-    record {
-      candidates = sym (no_candidates (meaning_of p) true over);
-      axioms = easy.0;
-      retained_set = easy.1;
-      unchecked = λ b u i c d. absurd (let bad : ⊥ = cc in bad);
-      implementations = h;
-    }

@@ -9,3 +9,4 @@ pub mod Dropped
 pub mod Made
 pub mod Outcomes
 pub mod Ways
+pub mod Asked

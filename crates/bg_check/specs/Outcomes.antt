@@ -1,5 +1,5 @@
 -- Verdicts as what a report tells.
-use Rattle.std.specs.Prelude.{Bool, true, List, [], map, filter}
+use Rattle.std.specs.Prelude.{Bool, List, map, filter}
 use Rattle.bg_faithful.specs.Interps.{no_interp}
 use Rattle.bg_scalar.specs.Choices.{choice_of, state_of}
 use Rattle.bg_sound.specs.Told as t
@@ -24,8 +24,3 @@ is_ordinary j = t.is_ordinary (placed_at j)
 -- the ordinary places
 abbrev pub told : (Cause → t.Why) → List Judged → List t.Judged
 told words js = map (told_one words) (filter is_ordinary js)
-
--- of a program without candidates and axioms
-abbrev pub outcome_of : (Cause → t.Why) → List (List Judged) → t.Outcome
-outcome_of words os =
-    record { axioms = t.Consistent; fates = []; is_greatest = true; implementations = map (told words) os }

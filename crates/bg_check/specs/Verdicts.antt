@@ -35,10 +35,6 @@ use Rattle.bg_check.specs.declared.verdict.Verdict.TheVariants.{Proved, Refuted,
 use Rattle.bg_check.specs.declared.verdict.Judged.{Judged}
 use Rattle.bg_check.specs.Replays.{RunsTo}
 
--- no candidate
-abbrev pub none : ℕ → Bool
-none b = false
-
 -- the place's clauses have this certificate under a set of candidates
 pub record HasCertificate (p : Prog) (set : ℕ → Bool) (t : Place) (nodes : List Node) : Type 0 where
   pub formula : Formula
@@ -107,10 +103,6 @@ AreRightFrom budget p set k (m ∷ ms) (js ∷ os) = AreRightOf budget p set k m
 -- one right verdict for each ordinary place of a program, under a set of candidates
 abbrev pub AreRightUnder : (ℕ → Bool) → Budget → r.Program → List (List Judged) → Type 0
 AreRightUnder set budget p outcome = AreRightFrom budget p set 0 p.implementations outcome
-
--- under no candidate
-abbrev pub AreRight : Budget → r.Program → List (List Judged) → Type 0
-AreRight = AreRightUnder none
 
 abbrev pub is_proved : Verdict → Bool
 is_proved (Proved nodes) = true

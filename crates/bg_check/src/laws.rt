@@ -28,12 +28,12 @@ ghost use Rattle.bg_tree.specs.declared.outcome.Budget.{Budget};
 ghost use Rattle.bg_check.specs.declared.verdict.Judged.{Judged};
 ghost use Rattle.bg_check.specs.declared.verdict.Verdict.TheVariants.{Refuted};
 ghost use Rattle.bg_sound.specs.Told.{Why};
-ghost use Rattle.bg_sound.specs.Sound.{AreTrueFrom, IsSound};
+ghost use Rattle.bg_sound.specs.Sound.{AreTrueFrom};
 ghost use Rattle.bg_check.specs.declared.verdict.Cause.{Cause};
-ghost use Rattle.bg_check.specs.Outcomes.{told, outcome_of};
+ghost use Rattle.bg_check.specs.Outcomes.{told};
 ghost use Rattle.bg_check.specs.Replays.{RunsTo};
 ghost use Rattle.bg_check.specs.Ways.{LiesOnWay};
-ghost use Rattle.bg_check.specs.Verdicts.{none, HasCertificate, HasOutside, IsFailure, IsRight, AreRightUnder, AreRight, ProvedAreSafe};
+ghost use Rattle.bg_check.specs.Verdicts.{HasCertificate, HasOutside, IsFailure, IsRight, AreRightUnder, ProvedAreSafe};
 
 use bg_block_types::laws::blocks_are_typed;
 use bg_cert::laws::{accepted_has_no_valuation, accepted_where_used};
@@ -73,14 +73,6 @@ pub fn proved_under_a_set_is_safe()
     clauses_over_scalars_fail_alike();
     accepted_has_no_valuation();
     accepted_where_used()
-}
-
-/// An implementation of a typed program over truth values and whole numbers is safe where each of its places without a candidate is proved: no execution
-/// of it fails, of any number of steps.
-pub fn proved_is_safe()
-    ensures { (p : Program) (budget : Budget) (outcome : List (List Judged)) → IsTyped (meaning_of p) → is_over_scalars true (meaning_of p) ≡ true → AreRight budget p outcome → ProvedAreSafe p none 0 outcome }
-{
-    proved_under_a_set_is_safe()
 }
 
 /// A replay of the blocks of an implementation of a typed program over truth values and whole numbers, from a state of the
@@ -141,13 +133,4 @@ pub fn right_verdicts_are_true()
     proved_places_do_not_fail();
     proved_under_a_set_is_safe();
     accepted_where_used()
-}
-
-/// Right verdicts on a typed program over truth values and whole numbers are sound: what a report tells of them is true, whatever words it
-/// has for causes.
-pub fn right_verdicts_are_sound()
-    ensures { (p : Program) (budget : Budget) (outcome : List (List Judged)) (words : Cause → Why) → IsTyped (meaning_of p) → is_over_scalars true (meaning_of p) ≡ true →
-        AreRight budget p outcome → IsSound p (outcome_of words outcome) }
-{
-    right_verdicts_are_true()
 }

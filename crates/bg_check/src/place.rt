@@ -9,6 +9,7 @@ ghost use Rattle.bg_cert.specs.Walks.{has};
 ghost use Rattle.bg_tree.specs.declared.outcome.Budget.{Budget};
 ghost use Rattle.bg_tree.specs.Ends.{IsLeaf};
 ghost use Rattle.bg_fits.specs.Scalars.{is_over_scalars};
+ghost use Rattle.bg_check.specs.Asked.{IsAsked};
 ghost use Rattle.bg_check.specs.Prepared.{IsPrepared};
 ghost use Rattle.bg_check.specs.Slices.{IsSliceFor};
 ghost use Rattle.bg_check.specs.LeafRuns.{HasLeaf};
@@ -26,9 +27,9 @@ use bg_base::OutOfRange;
 use bg_clause::laws::{atoms_of_clauses, clauses_fail_alike};
 use bg_clause::{Names, clauses};
 use bg_faithful::laws::{
-    clauses_over_scalars_are_whole, clauses_over_scalars_fail_alike,
-    no_interpretation_is_needed_for_scalars, typed_values_begin_with_a_state,
-    typed_values_hold_scalars,
+    checks_of_passive_blocks_are_places, clauses_over_scalars_are_whole,
+    clauses_over_scalars_fail_alike, no_interpretation_is_needed_for_scalars,
+    typed_values_begin_with_a_state, typed_values_hold_scalars,
 };
 use bg_formula::Clauses;
 use bg_linear::laws::scalar_values_hold;
@@ -36,6 +37,7 @@ use bg_model::{Counterexample, Routine, Valuation, counterexample};
 use bg_passive::laws::arrivals_fit;
 use bg_rows::Refused;
 use bg_sense::laws::typed_programs_have_typed_bodies;
+use bg_sense::resolved::places_have_spots_of_their_own;
 use bg_tree::laws::leaves_are_met;
 use bg_tree::{Budget, Leaf, Outcome, search};
 use std::alloc::{AllocError, Global};
@@ -84,6 +86,7 @@ fn failing<'q, 'p>(
     requires typed { IsTyped (meaning_of (program_of question.program.now)) }
     requires scalars { is_over_scalars true (meaning_of (program_of question.program.now)) ≡ true }
     requires prepared { IsPrepared (program_of question.program.now) question.place.now.implementation question.prepared.now }
+    requires asked { IsAsked (meaning_of (program_of question.program.now)) (has question.set.now) (placed_of question.place.now).place }
     requires slice { IsSliceFor (program_of question.program.now) question.place.now.implementation question.prepared.now (spot_of question.place.now.spot) atoms.now }
     requires clauses { ClausesOf (meaning_of (program_of question.program.now)) atoms.now (placed_of question.place.now).place (formula_of f.now) }
     requires leaf { IsLeaf (formula_of f.now) (has question.set.now) leaf.now }
@@ -95,6 +98,8 @@ fn failing<'q, 'p>(
     clauses_fail_alike();
     atoms_of_clauses();
     clauses_over_scalars_are_whole();
+    checks_of_passive_blocks_are_places();
+    places_have_spots_of_their_own();
     typed_values_hold_scalars();
     typed_values_begin_with_a_state();
     no_interpretation_is_needed_for_scalars();
@@ -130,6 +135,7 @@ fn search_place(
     requires typed { IsTyped (meaning_of (program_of question.program.now)) }
     requires scalars { is_over_scalars true (meaning_of (program_of question.program.now)) ≡ true }
     requires prepared { IsPrepared (program_of question.program.now) question.place.now.implementation question.prepared.now }
+    requires asked { IsAsked (meaning_of (program_of question.program.now)) (has question.set.now) (placed_of question.place.now).place }
     requires slice { IsSliceFor (program_of question.program.now) question.place.now.implementation question.prepared.now (spot_of question.place.now.spot) atoms.now }
     requires clauses { ClausesOf (meaning_of (program_of question.program.now)) atoms.now (placed_of question.place.now).place (formula_of f.now) }
     ensures { IfOk result (λ verdict. IsRight budget (meaning_of (program_of question.entry.program.now)) (has question.entry.set.now) (placed_of question.entry.place.now).place verdict) }
@@ -145,8 +151,8 @@ fn search_place(
     }
 }
 
-/// What is known of a place of a typed program over truth values and whole numbers, under a set of candidates. In a search at most
-/// the budget's nodes count, and it keeps at most its rows.
+/// What is known of a place of a typed program over truth values and whole numbers, under a set of candidates that has the place's
+/// own, if it has one. In a search at most the budget's nodes count, and it keeps at most its rows.
 ///
 /// Only want of memory is an error; 2^32 atoms count as such.
 pub fn check_place(
@@ -157,6 +163,7 @@ pub fn check_place(
     requires typed { IsTyped (meaning_of (program_of question.program.now)) }
     requires scalars { is_over_scalars true (meaning_of (program_of question.program.now)) ≡ true }
     requires prepared { IsPrepared (program_of question.program.now) question.place.now.implementation question.prepared.now }
+    requires asked { IsAsked (meaning_of (program_of question.program.now)) (has question.set.now) (placed_of question.place.now).place }
     ensures { IfOk result (λ verdict. IsRight budget (meaning_of (program_of question.entry.program.now)) (has question.entry.set.now) (placed_of question.entry.place.now).place verdict) }
 {
     let atoms = place_atoms(alloc, question.program, question.prepared, question.place)?;

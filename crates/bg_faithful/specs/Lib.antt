@@ -1,3 +1,4 @@
 pub mod Sorted
 pub mod Encoded
 pub mod Interps
+pub mod Checks

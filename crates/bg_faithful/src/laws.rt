@@ -20,6 +20,7 @@ ghost use Rattle.bg_linear.specs.Sorts.{scalar_values, HoldScalars};
 ghost use Rattle.bg_atoms.specs.Ranks.{rank};
 ghost use Rattle.bg_atoms.specs.Sorted.{blocks_sorted};
 ghost use Rattle.bg_block_types.specs.Typed.{blocks_in, incarnations_in, passives_in};
+ghost use Rattle.bg_faithful.specs.Checks.{BlocksPlaced};
 ghost use Rattle.bg_faithful.specs.Sorted.{sorts_in};
 ghost use Rattle.bg_faithful.specs.Encoded.{Encoding, IsEncoding};
 ghost use Rattle.bg_faithful.specs.Interps.{no_interp};
@@ -37,7 +38,7 @@ pub fn blocks_over_scalars_are_even()
     blocks_are_typed()
 }
 
-/// Each command of the passive blocks says a truth over incarnations that are truth values or numbers, and no candidate guards it.
+/// Each command of the passive blocks says a truth over incarnations that are truth values or numbers, and a candidate that guards it is declared.
 pub fn passive_blocks_have_sorts()
     ensures { (p : Prog) (k : ℕ) (m : Impl) (q : Proc) → IsTyped p → is_over_scalars true p ≡ true →
         slice_get p.implementations k ≡ Some m → procedure_of p m.procedure ≡ Some q →
@@ -45,6 +46,12 @@ pub fn passive_blocks_have_sorts()
 {
     passive_blocks_are_typed()
 }
+
+/// Each check of the passive blocks is at a place of the program, and has its candidate.
+pub fn checks_of_passive_blocks_are_places()
+    ensures { (p : Prog) (k : ℕ) (m : Impl) (q : Proc) → is_over_scalars true p ≡ true →
+        slice_get p.implementations k ≡ Some m → procedure_of p m.procedure ≡ Some q → BlocksPlaced p (passives_in p k m q) }
+{}
 
 /// Typed values of the incarnations are numbers and truth values, one for each; and any numbers and truth values are typed.
 pub fn typed_values_hold_scalars()

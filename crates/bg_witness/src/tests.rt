@@ -3,13 +3,16 @@ ghost use Rattle.std.specs.Prelude.{◌≡◌, true};
 ghost use Rattle.bg_ast.specs.Meaning.{meaning_of};
 ghost use Rattle.bg_ast.specs.Views.{program_of};
 ghost use Rattle.bg_sense.specs.Typed.{IsTyped};
+ghost use Rattle.bg_sense.specs.Resolved.{IsResolved};
 ghost use Rattle.bg_fits.specs.Scalars.{is_over_scalars};
 
 use crate::judged_program;
 use bg_ast::resolved::Resolved;
 use bg_blocks::callees_of;
 use bg_cert::{Node, accepts};
-use bg_check::{Cause, Judged, Prepared, Verdict, check_program, place_atoms, prepare};
+use bg_check::{
+    Cause, Judged, Prepared, Verdict, count_candidates, judge_ordinary, place_atoms, prepare,
+};
 use bg_clause::{Names, clauses};
 use bg_model::Counterexample;
 use bg_replay::{Choice, Code, Ending, Start, replay};
@@ -50,6 +53,9 @@ const PARITY: &str =
 const MIXED: &str =
     "var g: int; procedure Q(a: bool, n: int) returns (r: int); modifies g; requires a <==> n > 0; ensures r == g + n; procedure P(b: bool) modifies g; { var k: int; k := 0; if (b) { k := 1; } call k := Q(b, k); assert k == g || k == g + 1; assert k > old(g); }";
 
+const GUARDED: &str =
+    "const {:existential true} b, c: bool; procedure Q(x: bool); requires b ==> x; ensures c ==> x; procedure P(x: bool) { assert b ==> x; call Q(x); assert x; assert x || !x; }";
+
 const FAR: &str =
     "procedure P(x: int) { assume x == 170141183460469231731687303715884105727; assert x - 1 < 0; } procedure Q(x: int, y: int) { assume x >= 170141183460469231731687303715884105727; assume y == 1; assert x + y < 0; } procedure R(x: int) { assert 2 * (x + 100000000000000000000000000000000000000) >= x; }";
 
@@ -65,9 +71,10 @@ fn is_accepted(
     nodes: &[Node],
 ) -> Result<bool, AllocError> {
     let atoms = place_atoms(alloc, program, prepared, &judged.place)?;
+    let candidates = count_candidates(program)?;
     let names = Names {
         first: atoms.first,
-        candidates: 0,
+        candidates,
         terms: atoms.terms,
         rows: &atoms.rows,
     };
@@ -154,20 +161,18 @@ fn letter(
     }
 }
 
-/// The letters of all places, with `;` behind those of each implementation.
+/// The letters of all ordinary places under the empty set, with `;` behind those of each implementation.
 fn letters(alloc: Global, program: &Resolved) -> Result<String, Fail>
     requires typed { IsTyped (meaning_of (program_of program.now)) }
+    requires resolved { IsResolved (meaning_of (program_of program.now)) }
     requires scalars { is_over_scalars true (meaning_of (program_of program.now)) ≡ true }
 {
-    let outcome = check_program(alloc, program, BUDGET)?;
     let callees = callees_of(alloc, program)?;
     let mut found = String::new(alloc);
     for number in 0..program.implementations.len() {
-        if number >= outcome.len() {
-            return Err("too few verdicts".into());
-        }
         let prepared = prepare(alloc, program, &callees, number)?;
-        for judged in &outcome[number] {
+        let made = judge_ordinary(alloc, program, &prepared, number, &[], BUDGET)?;
+        for judged in &made {
             found.push_str(letter(alloc, program, &prepared, judged)?)?;
         }
         found.push_str(";")?;
@@ -178,7 +183,7 @@ fn letters(alloc: Global, program: &Resolved) -> Result<String, Fail>
 #[test]
 fn each_verdict_holds_when_it_is_looked_at_again(rt: HostRuntime) -> Result<(), Fail> {
     let alloc = rt.alloc();
-    let table: [(&str, &str); 11] = [
+    let table: [(&str, &str); 12] = [
         (LOOP, "prp;"),
         (LEFT, "ppr;"),
         (CALLS, "rpr;"),
@@ -188,6 +193,7 @@ fn each_verdict_holds_when_it_is_looked_at_again(rt: HostRuntime) -> Result<(), 
         (COUNT, "pppprp;"),
         (PARITY, "pr;"),
         (MIXED, "ppr;"),
+        (GUARDED, "rp;"),
         (FAR, "r;o;f;"),
         (LATER, "rp;"),
     ];

@@ -4,13 +4,18 @@ use Rattle.bg_ast.specs.Views.{program_of}
 use Rattle.bg_cert.specs.Walks.{has}
 use Rattle.bg_check.specs.declared.verdict.Judged.{Judged}
 use Rattle.bg_check.specs.Verdicts.{placed_at, AreRightAt}
-use Rattle.bg_check.proofs.Judging.{one_more, places_more, prepared_at}
-use Rattle.bg_check.proofs.program.judge_places.Goals as goal
+use Rattle.bg_check.proofs.Judging.{one_more, places_more, prepared_at, asked_at}
+use Rattle.bg_check.proofs.implementation.judge_places.Goals as goal
 
 pub judge-requires-clause-prepared : goal.judge-requires-clause-prepared
 judge-requires-clause-prepared c =
     let l : c.loop-place.place-index < length c.args.places.now = omega arith in
     prepared_at (program_of c.args.program.now) c.args.prepared.now c.args.places.now c.loop-place.place-index _ c.requires.prepared l
+
+pub judge-requires-clause-asked : goal.judge-requires-clause-asked
+judge-requires-clause-asked c =
+    let l : c.loop-place.place-index < length c.args.places.now = omega arith in
+    asked_at (meaning_of (program_of c.args.program.now)) (has c.args.set.now) c.args.places.now c.loop-place.place-index _ c.requires.asked l
 
 pub loop-place-preserved : goal.loop-place-preserved
 loop-place-preserved c =

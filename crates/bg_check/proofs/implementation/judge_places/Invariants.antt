@@ -4,7 +4,7 @@ use Rattle.bg_ast.specs.Views.{program_of}
 use Rattle.bg_cert.specs.Walks.{has}
 use Rattle.bg_places.specs.Views.{placed_in}
 use Rattle.bg_check.specs.Verdicts.{placed_at, AreRightAt}
-use Rattle.bg_check.proofs.program.judge_places.Given as goal
+use Rattle.bg_check.proofs.implementation.judge_places.Given as goal
 
 abbrev pub invariant-loop-place : goal.invariant-loop-place
 invariant-loop-place l = record {
