@@ -1,0 +1,11 @@
+pub mod Declared
+pub mod Tasks
+pub mod Members
+pub mod Truths
+pub mod Answering
+pub mod Once
+pub mod Means
+pub mod Telling
+pub mod Whole
+pub mod Listed
+pub mod Shared

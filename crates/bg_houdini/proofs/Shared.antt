@@ -1,0 +1,128 @@
+-- What is made once of a program may be shared by threads.
+use denote.Ref.{NamedLft}
+use denote.Param.Send.{IsSync, sendable}
+use Rattle.std.proofs.Crossing as std
+use Rattle.core.proofs.option.Option.TheSendSync as option
+use Rattle.std.proofs.vec.Vec.TheSendSync as vec
+use Rattle.std.proofs.alloc.Global.TheSendSync as global
+use Rattle.bg_base.proofs.pos.Pos.TheSendSync as pos
+use Rattle.bg_base.proofs.ids.CandId.TheSendSync as cand
+use Rattle.bg_text.proofs.expr.Name.TheSendSync as name
+use Rattle.bg_ast.proofs.resolved.Placed.TheSendSync as placed
+use Rattle.bg_ast.proofs.resolved.Bracket.TheLaws.TheKnot as knot_expr
+use Rattle.bg_ast.proofs.resolved.Stmt.TheLaws.TheKnot as knot_stmt
+use Rattle.bg_ast.proofs.resolved.WrittenType.TheLaws.TheKnot as knot_type
+use Rattle.bg_ast.specs.contracts.resolved.Expr as expr
+use Rattle.bg_ast.specs.contracts.resolved.Clause as clause
+use Rattle.bg_ast.specs.contracts.resolved.Guard as guard
+use Rattle.bg_ast.specs.contracts.resolved.Indices as indices
+use Rattle.bg_ast.specs.contracts.resolved.Target as target
+use Rattle.bg_ast.specs.contracts.resolved.Call as call
+use Rattle.bg_ast.specs.contracts.resolved.Stmt as stmt
+use Rattle.bg_ast.specs.contracts.resolved.WrittenType as written
+use Rattle.bg_ast.specs.contracts.resolved.TypeName as type_name
+use Rattle.bg_ast.specs.contracts.resolved.Constant as constant
+use Rattle.bg_ast.specs.contracts.resolved.Declared as declared
+use Rattle.bg_ast.specs.contracts.resolved.Function as function
+use Rattle.bg_ast.specs.contracts.resolved.Procedure as procedure
+use Rattle.bg_ast.specs.contracts.resolved.Implementation as implementation
+use Rattle.bg_ast.specs.contracts.resolved.Resolved as resolved
+use Rattle.bg_ast.proofs.resolved.Variable.TheSendSync as variable
+use Rattle.bg_places.proofs.place.Group.TheSendSync as group
+use Rattle.bg_places.proofs.place.Place.TheSendSync as place
+use Rattle.bg_linear.proofs.scalar.Sort.TheSendSync as sort
+use Rattle.bg_tree.proofs.outcome.Budget.TheSendSync as budget
+use Rattle.bg_incarnate.proofs.blocks.Incarnations.TheSendSync as incarnations
+use Rattle.bg_forms.proofs.form.Form.TheLaws.TheKnot as knot_form
+use Rattle.bg_blocks.proofs.block.Kept.TheSendSync as kept
+use Rattle.bg_blocks.specs.contracts.block.Cmd as cmd
+use Rattle.bg_blocks.specs.contracts.block.Exit as exit
+use Rattle.bg_blocks.specs.contracts.block.Block as block
+use Rattle.bg_incarnate.specs.contracts.blocks.Passive as passive
+use Rattle.bg_atoms.specs.contracts.product.Atoms as atoms
+use Rattle.bg_check.specs.contracts.prepared.Prepared as prepared
+use Rattle.bg_houdini.specs.contracts.judging.Judging as judging
+
+ruleset parts = (pos.the_field_sync, pos.the_sync, cand.the_field_sync, cand.the_sync, name.the_field_sync, name.the_sync, placed.the_field_sync, placed.the_sync, option.the_sync, vec.the_sync, global.the_sync, std.crosses, sendable)
+
+expr_sync : IsSync expr.the_row
+expr_sync = search (knot_expr.crosses, parts) depth 60 fits 20000
+
+expr_field : IsSync (expr.the_field).row
+expr_field = search (knot_expr.crosses, parts) depth 60 fits 20000
+
+type_sync : IsSync written.the_row
+type_sync = search (knot_type.crosses, parts) depth 60 fits 20000
+
+type_field : IsSync (written.the_field).row
+type_field = search (knot_type.crosses, parts) depth 60 fits 20000
+
+clause_sync : IsSync clause.the_row
+clause_sync = search (expr_field, parts) depth 60 fits 20000
+
+clause_field : IsSync (clause.the_field).row
+clause_field = search (expr_field, parts) depth 60 fits 20000
+
+indices_sync : IsSync indices.the_row
+indices_sync = search (expr_sync, parts) depth 60 fits 20000
+
+target_sync : IsSync target.the_row
+target_sync = search (indices_sync, parts) depth 60 fits 20000
+
+call_sync : IsSync call.the_row
+call_sync = search (expr_sync, parts) depth 60 fits 20000
+
+call_field : IsSync (call.the_field).row
+call_field = search (expr_sync, parts) depth 60 fits 20000
+
+guard_sync : IsSync guard.the_row
+guard_sync = search (expr_field, parts) depth 60 fits 20000
+
+guard_field : IsSync (guard.the_field).row
+guard_field = search (expr_field, parts) depth 60 fits 20000
+
+stmt_sync : IsSync stmt.the_row
+stmt_sync = search (knot_stmt.crosses, clause_sync, clause_field, target_sync, call_field, guard_field, expr_sync, expr_field, parts) depth 60 fits 20000
+
+declared_sync : IsSync declared.the_row
+declared_sync = search (type_field, parts) depth 60 fits 20000
+
+type_name_sync : IsSync type_name.the_row
+type_name_sync = search (type_sync, parts) depth 60 fits 20000
+
+constant_sync : IsSync constant.the_row
+constant_sync = search (type_field, parts) depth 60 fits 20000
+
+function_sync : IsSync function.the_row
+function_sync = search (type_sync, type_field, expr_sync, parts) depth 60 fits 20000
+
+procedure_sync : IsSync procedure.the_row
+procedure_sync = search (declared_sync, clause_sync, parts) depth 60 fits 20000
+
+implementation_sync : IsSync implementation.the_row
+implementation_sync = search (declared_sync, stmt_sync, parts) depth 60 fits 20000
+
+pub resolved_sync : IsSync resolved.the_row
+resolved_sync =
+    search (type_name_sync, constant_sync, declared_sync, function_sync, expr_sync, procedure_sync, implementation_sync, parts) depth 60 fits 20000
+
+cmd_sync : (a : NamedLft) → IsSync (cmd.the_row a)
+cmd_sync a = search (group.the_field_sync, kept.the_field_sync, variable.the_sync, clause_sync, target_sync, call_sync, procedure_sync, expr_sync, parts) depth 60 fits 20000
+
+exit_field : (a : NamedLft) → IsSync ((exit.the_field a).row)
+exit_field a = search (guard_sync, parts) depth 60 fits 20000
+
+block_sync : (a : NamedLft) → IsSync (block.the_row a)
+block_sync a = search (cmd_sync, exit_field, parts) depth 60 fits 20000
+
+passive_field : IsSync (passive.the_field).row
+passive_field = search (incarnations.the_sync, knot_expr.crosses, parts) depth 60 fits 20000
+
+atoms_field : IsSync (atoms.the_field).row
+atoms_field = search (knot_form.crosses, knot_expr.crosses, parts) depth 60 fits 20000
+
+prepared_sync : (a : NamedLft) → IsSync (prepared.the_row a)
+prepared_sync a = search (block_sync, passive_field, sort.the_sync, atoms_field, parts) depth 60 fits 20000
+
+pub judging_sync : (a : NamedLft) → IsSync (judging.the_row a)
+judging_sync a = search (resolved_sync, prepared_sync, place.the_sync, budget.the_field_sync, parts) depth 60 fits 20000

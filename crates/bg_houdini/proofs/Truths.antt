@@ -1,0 +1,55 @@
+-- Sets of candidates as lists of truth values.
+use Rattle.std.proofs.Common.{◌≡◌, ℕ, suc, ◌+◌, ◌<◌, ◌≤◌, Bool, true, false, if◌then◌else◌, ltb, [], ◌∷◌, ◌++◌, length, take, refl, sym, ap, ◌∙◌, subst, arith}
+use Rattle.std.specs.Prelude.{slice_set}
+use Rattle.std.proofs.lemmas.Bool.{ltb-true, ltb-false}
+use Rattle.std.proofs.lemmas.List.{length-set, get_or-set_same, get_or-set_other}
+use Rattle.std.proofs.Math.Seq.{take-suc}
+use Rattle.bg_words.specs.Sets.{Numbers, has}
+use Rattle.bg_words.proofs.Words.{same_set}
+
+-- one truth value more
+pub one_truth : (made set : Numbers) (c : ℕ) → made ≡ take c set → c < length set → made ++ (has set c ∷ []) ≡ take (c + 1) set
+one_truth made set c h l =
+    let s : c + 1 ≡ suc c = omega arith in
+    ap (λ xs. xs ++ (has set c ∷ [])) h ∙ (sym (take-suc set c false l) ∙ ap (λ (k : ℕ). take k set) (sym s))
+
+-- the first c of n candidates are as the truth values say, and the others are there
+pub record IsBegun (n c : ℕ) (truths made : Numbers) : Type 0 where
+  pub count : length made ≡ n
+  pub done : (d : ℕ) → d < c → has made d ≡ has truths d
+  pub left : (d : ℕ) → c ≤ d → d < n → has made d ≡ true
+
+pub begun : (n : ℕ) (truths made : Numbers) → length made ≡ n → ((d : ℕ) → d < n → has made d ≡ true) → IsBegun n 0 truths made
+begun n truths made count full = record {
+  count = count;
+  done = λ d l. absurd (omega (arith, l));
+  left = λ d l m. full d m;
+}
+
+pub next : (n c : ℕ) (truths made new : Numbers) → c < n → IsBegun n c truths made → new ≡ (if has truths c then made else slice_set made c false) → IsBegun n (c + 1) truths new
+next n c truths made new l h e = on (has truths c) refl e
+  where
+    cases : (xs : Numbers) → ((d : ℕ) → d < c → has xs d ≡ has truths d) → has xs c ≡ has truths c → (d : ℕ) → d < c + 1 → has xs d ≡ has truths d
+    cases xs below here d m = by (ltb d c) refl
+      where
+        by : (b : Bool) → ltb d c ≡ b → has xs d ≡ has truths d
+        by true f = below d (ltb-true d c f)
+        by false f =
+            let low = ltb-false d c f in
+            let same : c ≡ d = omega (arith, low, m) in
+            subst (λ (k : ℕ). has xs k ≡ has truths k) same here
+
+    on : (b : Bool) → has truths c ≡ b → new ≡ (if b then made else slice_set made c false) → IsBegun n (c + 1) truths new
+    on true f g = subst (IsBegun n (c + 1) truths) (sym g) (record {
+      count = h.count;
+      done = cases made h.done (h.left c (omega arith) l ∙ sym f);
+      left = λ d m k. h.left d (omega (arith, m)) k;
+    })
+    on false f g = subst (IsBegun n (c + 1) truths) (sym g) (record {
+      count = length-set made c false ∙ h.count;
+      done = cases (slice_set made c false) (λ d m. get_or-set_other made c d false false (λ z. absurd (omega (arith, z, m))) ∙ h.done d m) (get_or-set_same made c false false (let k = h.count in omega (arith, k, l)) ∙ sym f);
+      left = λ d m k. get_or-set_other made c d false false (λ z. absurd (omega (arith, z, m))) ∙ h.left d (omega (arith, m)) k;
+    })
+
+pub whole : (n : ℕ) (truths made : Numbers) → length truths ≡ n → IsBegun n n truths made → made ≡ truths
+whole n truths made long h = same_set made truths (h.count ∙ sym long) (λ d l. h.done d (let k = h.count in omega (arith, k, l)))

@@ -1,0 +1,7 @@
+use Rattle.bg_ast.specs.Meaning.{meaning_of}
+use Rattle.bg_houdini.proofs.Means.{places_inductive}
+use Rattle.bg_houdini.proofs.laws.retained_is_inductive.Goals as goal
+
+pub returns : goal.returns
+returns c = λ budget p o typed over truth.
+    places_inductive budget p o (λ set other t nodes h u. c.proved_places_do_not_fail.ensures (meaning_of p) set other t nodes typed over h u) truth

@@ -1,0 +1,52 @@
+-- What the check of a task says of it.
+use Rattle.std.specs.Prelude.{◌≡◌, ℕ, Bool, true, false, ◌&&◌, nat_lt, List, Some, Vec, map, length, slice_get}
+use Rattle.std.specs.declared.alloc.Global.{Global}
+use Rattle.bg_ast.specs.Syntax.{Prog}
+use Rattle.bg_ast.specs.Execution.{Interp, State, Choice, Place}
+use Rattle.bg_sense.specs.Claims.{Fails}
+use Rattle.bg_words.specs.Sets.{Numbers, has}
+use Rattle.bg_cert.specs.declared.cert.Node.{Node}
+use Rattle.bg_cert.specs.Certs.{node_of, uses}
+use Rattle.bg_tree.specs.declared.outcome.Budget.{Budget}
+use Rattle.bg_check.specs.declared.verdict.Verdict.TheVariants as verdict
+use Rattle.bg_check.specs.Verdicts.{HasCertificate, IsRight}
+use Rattle.bg_houdini.specs.declared.reason.Reason.{Reason}
+use Rattle.bg_houdini.specs.declared.reason.Reason.TheVariants.{Refuted, Unknown}
+use Rattle.bg_houdini.specs.Tasks.{tasks_of}
+
+-- some induction run fails at the place under the set
+pub record FailsAt (p : Prog) (set : ℕ → Bool) (t : Place) : Type 0 where
+  pub interp : Interp
+  pub state : State
+  pub choices : List Choice
+  pub run : Fails p set t interp state choices
+
+-- of n candidates the set has those that the nodes use
+pub record AreUsed (n : ℕ) (nodes : List Node) (set : Numbers) : Type 0 where
+  pub count : length set ≡ n
+  pub exact : (c : ℕ) → has set c ≡ (nat_lt c n && uses (map node_of nodes) c)
+
+-- there is a task with this number, and this holds of it
+pub record IsSo (p : Prog) (k : ℕ) (says : Place → Type 0) : Type 0 where
+  pub task : Place
+  pub is_there : slice_get (tasks_of p) k ≡ Some task
+  pub so : says task
+
+-- the task fails under the set
+abbrev pub TaskFails : Prog → ℕ → (ℕ → Bool) → Type 0
+TaskFails p k set = IsSo p k (FailsAt p set)
+
+-- the task's clauses have this certificate under these candidates
+abbrev pub TaskPasses : Prog → ℕ → (ℕ → Bool) → Vec Node Global → Type 0
+TaskPasses p k used nodes = IsSo p k (λ t. HasCertificate p used t nodes.items)
+
+-- why the place isn't proved under the set: a run that fails there, or, where the flag says so, a cause to leave it unknown
+abbrev pub IsReason : Budget → Prog → (ℕ → Bool) → Place → Bool → Reason → Type 0
+IsReason budget p set t false (Refuted cex) = IsRight budget p set t (verdict.Refuted cex)
+IsReason budget p set t true (Unknown cause) = IsRight budget p set t (verdict.Unknown cause)
+IsReason budget p set t true (Refuted cex) = ⊥
+IsReason budget p set t false (Unknown cause) = ⊥
+
+-- why the task isn't proved under the set
+abbrev pub TaskFinds : Budget → Prog → ℕ → (ℕ → Bool) → Bool → Reason → Type 0
+TaskFinds budget p k set unknown reason = IsSo p k (λ t. IsReason budget p set t unknown reason)

@@ -1,0 +1,115 @@
+//! A program as a checker of the places of its candidates.
+ghost use Rattle.std.specs.Prelude.{◌≡◌, ◌<◌, Some, length, slice_get, IfOk};
+ghost use Rattle.bg_ast.specs.Execution as run;
+ghost use Rattle.bg_words.specs.Sets.{has};
+ghost use Rattle.bg_check.specs.Verdicts.{IsRight};
+ghost use Rattle.bg_houdini.specs.Tasks.{tasks_of, candidate_of};
+ghost use Rattle.bg_houdini.specs.Checks.{TaskFails, TaskPasses, TaskFinds};
+ghost use Rattle.bg_houdini.specs.Checkers.{IsJudging, meaning_in};
+
+use crate::Reason;
+use crate::answer::answer;
+use crate::sets::truths_of;
+use bg_ast::resolved::Resolved;
+use bg_base::{CandId, TargetId};
+use bg_cert::Node;
+use bg_check::{Prepared, Question, Verdict, check_place};
+use bg_places::Place;
+use bg_places::laws::placed_are_places;
+use bg_rounds::{Answer, Checker};
+use bg_tree::Budget;
+use bg_words::CandSet;
+use std::alloc::{AllocError, Global};
+
+/// A program, each of its implementations prepared, its tasks (the places with a candidate, by implementation and place), how many
+/// candidates it has, and the budget of a check.
+#[derive(Drop)]
+pub struct Judging<'p> {
+    pub program: &'p Resolved,
+    pub prepared: Vec<Prepared<'p>>,
+    pub tasks: Vec<Place>,
+    pub candidates: u32,
+    pub budget: Budget,
+}
+
+/// What one worker needs for its checks: nothing beside the checker.
+#[derive(Drop)]
+pub struct Desk;
+
+/// What is known of a task under a set of candidates.
+fn verdict_on(
+    alloc: Global,
+    judging: &Judging<'_>,
+    t: TargetId,
+    set: &CandSet,
+) -> Result<Verdict, AllocError>
+    requires stands { IsJudging judging.now }
+    requires target { t.0 < length (tasks_of (meaning_in judging.now)) }
+    ensures { IfOk result (λ verdict. (task : run.Place) → slice_get (tasks_of (meaning_in judging.now)) t.0 ≡ Some task → IsRight judging.now.budget (meaning_in judging.now) (has set.now) task verdict) }
+{
+    placed_are_places();
+    let place = &judging.tasks[t.0 as usize];
+    let truths = truths_of(alloc, set)?;
+    let prepared = &judging.prepared[place.implementation];
+    let question = Question {
+        program: judging.program,
+        prepared,
+        place,
+        set: &truths,
+    };
+    check_place(alloc, question, judging.budget)
+}
+
+impl<'p> Checker<Vec<Node>, Reason, Desk> for Judging<'p> {
+    ghost stands = { IsJudging };
+
+    ghost cands = { λ s. (meaning_in s).candidates };
+
+    ghost targets = { λ s. length (tasks_of (meaning_in s)) };
+
+    ghost cand = { λ s. candidate_of (meaning_in s) };
+
+    ghost fails = { λ s. TaskFails (meaning_in s) };
+
+    ghost passes = { λ s. TaskPasses (meaning_in s) };
+
+    ghost finds = { λ s. TaskFinds s.budget (meaning_in s) };
+
+    fn cand_count(&self) -> u32 {
+        self.candidates
+    }
+
+    fn target_count(&self) -> u32 {
+        self.tasks.len() as u32
+    }
+
+    fn cand_of(&self, t: TargetId) -> CandId {
+        match self.tasks[t.0 as usize].candidate {
+            Some(c) => c,
+            None => unreachable!(),
+        }
+    }
+
+    fn desk(&self, _alloc: Global) -> Result<Desk, AllocError> {
+        Ok(Desk)
+    }
+
+    fn check(
+        &self,
+        alloc: Global,
+        _desk: &mut Desk,
+        t: TargetId,
+        set: &CandSet,
+    ) -> Result<Answer<Vec<Node>, Reason>, AllocError> {
+        let verdict = verdict_on(alloc, self, t, set)?;
+        answer(alloc, verdict, self.candidates)
+    }
+
+    ghost below = { λ s stands. stands.owed.below };
+
+    ghost shrinks = { λ s stands. stands.owed.shrinks };
+
+    ghost passing = { λ s stands. stands.owed.passing };
+
+    ghost failing = { λ s stands. stands.owed.failing };
+}

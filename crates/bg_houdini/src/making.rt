@@ -1,0 +1,104 @@
+//! What is made once for all checks of a program.
+ghost use Rattle.std.specs.Prelude.{◌≡◌, ◌++◌, ◌∷◌, [], true, cond, is_some, map, length, filter, IfOk, OnOk};
+ghost use Rattle.bg_ast.specs.Meaning.{meaning_of};
+ghost use Rattle.bg_ast.specs.Views.{program_of};
+ghost use Rattle.bg_sense.specs.Typed.{IsTyped};
+ghost use Rattle.bg_sense.specs.Resolved.{IsResolved};
+ghost use Rattle.bg_blocks.specs.Callees.{IsModified};
+ghost use Rattle.bg_fits.specs.Scalars.{is_over_scalars};
+ghost use Rattle.bg_places.specs.Placed.{place_in};
+ghost use Rattle.bg_places.specs.Views.{placed_in};
+ghost use Rattle.bg_houdini.specs.Tasks.{has_candidate, tasks_of};
+ghost use Rattle.bg_houdini.specs.Checkers.{ArePrepared, IsJudging};
+
+use crate::judging::Judging;
+use bg_ast::resolved::{Resolved, Variable};
+use bg_check::laws::proved_places_do_not_fail;
+use bg_check::{Prepared, count_candidates, prepare};
+use bg_places::laws::placed_are_places;
+use bg_places::{Place, places};
+use bg_tree::Budget;
+use std::alloc::{AllocError, Global};
+
+/// Each implementation, prepared.
+fn prepare_all<'p>(
+    alloc: Global,
+    program: &'p Resolved,
+    callees: &'p [Vec<Variable>],
+) -> Result<Vec<Prepared<'p>>, AllocError>
+    requires modified { IsModified (program_of program.now) callees.now }
+    requires typed { IsTyped (meaning_of (program_of program.now)) }
+    requires scalars { is_over_scalars true (meaning_of (program_of program.now)) ≡ true }
+    ensures { IfOk result (λ made. ArePrepared (program_of program.now) (length (program_of program.now).implementations) made.items) }
+{
+    let mut made = Vec::new(alloc);
+    for number in 0..program.implementations.len() {
+        let one = prepare(alloc, program, callees, number)?;
+        made.push(one)?;
+    }
+    Ok(made)
+}
+
+/// Adds a place where it has a candidate.
+fn add(made: &mut Vec<Place>, place: &Place) -> Result<(), AllocError>
+    ensures { OnOk result (made.new.items ≡ made.old.items ++ cond (is_some place.now.candidate) (place.now ∷ []) []) }
+{
+    if place.candidate.is_none() {
+        return Ok(());
+    }
+    made.push(*place)?;
+    Ok(())
+}
+
+/// Those of these places that have a candidate, in their order.
+fn with_candidate(alloc: Global, places: &[Place]) -> Result<Vec<Place>, AllocError>
+    ensures { IfOk result (λ made. map place_in (placed_in made.items) ≡ filter has_candidate (map place_in (placed_in places.now))) }
+{
+    let mut made = Vec::new(alloc);
+    for place in places {
+        add(&mut made, place)?;
+    }
+    Ok(made)
+}
+
+/// The tasks of a program.
+fn listed(alloc: Global, program: &Resolved) -> Result<Vec<Place>, AllocError>
+    ensures { IfOk result (λ made. map place_in (placed_in made.items) ≡ tasks_of (meaning_of (program_of program.now))) }
+{
+    placed_are_places();
+    let all = places(alloc, program)?;
+    with_candidate(alloc, &all)
+}
+
+/// The checker of a typed program over truth values and whole numbers with numbers of its own, where these are what its procedures modify.
+///
+/// Only want of memory is an error; 2^32 places with a candidate count as such, and so do 2^32 incarnations or atoms of an implementation.
+pub fn checker_of<'p>(
+    alloc: Global,
+    program: &'p Resolved,
+    callees: &'p [Vec<Variable>],
+    budget: Budget,
+) -> Result<Judging<'p>, AllocError>
+    requires modified { IsModified (program_of program.now) callees.now }
+    requires typed { IsTyped (meaning_of (program_of program.now)) }
+    requires scalars { is_over_scalars true (meaning_of (program_of program.now)) ≡ true }
+    requires resolved { IsResolved (meaning_of (program_of program.now)) }
+    ensures stands { IfOk result IsJudging }
+    ensures program { IfOk result (λ made. made.program.now ≡ program.now) }
+    ensures budget { IfOk result (λ made. made.budget ≡ budget) }
+{
+    proved_places_do_not_fail();
+    let prepared = prepare_all(alloc, program, callees)?;
+    let tasks = listed(alloc, program)?;
+    if tasks.len() >= 4_294_967_296 {
+        return Err(AllocError);
+    }
+    let candidates = count_candidates(program)?;
+    Ok(Judging {
+        program,
+        prepared,
+        tasks,
+        candidates,
+        budget,
+    })
+}
