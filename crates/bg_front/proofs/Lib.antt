@@ -1,4 +1,5 @@
 pub mod Firsts
+pub mod FirstOthers
 pub mod Large
 pub mod Lengths
 pub mod Ones

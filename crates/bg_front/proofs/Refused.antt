@@ -1,5 +1,5 @@
 -- A text has one program, or one refusal.
-use Rattle.std.proofs.Common.{◌≡◌, ◌≤◌, ◌<◌, ℕ, List, length, Option, Some, None, refl, sym, ap, ◌∙◌, subst, arith}
+use Rattle.std.proofs.Common.{◌≡◌, ◌≤◌, ◌<◌, ℕ, List, length, Option, Some, None, refl, sym, ap, ◌∙◌, subst, inl, inr, arith}
 use Rattle.bg_base.specs.declared.pos.Pos.{Pos}
 use Rattle.bg_text.specs.Tokens.{Tok}
 use Rattle.bg_text.specs.Trees.{Decl}
@@ -11,12 +11,14 @@ use Rattle.bg_resolve.proofs.Told.{one_told}
 use Rattle.bg_kinds.specs.Faults as t
 use Rattle.bg_types.specs.Verdicts.{IsWellTyped, IsFault}
 use Rattle.bg_typed.specs.Rules.{KeepsTypes}
-use Rattle.bg_front.specs.Later.{outside, AreJudged, IsUnjudged}
+use Rattle.bg_front.specs.Later.{outside, AreJudged}
+use Rattle.bg_front.specs.Others.{AreCandidates}
 use Rattle.bg_front.specs.Limits.{most_bytes}
-use Rattle.bg_front.specs.Refusals.{Refusal, TooLong, Bytes, Syntax, Nesting, Names, Types, Later, Implementations, Places, Expanded}
+use Rattle.bg_front.specs.Refusals.{Refusal, TooLong, Bytes, Syntax, Nesting, Names, Types, Later, Implementations, Candidates, Places, Expanded}
 use Rattle.bg_front.specs.Trees.{IsTreeOf, HasNoTree}
-use Rattle.bg_front.specs.Programs.{IsMeaningOf, IsProgramOf, ExceedsLimit, IsRefusedBy, limit_of}
+use Rattle.bg_front.specs.Programs.{IsMeaningOf, IsProgramOf, IsLater, ExceedsLimit, IsRefusedBy, limit_of}
 use Rattle.bg_front.proofs.Firsts.{one_unjudged, judged_not_unjudged}
+use Rattle.bg_front.proofs.FirstOthers.{one_other, candidates_no_other}
 use Rattle.bg_front.proofs.Named.{AreNamed, are_named_in, is_named_in}
 use Rattle.bg_front.proofs.NameFaults.{named_no_fault}
 use Rattle.bg_front.proofs.Ones.{Known, one_tree, not_both, one_refusal}
@@ -26,8 +28,8 @@ use Rattle.bg_front.proofs.TypeFaults.{typed_no_fault, one_fault}
 data Rest (ts : List Tok) (ds : List Decl) (x : Refusal) : Type 0 where
   misnamed : (f : n.Fault) → IsToldFault ds f → x ≡ Names f → Rest ts ds x
   mistyped : (f : t.Fault) → AreNamed ds → IsFault (named ds) f → x ≡ Types (named ds).types f → Rest ts ds x
-  unjudged : (p : Pos) (w : List ℕ) → AreNamed ds → IsWellTyped (named ds) → IsUnjudged ts p w → x ≡ Later p w → Rest ts ds x
-  large : AreNamed ds → IsWellTyped (named ds) → AreJudged ts → limit_of (named ds) ≡ Some x → Rest ts ds x
+  unjudged : (p : Pos) (w : List ℕ) → AreNamed ds → IsWellTyped (named ds) → IsLater ts ds p w → x ≡ Later p w → Rest ts ds x
+  large : AreNamed ds → IsWellTyped (named ds) → AreJudged ts → AreCandidates ds → limit_of (named ds) ≡ Some x → Rest ts ds x
 
 data Why (bytes : List ℕ) (x : Refusal) : Type 0 where
   long : most_bytes < length bytes → x ≡ TooLong → Why bytes x
@@ -41,7 +43,7 @@ Fine = (p : r.Program) → KeepsTypes p → IsWellTyped p
 exceeded : Fine → (bytes : List ℕ) (x : Refusal) → ExceedsLimit bytes x → Why bytes x
 exceeded fine bytes x h =
     let m : IsMeaningOf bytes h.0 h.1 = h.2 in
-    some m.short h.0 m.decls m.tree (large (are_named_in bytes h.0 h.1 m) (subst (λ (p : r.Program). IsWellTyped p) (is_named_in bytes h.0 h.1 m) (fine h.1 h.3)) h.4 (subst (λ (p : r.Program). limit_of p ≡ Some x) (is_named_in bytes h.0 h.1 m) h.5))
+    some m.short h.0 m.decls m.tree (large (are_named_in bytes h.0 h.1 m) (subst (λ (p : r.Program). IsWellTyped p) (is_named_in bytes h.0 h.1 m) (fine h.1 h.3)) h.4 h.5 (subst (λ (p : r.Program). limit_of p ≡ Some x) (is_named_in bytes h.0 h.1 m) h.6))
 
 why : Fine → (bytes : List ℕ) (x : Refusal) → IsRefusedBy bytes x → Why bytes x
 why fine bytes TooLong h = long h refl
@@ -56,6 +58,7 @@ why fine bytes (Later q w) h =
     let m : IsMeaningOf bytes h.0 h.1 = h.2 in
     some m.short h.0 m.decls m.tree (unjudged q w (are_named_in bytes h.0 h.1 m) (subst (λ (p : r.Program). IsWellTyped p) (is_named_in bytes h.0 h.1 m) (fine h.1 h.3)) h.4 refl)
 why fine bytes (Implementations c) h = exceeded fine bytes (Implementations c) h
+why fine bytes (Candidates c) h = exceeded fine bytes (Candidates c) h
 why fine bytes (Places c) h = exceeded fine bytes (Places c) h
 why fine bytes Expanded h = exceeded fine bytes Expanded h
 
@@ -68,11 +71,16 @@ one_program k bytes p q a b =
 no_limit : (o : Option Refusal) (x : Refusal) → o ≡ None → o ≡ Some x → ⊥
 no_limit o x h k = absurd (let e : None ≡ Some x = sym h ∙ k in cc)
 
-few_rest : (ts : List Tok) (ds : List Decl) (x : Refusal) → AreNamed ds → IsWellTyped (named ds) → AreJudged ts → limit_of (named ds) ≡ None → Rest ts ds x → ⊥
-few_rest ts ds x a b c d (misnamed f h e) = named_no_fault ds f a h
-few_rest ts ds x a b c d (mistyped f n h e) = typed_no_fault (named ds) f b h
-few_rest ts ds x a b c d (unjudged p w n t h e) = judged_not_unjudged outside ts p w c h
-few_rest ts ds x a b c d (large n w j h) = no_limit (limit_of (named ds)) x d h
+-- where all tokens are judged and all constants candidates, nothing is left for later
+none_later : (ts : List Tok) (ds : List Decl) (p : Pos) (w : List ℕ) → AreJudged ts → AreCandidates ds → IsLater ts ds p w → ⊥
+none_later ts ds p w j c (inl h) = judged_not_unjudged outside ts p w j h
+none_later ts ds p w j c (inr h) = candidates_no_other ds p c h.1.0
+
+few_rest : (ts : List Tok) (ds : List Decl) (x : Refusal) → AreNamed ds → IsWellTyped (named ds) → AreJudged ts → AreCandidates ds → limit_of (named ds) ≡ None → Rest ts ds x → ⊥
+few_rest ts ds x a b c m d (misnamed f h e) = named_no_fault ds f a h
+few_rest ts ds x a b c m d (mistyped f n h e) = typed_no_fault (named ds) f b h
+few_rest ts ds x a b c m d (unjudged p w n t h e) = none_later ts ds p w c m h
+few_rest ts ds x a b c m d (large n w j k h) = no_limit (limit_of (named ds)) x d h
 
 no_reason : Known → Fine → (bytes : List ℕ) (p : r.Program) (x : Refusal) → IsProgramOf bytes p → Why bytes x → ⊥
 no_reason k fine bytes p x a (long l e) = omega (arith, l, a.spelled.short)
@@ -84,6 +92,7 @@ no_reason k fine bytes p x a (some l ts ds tree h) =
     (subst (λ (d : List Decl). AreNamed d) (sym e.1) (are_named_in bytes a.tokens p a.spelled))
     (fine (named ds) (subst (λ (q : r.Program). KeepsTypes q) meant a.typed))
     (subst (λ (t : List Tok). AreJudged t) (sym e.0) a.judged)
+    (subst (λ (d : List Decl). AreCandidates d) (sym e.1) a.candidates)
     (subst (λ (q : r.Program). limit_of q ≡ None) meant a.within)
     h
 
@@ -93,6 +102,12 @@ program_not_refused k fine bytes p x a b = no_reason k fine bytes p x a (why fin
 -- ---- refusals
 later_alike : (p q : Pos) (v w : List ℕ) → (p ≡ q) × (v ≡ w) → Later p v ≡ Later q w
 later_alike p q v w e = ap (λ (x : Pos). Later x v) e.0 ∙ ap (λ (x : List ℕ). Later q x) e.1
+
+one_later : (ts : List Tok) (ds : List Decl) (p q : Pos) (v w : List ℕ) → IsLater ts ds p v → IsLater ts ds q w → (p ≡ q) × (v ≡ w)
+one_later ts ds p q v w (inl a) (inl b) = one_unjudged outside ts p q v w a b
+one_later ts ds p q v w (inl a) (inr b) = absurd (judged_not_unjudged outside ts p v b.0 a)
+one_later ts ds p q v w (inr a) (inl b) = absurd (judged_not_unjudged outside ts q w a.0 b)
+one_later ts ds p q v w (inr a) (inr b) = (one_other ds p q a.1.0 b.1.0, a.1.1 ∙ sym b.1.1)
 
 one_limit : (o : Option Refusal) (x y : Refusal) → o ≡ Some x → o ≡ Some y → x ≡ y
 one_limit o x y h k = let e : Some x ≡ Some y = sym h ∙ k in cc
@@ -105,21 +120,21 @@ rest_alike : (ts : List Tok) (ds : List Decl) (x y : Refusal) → Rest ts ds x �
 rest_alike ts ds x y (misnamed f a e) (misnamed g b h) = through x y (Names f) (Names g) e h (ap Names (one_told ds f g a b))
 rest_alike ts ds x y (misnamed f a e) (mistyped g n b h) = absurd (named_no_fault ds f n a)
 rest_alike ts ds x y (misnamed f a e) (unjudged q w n t b h) = absurd (named_no_fault ds f n a)
-rest_alike ts ds x y (misnamed f a e) (large n t j h) = absurd (named_no_fault ds f n a)
+rest_alike ts ds x y (misnamed f a e) (large n t j z h) = absurd (named_no_fault ds f n a)
 rest_alike ts ds x y (mistyped f m a e) (misnamed g b h) = absurd (named_no_fault ds g m b)
 rest_alike ts ds x y (mistyped f m a e) (mistyped g n b h) =
     through x y _ _ e h (ap (λ (z : t.Fault). Types (named ds).types z) (one_fault (named ds) f g a b))
 rest_alike ts ds x y (mistyped f m a e) (unjudged q w n t b h) = absurd (typed_no_fault (named ds) f t a)
-rest_alike ts ds x y (mistyped f m a e) (large n t j h) = absurd (typed_no_fault (named ds) f t a)
+rest_alike ts ds x y (mistyped f m a e) (large n t j z h) = absurd (typed_no_fault (named ds) f t a)
 rest_alike ts ds x y (unjudged p v m s a e) (misnamed g b h) = absurd (named_no_fault ds g m b)
 rest_alike ts ds x y (unjudged p v m s a e) (mistyped g n b h) = absurd (typed_no_fault (named ds) g s b)
 rest_alike ts ds x y (unjudged p v m s a e) (unjudged q w n t b h) =
-    through x y (Later p v) (Later q w) e h (later_alike p q v w (one_unjudged outside ts p q v w a b))
-rest_alike ts ds x y (unjudged p v m s a e) (large n t j h) = absurd (judged_not_unjudged outside ts p v j a)
-rest_alike ts ds x y (large m s i e) (misnamed g b h) = absurd (named_no_fault ds g m b)
-rest_alike ts ds x y (large m s i e) (mistyped g n b h) = absurd (typed_no_fault (named ds) g s b)
-rest_alike ts ds x y (large m s i e) (unjudged q w n t b h) = absurd (judged_not_unjudged outside ts q w i b)
-rest_alike ts ds x y (large m s i e) (large n t j h) = one_limit (limit_of (named ds)) x y e h
+    through x y (Later p v) (Later q w) e h (later_alike p q v w (one_later ts ds p q v w a b))
+rest_alike ts ds x y (unjudged p v m s a e) (large n t j z h) = absurd (none_later ts ds p v j z a)
+rest_alike ts ds x y (large m s i y0 e) (misnamed g b h) = absurd (named_no_fault ds g m b)
+rest_alike ts ds x y (large m s i y0 e) (mistyped g n b h) = absurd (typed_no_fault (named ds) g s b)
+rest_alike ts ds x y (large m s i y0 e) (unjudged q w n t b h) = absurd (none_later ts ds q w i y0 b)
+rest_alike ts ds x y (large m s i y0 e) (large n t j z h) = one_limit (limit_of (named ds)) x y e h
 
 alike : Known → (bytes : List ℕ) (x y : Refusal) → Why bytes x → Why bytes y → x ≡ y
 alike k bytes x y (long l e) (long m f) = e ∙ sym f

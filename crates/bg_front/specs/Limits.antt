@@ -8,3 +8,7 @@ most_bytes = 4194304
 -- the most implementations that a program may have
 abbrev pub most_implementations : ℕ
 most_implementations = 10000
+
+-- the most candidates that a program may have
+abbrev pub most_candidates : ℕ
+most_candidates = 4096

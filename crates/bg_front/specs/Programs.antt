@@ -1,5 +1,6 @@
 -- The program of a text, and why it has none.
-use Rattle.std.specs.Prelude.{◌≡◌, ◌≤◌, ◌<◌, ℕ, nat_lt, Bool, true, false, if◌then◌else◌, List, length, Option, Some, None}
+use Rattle.std.specs.Prelude.{◌≡◌, ◌≤◌, ◌<◌, ◌⊎◌, codes, ℕ, nat_lt, Bool, true, false, if◌then◌else◌, List, length, Option, Some, None}
+use Rattle.bg_base.specs.declared.pos.Pos.{Pos}
 use Rattle.bg_text.specs.Tokens.{Tok}
 use Rattle.bg_text.specs.Trees.{Decl}
 use Rattle.bg_ast.specs.Resolved as r
@@ -9,7 +10,8 @@ use Rattle.bg_meant.specs.Declared.{MeansProgram}
 use Rattle.bg_types.specs.Verdicts.{IsFault}
 use Rattle.bg_typed.specs.Rules.{KeepsTypes}
 use Rattle.bg_front.specs.Later.{AreJudged, IsUnjudged}
-use Rattle.bg_front.specs.Limits.{most_bytes, most_implementations}
+use Rattle.bg_front.specs.Others.{AreCandidates, IsFirstOther}
+use Rattle.bg_front.specs.Limits.{most_bytes, most_implementations, most_candidates}
 use Rattle.bg_front.specs.Refusals as f
 use Rattle.bg_front.specs.Refusals.{refusal_of}
 use Rattle.bg_front.specs.Trees.{IsTreeOf, HasNoTree}
@@ -23,39 +25,55 @@ pub record IsMeaningOf (bytes : List ℕ) (ts : List Tok) (program : r.Program) 
   pub tree : IsTreeOf bytes ts decls
   pub meant : MeansProgram decls program
 
+-- the same, of these declarations
+abbrev pub IsMeaningFrom : List ℕ → List Tok → List Decl → r.Program → Type 0
+IsMeaningFrom bytes ts decls program = (m : IsMeaningOf bytes ts program) × (m.decls ≡ decls)
+
 -- too many places of the first implementation that has too many, or too many nodes of one
 abbrev pub size_limit : Option ℕ → Bool → Option f.Refusal
 size_limit (Some places) large = Some (f.Places places)
 size_limit None true = Some f.Expanded
 size_limit None false = None
 
--- the first limit that the program exceeds: of implementations, of the places of one, of the expression nodes of one
+-- the first limit that the program exceeds: of implementations, of candidates, of the places of an implementation, of the expression nodes
+-- of one
 abbrev pub limit_of : r.Program → Option f.Refusal
 limit_of p =
     if nat_lt most_implementations (length p.implementations)
     then Some (f.Implementations (length p.implementations))
+    else if nat_lt most_candidates (length p.candidates)
+    then Some (f.Candidates (length p.candidates))
     else size_limit (first_above most_places (place_counts p)) (is_any_above most_expanded (expanded_counts p))
 
--- the bytes spell the program: it keeps the rules of types, each of its tokens is judged, and it exceeds no limit
+-- the bytes spell the program: it keeps the rules of types, each of its tokens is judged, its constants are candidates, and it exceeds
+-- no limit
 pub record IsProgramOf (bytes : List ℕ) (program : r.Program) : Type 0 where
   pub tokens : List Tok
   pub spelled : IsMeaningOf bytes tokens program
   pub typed : KeepsTypes program
   pub judged : AreJudged tokens
+  pub candidates : AreCandidates spelled.decls
   pub within : limit_of program ≡ None
+
+-- what isn't judged yet: the first token that isn't, at this position and written so; or, where all tokens are, the word `const` of the
+-- first declaration of constants that are no candidates
+abbrev pub IsLater : List Tok → List Decl → Pos → List ℕ → Type 0
+IsLater ts ds pos word =
+    IsUnjudged ts pos word ⊎ (AreJudged ts × (IsFirstOther ds pos × (word ≡ codes "const")))
 
 -- the bytes spell a program that is typed and judged, and exceeds this limit first
 abbrev pub ExceedsLimit : List ℕ → f.Refusal → Type 0
 ExceedsLimit bytes limit =
-    (ts : List Tok) × (p : r.Program) × IsMeaningOf bytes ts p × KeepsTypes p × AreJudged ts × (limit_of p ≡ Some limit)
+    (ts : List Tok) × (p : r.Program) × (m : IsMeaningOf bytes ts p) × KeepsTypes p × AreJudged ts × AreCandidates m.decls × (limit_of p ≡ Some limit)
 
 -- why a text has no program; each reason stands only where none before it does
 abbrev pub IsRefusedBy : List ℕ → f.Refusal → Type 0
 IsRefusedBy bytes f.TooLong = most_bytes < length bytes
 IsRefusedBy bytes (f.Names fault) = (length bytes ≤ most_bytes) × (ts : List Tok) × (ds : List Decl) × IsTreeOf bytes ts ds × IsToldFault ds fault
 IsRefusedBy bytes (f.Types ds fault) = (ts : List Tok) × (p : r.Program) × IsMeaningOf bytes ts p × IsFault p fault × (ds ≡ p.types)
-IsRefusedBy bytes (f.Later pos word) = (ts : List Tok) × (p : r.Program) × IsMeaningOf bytes ts p × KeepsTypes p × IsUnjudged ts pos word
+IsRefusedBy bytes (f.Later pos word) = (ts : List Tok) × (p : r.Program) × (m : IsMeaningOf bytes ts p) × KeepsTypes p × IsLater ts m.decls pos word
 IsRefusedBy bytes (f.Implementations n) = ExceedsLimit bytes (f.Implementations n)
+IsRefusedBy bytes (f.Candidates n) = ExceedsLimit bytes (f.Candidates n)
 IsRefusedBy bytes (f.Places n) = ExceedsLimit bytes (f.Places n)
 IsRefusedBy bytes f.Expanded = ExceedsLimit bytes f.Expanded
 IsRefusedBy bytes reason = (length bytes ≤ most_bytes) × HasNoTree bytes reason

@@ -22,6 +22,7 @@ pub data Refusal : Type 0 where
   Types : List r.TypeName → types.Fault → Refusal
   Later : Pos → List ℕ → Refusal
   Implementations : ℕ → Refusal
+  Candidates : ℕ → Refusal
   Places : ℕ → Refusal
   Expanded : Refusal
 
@@ -30,6 +31,7 @@ abbrev pub is_limit : Refusal → Bool
 is_limit TooLong = true
 is_limit Nesting = true
 is_limit (Implementations n) = true
+is_limit (Candidates n) = true
 is_limit (Places n) = true
 is_limit Expanded = true
 is_limit _ = false
@@ -44,5 +46,6 @@ refusal_of (codes_.Names f) = Names (resolves.fault_of f)
 refusal_of (codes_.Types f) = Types (map type_name_of f.types.items) (answered f.fault)
 refusal_of (codes_.Later p word) = Later p word.now
 refusal_of (codes_.Implementations n) = Implementations n
+refusal_of (codes_.Candidates n) = Candidates n
 refusal_of (codes_.Places n) = Places n
 refusal_of codes_.Expanded = Expanded

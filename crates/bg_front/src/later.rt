@@ -20,7 +20,6 @@ fn is_unjudged(kind: Kind) -> bool
     match kind {
         // functions and axioms
         Kind::Type => true,
-        Kind::Const => true,
         Kind::Function => true,
         Kind::Axiom => true,
         // maps

@@ -6,13 +6,15 @@ mod later;
 pub mod laws;
 mod limits;
 mod lines;
+mod others;
 mod refusal;
 mod sizes;
 mod text;
 mod tree;
 
 pub use later::first_unjudged;
-pub use limits::{MOST_BYTES, MOST_IMPLEMENTATIONS};
+pub use limits::{MOST_BYTES, MOST_CANDIDATES, MOST_IMPLEMENTATIONS};
+pub use others::first_other;
 pub use refusal::{ReadError, Refusal};
 pub use text::read_program;
 pub use tree::{Read, tree_of};

@@ -5,3 +5,6 @@ pub const MOST_BYTES: u64 = 4_194_304;
 
 /// The most implementations that a program may have.
 pub const MOST_IMPLEMENTATIONS: usize = 10_000;
+
+/// The most candidates that a program may have.
+pub const MOST_CANDIDATES: usize = 4_096;

@@ -28,10 +28,12 @@ pub enum Refusal<'a> {
     Names(NameFault),
     /// A rule of types is broken.
     Types(TypeRefusal),
-    /// The token at this position, with this word, isn't judged yet.
+    /// The token at this position, with this word, isn't judged yet, or not in this declaration.
     Later(Pos, &'a [u8]),
     /// There are so many implementations, more than `MOST_IMPLEMENTATIONS`.
     Implementations(usize),
+    /// There are so many candidates, more than `MOST_CANDIDATES`.
+    Candidates(usize),
     /// The first implementation that has more places than `MOST_PLACES` has so many, as far as 64 bits tell it.
     Places(usize),
     /// An implementation has more expression nodes than `MOST_EXPANDED`, with the clauses of what it calls.
@@ -56,6 +58,7 @@ impl<'a> Refusal<'a> {
             Refusal::TooLong => true,
             Refusal::Nesting => true,
             Refusal::Implementations(_) => true,
+            Refusal::Candidates(_) => true,
             Refusal::Places(_) => true,
             Refusal::Expanded => true,
             _ => false,
@@ -74,6 +77,7 @@ impl<'a> Refusal<'a> {
             Refusal::Types(refusal) => put_type(out, &refusal.types, &refusal.fault),
             Refusal::Later(pos, word) => put_named(out, *pos, b"unsupported ", *word),
             Refusal::Implementations(count) => put_limit(out, b"implementations", *count),
+            Refusal::Candidates(count) => put_limit(out, b"candidates", *count),
             Refusal::Places(count) => put_limit(out, b"places", *count),
             Refusal::Expanded => put_limit(out, b"expanded", MOST_EXPANDED as usize + 1),
         }

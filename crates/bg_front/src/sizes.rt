@@ -4,7 +4,7 @@ ghost use Rattle.bg_ast.specs.Views.{program_of};
 ghost use Rattle.bg_front.specs.Programs.{limit_of};
 ghost use Rattle.bg_front.specs.Refusals.{refusal_of};
 
-use crate::limits::MOST_IMPLEMENTATIONS;
+use crate::limits::{MOST_CANDIDATES, MOST_IMPLEMENTATIONS};
 use crate::refusal::Refusal;
 use bg_ast::resolved::Resolved;
 use bg_places::{first_crowded, is_any_too_large};
@@ -17,6 +17,10 @@ pub fn limit_of<'a>(alloc: Global, program: &Resolved) -> Result<Option<Refusal<
     let count = program.implementations.len();
     if count > MOST_IMPLEMENTATIONS {
         return Ok(Some(Refusal::Implementations(count)));
+    }
+    let declared = program.candidates.len();
+    if declared > MOST_CANDIDATES {
+        return Ok(Some(Refusal::Candidates(declared)));
     }
     if let Some(places) = first_crowded(alloc, program)? {
         return Ok(Some(Refusal::Places(places)));

@@ -6,11 +6,13 @@ ghost use Rattle.bg_ast.specs.Views.{program_of};
 ghost use Rattle.bg_typed.specs.Rules.{KeepsTypes};
 ghost use Rattle.bg_front.specs.Later.{AreJudged};
 ghost use Rattle.bg_front.specs.Limits.{most_bytes};
-ghost use Rattle.bg_front.specs.Programs.{IsMeaningOf, IsProgramOf, IsRefused};
+ghost use Rattle.bg_front.specs.Others.{AreCandidates};
+ghost use Rattle.bg_front.specs.Programs.{IsMeaningFrom, IsProgramOf, IsRefused};
 ghost use Rattle.bg_front.specs.Trees.{IsTreeOf};
 
 use crate::later::first_unjudged;
 use crate::limits::MOST_BYTES;
+use crate::others::first_other;
 use crate::refusal::{ReadError, Refusal};
 use crate::sizes::limit_of;
 use crate::tree::{Read, tree_of};
@@ -44,7 +46,7 @@ fn meaning<'a>(
 ) -> Result<Resolved, ReadError<'a>>
     requires short { length bytes.now ≤ most_bytes }
     requires tree { IsTreeOf bytes.now (views tokens.now) (decls_of decls.now) }
-    ensures meant { IfOk result (λ p. IsMeaningOf bytes.now (views tokens.now) (program_of p)) }
+    ensures meant { IfOk result (λ p. IsMeaningFrom bytes.now (views tokens.now) (decls_of decls.now) (program_of p)) }
     ensures refused { IfErr result (λ e. IsRefused bytes.now e) }
 {
     names_mean_a_program();
@@ -60,10 +62,11 @@ fn typed<'a>(
     alloc: Global,
     bytes: &'a [u8],
     tokens: &[Token<'a>],
+    decls: &[Decl],
     program: Resolved,
 ) -> Result<Typed, ReadError<'a>>
-    requires meant { IsMeaningOf bytes.now (views tokens.now) (program_of program) }
-    ensures meant { IfOk result (λ t. IsMeaningOf bytes.now (views tokens.now) (program_of t.program)) }
+    requires meant { IsMeaningFrom bytes.now (views tokens.now) (decls_of decls.now) (program_of program) }
+    ensures meant { IfOk result (λ t. IsMeaningFrom bytes.now (views tokens.now) (decls_of decls.now) (program_of t.program)) }
     ensures typed { IfOk result (λ t. KeepsTypes (program_of t.program)) }
     ensures refused { IfErr result (λ e. IsRefused bytes.now e) }
 {
@@ -81,11 +84,13 @@ fn counted<'a>(
     alloc: Global,
     bytes: &'a [u8],
     tokens: &[Token<'a>],
+    decls: &[Decl],
     typed: Typed,
 ) -> Result<Typed, ReadError<'a>>
-    requires meant { IsMeaningOf bytes.now (views tokens.now) (program_of typed.program) }
+    requires meant { IsMeaningFrom bytes.now (views tokens.now) (decls_of decls.now) (program_of typed.program) }
     requires typed { KeepsTypes (program_of typed.program) }
     requires judged { AreJudged (views tokens.now) }
+    requires candidates { AreCandidates (decls_of decls.now) }
     ensures program { IfOk result (λ t. IsProgramOf bytes.now (program_of t.program)) }
     ensures refused { IfErr result (λ e. IsRefused bytes.now e) }
 {
@@ -96,21 +101,25 @@ fn counted<'a>(
     }
 }
 
-/// The same, where each token is judged.
+/// The same, where each token is judged, and each constant a candidate.
 fn judged<'a>(
     alloc: Global,
     bytes: &'a [u8],
     tokens: &[Token<'a>],
+    decls: &[Decl],
     typed: Typed,
 ) -> Result<Typed, ReadError<'a>>
-    requires meant { IsMeaningOf bytes.now (views tokens.now) (program_of typed.program) }
+    requires meant { IsMeaningFrom bytes.now (views tokens.now) (decls_of decls.now) (program_of typed.program) }
     requires typed { KeepsTypes (program_of typed.program) }
     ensures program { IfOk result (λ t. IsProgramOf bytes.now (program_of t.program)) }
     ensures refused { IfErr result (λ e. IsRefused bytes.now e) }
 {
-    match first_unjudged(tokens) {
-        Some((pos, word)) => Err(ReadError::Refused(Refusal::Later(pos, word))),
-        None => counted(alloc, bytes, tokens, typed),
+    if let Some((pos, word)) = first_unjudged(tokens) {
+        return Err(ReadError::Refused(Refusal::Later(pos, word)));
+    }
+    match first_other(decls) {
+        Some(pos) => Err(ReadError::Refused(Refusal::Later(pos, b"const"))),
+        None => counted(alloc, bytes, tokens, decls, typed),
     }
 }
 
@@ -119,14 +128,15 @@ fn judged<'a>(
 /// # Errors
 /// `Refused` with the first of these that holds: there are too many bytes (`TooLong`); the bytes hold no tokens (`Bytes`);
 /// the tokens spell no program (`Syntax`) or open a 201st bracket (`Nesting`), whichever comes first; a rule of names
-/// (`Names`) or of types (`Types`) is broken; a token isn't judged yet (`Later`); there are too many implementations
-/// (`Implementations`), or one has too many places (`Places`) or too many expression nodes (`Expanded`). `Memory` where memory ran out. Positions are lines and byte columns from 1.
+/// (`Names`) or of types (`Types`) is broken; a token isn't judged yet (`Later`), or else constants are no candidates (`Later` at
+/// their word `const`); there are too many implementations (`Implementations`) or candidates (`Candidates`), or an
+/// implementation has too many places (`Places`) or too many expression nodes (`Expanded`). `Memory` where memory ran out. Positions are lines and byte columns from 1.
 pub fn read_program<'a>(alloc: Global, bytes: &'a [u8]) -> Result<Typed, ReadError<'a>>
     ensures program { IfOk result (λ t. IsProgramOf bytes.now (program_of t.program)) }
     ensures refused { IfErr result (λ e. IsRefused bytes.now e) }
 {
     let read = read(alloc, bytes)?;
     let program = meaning(alloc, bytes, &read.tokens, &read.tree.decls)?;
-    let typed = typed(alloc, bytes, &read.tokens, program)?;
-    judged(alloc, bytes, &read.tokens, typed)
+    let typed = typed(alloc, bytes, &read.tokens, &read.tree.decls, program)?;
+    judged(alloc, bytes, &read.tokens, &read.tree.decls, typed)
 }

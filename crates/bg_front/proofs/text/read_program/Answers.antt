@@ -1,0 +1,27 @@
+use Rattle.std.proofs.Common.{sym, subst}
+use Rattle.bg_text.specs.Tokens.{views}
+use Rattle.bg_text.specs.Views.{decls_of}
+use Rattle.bg_ast.specs.Views.{program_of}
+use Rattle.bg_front.specs.Programs.{IsMeaningFrom}
+use Rattle.bg_front.proofs.text.read_program.Goals as goal
+
+pub typed-requires : goal.typed-requires
+typed-requires c =
+    let p = program_of c.in_ok-program.program in
+    let bytes = c.args.bytes.now in
+    record {
+      meant =
+          subst (λ ts. IsMeaningFrom bytes (views ts) (decls_of c.deref-4.result.now) p) (sym c.deref-3.ensures.value)
+          (subst (λ ds. IsMeaningFrom bytes (views c.in_ok-read.read.tokens.items) (decls_of ds) p) (sym c.deref-4.ensures.value)
+          (subst (λ ts. IsMeaningFrom bytes (views ts) (decls_of c.in_ok-read.read.tree.decls.items) p) c.deref.ensures.value
+          (subst (λ ds. IsMeaningFrom bytes (views c.deref.result.now) (decls_of ds) p) c.deref-2.ensures.value c.in_ok-program.ensures.meant)));
+    }
+
+pub judged-requires-clause-meant : goal.judged-requires-clause-meant
+judged-requires-clause-meant c =
+    let p = program_of c.in_ok-typed.typed.program in
+    let bytes = c.args.bytes.now in
+    subst (λ ts. IsMeaningFrom bytes (views ts) (decls_of c.deref-6.result.now) p) (sym c.deref-5.ensures.value)
+    (subst (λ ds. IsMeaningFrom bytes (views c.in_ok-read.read.tokens.items) (decls_of ds) p) (sym c.deref-6.ensures.value)
+    (subst (λ ts. IsMeaningFrom bytes (views ts) (decls_of c.in_ok-read.read.tree.decls.items) p) c.deref-3.ensures.value
+    (subst (λ ds. IsMeaningFrom bytes (views c.deref-3.result.now) (decls_of ds) p) c.deref-4.ensures.value c.in_ok-typed.ensures.meant)))
