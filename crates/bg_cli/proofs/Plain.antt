@@ -1,6 +1,6 @@
 -- Plain words are taken, and ask what they say.
-use Rattle.std.proofs.Common.{◌≡◌, ◌≢◌, ◌≤◌, ◌<◌, sym, ap, ap₂, pos, refl, ◌∙◌, true, false, Bool, ℕ, suc, ◌==◌, nat_lt, List, [], ◌∷◌, ◌++◌, length, Option, Some, None, is_some, unwrap_or, option_map, codes, fold, arith, append_assoc, append-nil, ne_eqb, le-ltb, leb-true, subst}
-use Rattle.clap.specs.Walk.{Names, Text, Row, Rule, Held, Walk, walked, walk_from, walk, nothing_held, settled, finished, idle, option, used, positional}
+use Rattle.std.proofs.Common.{◌≡◌, ◌≤◌, ◌<◌, sym, ap, ap₂, pos, refl, ◌∙◌, true, false, ℕ, List, [], ◌∷◌, ◌++◌, length, Some, None, is_some, unwrap_or, option_map, codes, fold, arith, append_assoc, append-nil, ne_eqb, le-ltb, leb-true, subst}
+use Rattle.clap.specs.Walk.{Names, Text, Row, Rule, Walk, walked, walk_from, walk, nothing_held, settled, finished, idle, option, used, positional}
 use Rattle.clap.specs.Simple.{App, Shape, built, entered, names_of, help_rule, filled_from, filled, marked_built}
 use Rattle.clap.specs.Lexer.{usize_max, without_minus}
 use Rattle.std.specs.Str.Parse.{digits_value, without_leading_plus, without_leading_sign, signed_digits_value, starts_with_minus, IsNumeral}
@@ -13,10 +13,11 @@ use Rattle.clap.specs.Faults.{turn_fault, walk_fault, settle_fault, fault_of, le
 use Rattle.clap.specs.ValueTests.{accepts, is_numeral, fits_i64}
 use Rattle.clap.proofs.FaultLemmas.{stopped_fault}
 use Rattle.clap.proofs.OnLiterals.{clap_on_literals}
-use Rattle.bg_cli.specs.Cli.{cli, nodes, most_rows, files, verify, IsTaken, Plain, AllPlain, IsBudget, rows_in, files_in, nodes_in, most_rows_in, files_of, nodes_of, most_rows_of, number_or}
+use Rattle.std.proofs.lemmas.Bool.{le-leb}
+use Rattle.bg_cli.specs.Cli.{cli, workers, nodes, most_rows, files, verify, IsTaken, Plain, AllPlain, IsNumberTo, IsBudget, IsWorkers, rows_in, files_in, workers_in, nodes_in, most_rows_in, files_of, workers_of, as_workers, nodes_of, most_rows_of, number_or}
 
 abbrev rules : List Rule
-rules = filled_from 1 (nodes ∷ most_rows ∷ files ∷ help_rule ∷ [])
+rules = filled_from 1 (workers ∷ nodes ∷ most_rows ∷ files ∷ help_rule ∷ [])
 
 -- files are being read
 abbrev reading : List Row → List Text → Walk
@@ -138,86 +139,124 @@ plain_rows_number own f fs h = ap most_rows_of (plain_rows own f fs h)
 pub plain_nodes : (own f : Text) (fs : List Text) → AllPlain (f ∷ fs) → nodes_in (own ∷ codes "verify" ∷ f ∷ fs) ≡ 20000
 plain_nodes own f fs h = ap nodes_of (plain_rows own f fs h)
 
+pub plain_workers : (own f : Text) (fs : List Text) → AllPlain (f ∷ fs) → workers_in (own ∷ codes "verify" ∷ f ∷ fs) ≡ 4
+plain_workers own f fs h = ap workers_of (plain_rows own f fs h)
+
+-- the option that is given
+pub data Asked : Type 0 where
+  Nodes : Asked
+  Workers : Asked
+
+abbrev name_of : Asked → Text
+name_of Nodes = codes "nodes"
+name_of Workers = codes "workers"
+
+abbrev pub word_of : Asked → Text
+word_of Nodes = codes "--nodes"
+word_of Workers = codes "--workers"
+
+abbrev rule_in : Asked → Rule
+rule_in Nodes = nodes
+rule_in Workers = workers
+
+abbrev pub most_of : Asked → ℕ
+most_of Nodes = 1000000
+most_of Workers = 16
+
 -- the number was read, and no file yet
-abbrev numbered : Text → Walk
-numbered n =
+abbrev numbered : Asked → Text → Walk
+numbered a n =
     record {
-      held = record { rows = []; pending = Some (codes "nodes", n ∷ []); skip = 0 };
+      held = record { rows = []; pending = Some (name_of a, n ∷ []); skip = 0 };
       waiting = idle;
       position = 1;
       is_trailing = false;
       stopped = None;
     }
 
-option_walk : walked rules [] (walk_from nothing_held) (codes "--nodes") ≡ record (walk_from nothing_held) { held = record nothing_held { pending = Some (codes "nodes", []) }; waiting = option (codes "nodes") }
+abbrev asked : Asked → Walk
+asked a = record (walk_from nothing_held) { held = record nothing_held { pending = Some (name_of a, []) }; waiting = option (name_of a) }
+
+option_walk : (a : Asked) → walked rules [] (walk_from nothing_held) (word_of a) ≡ asked a
 unfolding clap_on_literals
-option_walk = refl
+option_walk Nodes = refl
+option_walk Workers = refl
 
-option_fine : turn_fault leaf [] (walk_from nothing_held) (codes "--nodes") ≡ []
+option_fine : (a : Asked) → turn_fault leaf [] (walk_from nothing_held) (word_of a) ≡ []
 unfolding clap_on_literals
-option_fine = refl
+option_fine Nodes = refl
+option_fine Workers = refl
 
-abbrev asked : Walk
-asked = record (walk_from nothing_held) { held = record nothing_held { pending = Some (codes "nodes", []) }; waiting = option (codes "nodes") }
-
-number_walk : (n : Text) → Plain n → walked rules [] asked n ≡ numbered n
+number_walk : (a : Asked) (n : Text) → Plain n → walked rules [] (asked a) n ≡ numbered a n
 unfolding clap_on_literals
-number_walk [] h = absurd h
-number_walk (b ∷ bs) h = simp h refl
+number_walk a [] h = absurd h
+number_walk Nodes (b ∷ bs) h = simp h refl
+number_walk Workers (b ∷ bs) h = simp h refl
 
-number_fine : (n : Text) → Plain n → turn_fault leaf [] asked n ≡ []
+number_fine : (a : Asked) (n : Text) → Plain n → turn_fault leaf [] (asked a) n ≡ []
 unfolding clap_on_literals
-number_fine [] h = absurd h
-number_fine (b ∷ bs) h = simp h refl
+number_fine a [] h = absurd h
+number_fine Nodes (b ∷ bs) h = simp h refl
+number_fine Workers (b ∷ bs) h = simp h refl
 
-abbrev number_row : Text → List Row
-number_row n = used (filled nodes) (n ∷ []) []
+abbrev number_row : Asked → Text → List Row
+number_row a n = used (filled (rule_in a)) (n ∷ []) []
 
-file_walk : (n f : Text) → Plain f → walked rules [] (numbered n) f ≡ reading (number_row n) (f ∷ [])
+file_walk : (a : Asked) (n f : Text) → Plain f → walked rules [] (numbered a n) f ≡ reading (number_row a n) (f ∷ [])
 unfolding clap_on_literals
-file_walk n [] h = absurd h
-file_walk n (b ∷ bs) h = simp h refl
+file_walk a n [] h = absurd h
+file_walk Nodes n (b ∷ bs) h = simp h refl
+file_walk Workers n (b ∷ bs) h = simp h refl
 
-file_fine : (n f : Text) → IsBudget n → Plain f → turn_fault leaf [] (numbered n) f ≡ []
+file_fine : (a : Asked) (n f : Text) → IsNumberTo (most_of a) n → Plain f → turn_fault leaf [] (numbered a n) f ≡ []
 unfolding clap_on_literals
-file_fine n [] k h = absurd h
-file_fine n (b ∷ bs) k h = simp (h, k.passes) refl
+file_fine a n [] k h = absurd h
+file_fine Nodes n (b ∷ bs) k h = simp (h, k.passes) refl
+file_fine Workers n (b ∷ bs) k h = simp (h, k.passes) refl
 
-abbrev asks : Text → List Text → List Text
-asks n ws = codes "--nodes" ∷ n ∷ ws
+abbrev asks : Asked → Text → List Text → List Text
+asks a n ws = word_of a ∷ n ∷ ws
 
-option_files_walk : (n f : Text) (fs : List Text) → IsBudget n → AllPlain (f ∷ fs) → walk rules [] nothing_held (asks n (f ∷ fs)) ≡ reading (number_row n) (f ∷ fs)
-option_files_walk n f fs k h =
-    ap (λ s. fold (walked rules []) s (n ∷ f ∷ fs)) option_walk ∙ ap (λ s. fold (walked rules []) s (f ∷ fs)) (number_walk n k.is_plain)
-    ∙ ap (λ s. fold (walked rules []) s fs) (file_walk n f h.0) ∙ more (number_row n) (f ∷ []) fs h.1
+option_files_walk : (a : Asked) (n f : Text) (fs : List Text) → IsNumberTo (most_of a) n → AllPlain (f ∷ fs) → walk rules [] nothing_held (asks a n (f ∷ fs)) ≡ reading (number_row a n) (f ∷ fs)
+option_files_walk a n f fs k h =
+    ap (λ s. fold (walked rules []) s (n ∷ f ∷ fs)) (option_walk a) ∙ ap (λ s. fold (walked rules []) s (f ∷ fs)) (number_walk a n k.is_plain)
+    ∙ ap (λ s. fold (walked rules []) s fs) (file_walk a n f h.0) ∙ more (number_row a n) (f ∷ []) fs h.1
 
-settled_after : (n f : Text) (fs : List Text) → length (f ∷ fs) ≤ usize_max → settle_fault rules false (reading (number_row n) (f ∷ fs)).held ≡ []
-settled_after n f fs m = ap₂ or_else (many_pass (length (f ∷ fs)) (omega arith) m) (texts_pass (f ∷ fs))
+settled_after : (a : Asked) (n f : Text) (fs : List Text) → length (f ∷ fs) ≤ usize_max → settle_fault rules false (reading (number_row a n) (f ∷ fs)).held ≡ []
+settled_after a n f fs m = ap₂ or_else (many_pass (length (f ∷ fs)) (omega arith) m) (texts_pass (f ∷ fs))
 
-option_words_fine : (n f : Text) (fs : List Text) → IsBudget n → AllPlain (f ∷ fs) → walk_fault leaf [] (walk_from nothing_held) (asks n (f ∷ fs)) ≡ []
+option_words_fine : (a : Asked) (n f : Text) (fs : List Text) → IsNumberTo (most_of a) n → AllPlain (f ∷ fs) → walk_fault leaf [] (walk_from nothing_held) (asks a n (f ∷ fs)) ≡ []
 unfolding walk_fault
-option_words_fine n f fs k h =
-    ap₂ or_else option_fine (ap (λ s. walk_fault leaf [] s (n ∷ f ∷ fs)) option_walk
-    ∙ ap₂ or_else (number_fine n k.is_plain) (ap (λ s. walk_fault leaf [] s (f ∷ fs)) (number_walk n k.is_plain)
-    ∙ ap₂ or_else (file_fine n f k h.0) (ap (λ s. walk_fault leaf [] s fs) (file_walk n f h.0) ∙ words_fine (number_row n) (f ∷ []) fs h.1)))
+option_words_fine a n f fs k h =
+    ap₂ or_else (option_fine a) (ap (λ s. walk_fault leaf [] s (n ∷ f ∷ fs)) (option_walk a)
+    ∙ ap₂ or_else (number_fine a n k.is_plain) (ap (λ s. walk_fault leaf [] s (f ∷ fs)) (number_walk a n k.is_plain)
+    ∙ ap₂ or_else (file_fine a n f k h.0) (ap (λ s. walk_fault leaf [] s fs) (file_walk a n f h.0) ∙ words_fine (number_row a n) (f ∷ []) fs h.1)))
 
-option_leaf_fine : (n f : Text) (fs : List Text) → IsBudget n → AllPlain (f ∷ fs) → length (f ∷ fs) ≤ usize_max → level_fault leaf [] nothing_held (asks n (f ∷ fs)) false [] ≡ []
+after_fine : (a : Asked) (n f : Text) (fs : List Text) → length (f ∷ fs) ≤ usize_max → after_words [] (reading (number_row a n) (f ∷ fs)) ≡ []
 unfolding defaults_fault
-option_leaf_fine n f fs k h m =
-    ap₂ after_words (option_words_fine n f fs k h) (option_files_walk n f fs k h) ∙ ap (λ x. or_else x []) (settled_after n f fs m)
+after_fine Nodes n f fs m = ap (λ x. or_else x []) (settled_after Nodes n f fs m)
+after_fine Workers n f fs m = ap (λ x. or_else x []) (settled_after Workers n f fs m)
 
-pub option_taken : (own n f : Text) (fs : List Text) → IsBudget n → AllPlain (f ∷ fs) → length (f ∷ fs) ≤ usize_max → IsTaken (own ∷ codes "verify" ∷ asks n (f ∷ fs))
+option_leaf_fine : (a : Asked) (n f : Text) (fs : List Text) → IsNumberTo (most_of a) n → AllPlain (f ∷ fs) → length (f ∷ fs) ≤ usize_max → level_fault leaf [] nothing_held (asks a n (f ∷ fs)) false [] ≡ []
+option_leaf_fine a n f fs k h m =
+    ap₂ after_words (option_words_fine a n f fs k h) (option_files_walk a n f fs k h) ∙ after_fine a n f fs m
+
+pub option_taken : (a : Asked) (own n f : Text) (fs : List Text) → IsNumberTo (most_of a) n → AllPlain (f ∷ fs) → length (f ∷ fs) ≤ usize_max → IsTaken (own ∷ codes "verify" ∷ asks a n (f ∷ fs))
 unfolding defaults_fault cli
-option_taken own n f fs k h m =
-    ap₂ whole (top_first (asks n (f ∷ fs))) (top_walk (asks n (f ∷ fs))) ∙ ap (λ x. or_else x []) (option_leaf_fine n f fs k h m)
+option_taken a own n f fs k h m =
+    ap₂ whole (top_first (asks a n (f ∷ fs))) (top_walk (asks a n (f ∷ fs))) ∙ ap (λ x. or_else x []) (option_leaf_fine a n f fs k h m)
 
-option_rows : (own n f : Text) (fs : List Text) → IsBudget n → AllPlain (f ∷ fs) → rows_in (own ∷ codes "verify" ∷ asks n (f ∷ fs)) ≡ finished rules (reading (number_row n) (f ∷ fs)).held
+option_rows : (a : Asked) (own n f : Text) (fs : List Text) → IsNumberTo (most_of a) n → AllPlain (f ∷ fs) → rows_in (own ∷ codes "verify" ∷ asks a n (f ∷ fs)) ≡ finished rules (reading (number_row a n) (f ∷ fs)).held
 unfolding cli
-option_rows own n f fs k h =
-    ap (λ w. unwrap_or (option_map (λ p. p.1) (entered command w.stopped)) []) (top_walk (asks n (f ∷ fs))) ∙ ap (λ w. finished rules w.held) (option_files_walk n f fs k h)
+option_rows a own n f fs k h =
+    ap (λ w. unwrap_or (option_map (λ p. p.1) (entered command w.stopped)) []) (top_walk (asks a n (f ∷ fs))) ∙ ap (λ w. finished rules w.held) (option_files_walk a n f fs k h)
 
-pub option_files : (own n f : Text) (fs : List Text) → IsBudget n → AllPlain (f ∷ fs) → files_in (own ∷ codes "verify" ∷ asks n (f ∷ fs)) ≡ f ∷ fs
-option_files own n f fs k h = ap files_of (option_rows own n f fs k h)
+option_files_of : (a : Asked) (n f : Text) (fs : List Text) → files_of (finished rules (reading (number_row a n) (f ∷ fs)).held) ≡ f ∷ fs
+option_files_of Nodes n f fs = refl
+option_files_of Workers n f fs = refl
+
+pub option_files : (a : Asked) (own n f : Text) (fs : List Text) → IsNumberTo (most_of a) n → AllPlain (f ∷ fs) → files_in (own ∷ codes "verify" ∷ asks a n (f ∷ fs)) ≡ f ∷ fs
+option_files a own n f fs k h = ap files_of (option_rows a own n f fs k h) ∙ option_files_of a n f fs
 
 as_plain : (n : Text) → Plain n → (without_minus n ≡ n) × (starts_with_minus n ≡ false)
 as_plain [] h = absurd h
@@ -226,28 +265,60 @@ as_plain (b ∷ bs) h = (simp h refl, h)
 no_sign : (n : Text) → starts_with_minus n ≡ false → (without_leading_sign n ≡ without_leading_plus n) × (signed_digits_value 10 n ≡ pos (digits_value 10 (without_leading_plus n)))
 no_sign n e = rw e (refl, refl)
 
-unsigned : (n : Text) → IsBudget n → accepts false (parser.Unsigned 0 4294967295) n ≡ true
-unsigned n k =
+-- a number to some most is at least 1 and at most that
+within : (most : ℕ) (n : Text) → IsNumberTo most n → (1 ≤ digits_value 10 (without_leading_plus n)) × (digits_value 10 (without_leading_plus n) ≤ most)
+within most n k =
     let s = no_sign n (as_plain n k.is_plain).1 in
     let z : ℤ = signed_digits_value 10 n in
-    let a = both (is_numeral (without_leading_sign n)) (fits_i64 z && (int_le (pos 1) z && int_le z (pos 1000000))) k.passes in
-    let b = both (fits_i64 z) (int_le (pos 1) z && int_le z (pos 1000000)) a.1 in
-    let high : int_le z (pos 1000000) ≡ true = (both (int_le (pos 1) z) (int_le z (pos 1000000)) b.1).1 in
-    let most : digits_value 10 (without_leading_plus n) ≤ 1000000 = leb-true _ _ (subst (λ z. int_le z (pos 1000000) ≡ true) s.1 high) in
-    let numeral = subst (IsNumeral 10) s.0 (accepts-Accepts false (parser.Signed (pos 1) (pos 1000000)) n k.passes).0 in
-    Accepts-accepts false (parser.Unsigned 0 4294967295) n (numeral, omega (arith, most), omega arith, omega (arith, most))
+    let a = both (is_numeral (without_leading_sign n)) (fits_i64 z && (int_le (pos 1) z && int_le z (pos most))) k.passes in
+    let b = both (fits_i64 z) (int_le (pos 1) z && int_le z (pos most)) a.1 in
+    let c = both (int_le (pos 1) z) (int_le z (pos most)) b.1 in
+    (leb-true _ _ (subst (λ z. int_le (pos 1) z ≡ true) s.1 c.0), leb-true _ _ (subst (λ z. int_le z (pos most) ≡ true) s.1 c.1))
 
-pub option_nodes : (own n f : Text) (fs : List Text) → IsBudget n → AllPlain (f ∷ fs) → nodes_in (own ∷ codes "verify" ∷ asks n (f ∷ fs)) ≡ digits_value 10 (without_leading_plus n)
-option_nodes own n f fs k h = ap nodes_of (option_rows own n f fs k h) ∙ ap (λ t. number_or 20000 (Some t)) (as_plain n k.is_plain).0 ∙ rw (unsigned n k) refl
+unsigned : (most : ℕ) (n : Text) → most ≤ 1000000 → IsNumberTo most n → accepts false (parser.Unsigned 0 4294967295) n ≡ true
+unsigned most n few k =
+    let s = no_sign n (as_plain n k.is_plain).1 in
+    let top = (within most n k).1 in
+    let numeral = subst (IsNumeral 10) s.0 (accepts-Accepts false (parser.Signed (pos 1) (pos most)) n k.passes).0 in
+    Accepts-accepts false (parser.Unsigned 0 4294967295) n (numeral, omega (arith, top, few), omega arith, omega (arith, top, few))
 
-pub option_rows_number : (own n f : Text) (fs : List Text) → IsBudget n → AllPlain (f ∷ fs) → most_rows_in (own ∷ codes "verify" ∷ asks n (f ∷ fs)) ≡ 20000
-option_rows_number own n f fs k h = ap most_rows_of (option_rows own n f fs k h)
+read_number : (other most : ℕ) (n : Text) → most ≤ 1000000 → IsNumberTo most n → number_or other (Some n) ≡ digits_value 10 (without_leading_plus n)
+read_number other most n few k = rw (unsigned most n few k) refl
+
+read_budget : (n : Text) → IsBudget n → number_or 20000 (Some n) ≡ digits_value 10 (without_leading_plus n)
+read_budget n k = read_number 20000 1000000 n (omega arith) k
+
+pub nodes_number : (own n f : Text) (fs : List Text) → IsBudget n → AllPlain (f ∷ fs) → nodes_in (own ∷ codes "verify" ∷ asks Nodes n (f ∷ fs)) ≡ digits_value 10 (without_leading_plus n)
+nodes_number own n f fs k h = ap nodes_of (option_rows Nodes own n f fs k h) ∙ ap (λ t. number_or 20000 (Some t)) (as_plain n k.is_plain).0 ∙ read_budget n k
+
+pub nodes_rows_number : (own n f : Text) (fs : List Text) → IsBudget n → AllPlain (f ∷ fs) → most_rows_in (own ∷ codes "verify" ∷ asks Nodes n (f ∷ fs)) ≡ 20000
+nodes_rows_number own n f fs k h = ap most_rows_of (option_rows Nodes own n f fs k h)
+
+pub nodes_workers : (own n f : Text) (fs : List Text) → IsBudget n → AllPlain (f ∷ fs) → workers_in (own ∷ codes "verify" ∷ asks Nodes n (f ∷ fs)) ≡ 4
+nodes_workers own n f fs k h = ap workers_of (option_rows Nodes own n f fs k h)
+
+pub workers_nodes : (own n f : Text) (fs : List Text) → IsWorkers n → AllPlain (f ∷ fs) → nodes_in (own ∷ codes "verify" ∷ asks Workers n (f ∷ fs)) ≡ 20000
+workers_nodes own n f fs k h = ap nodes_of (option_rows Workers own n f fs k h)
+
+pub workers_rows_number : (own n f : Text) (fs : List Text) → IsWorkers n → AllPlain (f ∷ fs) → most_rows_in (own ∷ codes "verify" ∷ asks Workers n (f ∷ fs)) ≡ 20000
+workers_rows_number own n f fs k h = ap most_rows_of (option_rows Workers own n f fs k h)
+
+some_workers : (x : ℕ) → 1 ≤ x → x ≤ 16 → as_workers x ≡ x
+some_workers x low high = rw (le-leb 1 x low, le-leb x 16 high) refl
+
+pub workers_number : (own n f : Text) (fs : List Text) → IsWorkers n → AllPlain (f ∷ fs) → workers_in (own ∷ codes "verify" ∷ asks Workers n (f ∷ fs)) ≡ digits_value 10 (without_leading_plus n)
+workers_number own n f fs k h =
+    let w = within 16 n k in
+    ap workers_of (option_rows Workers own n f fs k h)
+    ∙ (ap (λ t. as_workers (number_or 4 (Some t))) (as_plain n k.is_plain).0
+    ∙ (ap as_workers (read_number 4 16 n (omega arith) k)
+    ∙ some_workers (digits_value 10 (without_leading_plus n)) w.0 w.1))
 
 -- the number of rows was read behind that of nodes, and no file yet
 abbrev both_numbered : Text → Text → Walk
 both_numbered n m =
     record {
-      held = record { rows = number_row n; pending = Some (codes "rows", m ∷ []); skip = 0 };
+      held = record { rows = number_row Nodes n; pending = Some (codes "rows", m ∷ []); skip = 0 };
       waiting = idle;
       position = 1;
       is_trailing = false;
@@ -257,15 +328,15 @@ both_numbered n m =
 abbrev asked_more : Text → Walk
 asked_more n =
     record (walk_from nothing_held) {
-      held = record { rows = number_row n; pending = Some (codes "rows", []); skip = 0 };
+      held = record { rows = number_row Nodes n; pending = Some (codes "rows", []); skip = 0 };
       waiting = option (codes "rows");
     }
 
-second_walk : (n : Text) → walked rules [] (numbered n) (codes "--rows") ≡ asked_more n
+second_walk : (n : Text) → walked rules [] (numbered Nodes n) (codes "--rows") ≡ asked_more n
 unfolding clap_on_literals
 second_walk n = refl
 
-second_fine : (n : Text) → IsBudget n → turn_fault leaf [] (numbered n) (codes "--rows") ≡ []
+second_fine : (n : Text) → IsBudget n → turn_fault leaf [] (numbered Nodes n) (codes "--rows") ≡ []
 unfolding clap_on_literals
 second_fine n k = simp (k.passes) refl
 
@@ -280,7 +351,7 @@ more_fine n [] h = absurd h
 more_fine n (b ∷ bs) h = simp h refl
 
 abbrev both_row : Text → Text → List Row
-both_row n m = used (filled most_rows) (m ∷ []) (number_row n)
+both_row n m = used (filled most_rows) (m ∷ []) (number_row Nodes n)
 
 both_file_walk : (n m f : Text) → Plain f → walked rules [] (both_numbered n m) f ≡ reading (both_row n m) (f ∷ [])
 unfolding clap_on_literals
@@ -297,8 +368,8 @@ asks_both n m ws = codes "--nodes" ∷ n ∷ codes "--rows" ∷ m ∷ ws
 
 both_files_walk : (n m f : Text) (fs : List Text) → IsBudget n → IsBudget m → AllPlain (f ∷ fs) → walk rules [] nothing_held (asks_both n m (f ∷ fs)) ≡ reading (both_row n m) (f ∷ fs)
 both_files_walk n m f fs k l h =
-    ap (λ s. fold (walked rules []) s (n ∷ codes "--rows" ∷ m ∷ f ∷ fs)) option_walk
-    ∙ ap (λ s. fold (walked rules []) s (codes "--rows" ∷ m ∷ f ∷ fs)) (number_walk n k.is_plain)
+    ap (λ s. fold (walked rules []) s (n ∷ codes "--rows" ∷ m ∷ f ∷ fs)) (option_walk Nodes)
+    ∙ ap (λ s. fold (walked rules []) s (codes "--rows" ∷ m ∷ f ∷ fs)) (number_walk Nodes n k.is_plain)
     ∙ ap (λ s. fold (walked rules []) s (m ∷ f ∷ fs)) (second_walk n)
     ∙ ap (λ s. fold (walked rules []) s (f ∷ fs)) (more_walk n m l.is_plain)
     ∙ ap (λ s. fold (walked rules []) s fs) (both_file_walk n m f h.0) ∙ more (both_row n m) (f ∷ []) fs h.1
@@ -309,8 +380,8 @@ both_settled n m f fs a = ap₂ or_else (many_pass (length (f ∷ fs)) (omega ar
 both_words_fine : (n m f : Text) (fs : List Text) → IsBudget n → IsBudget m → AllPlain (f ∷ fs) → walk_fault leaf [] (walk_from nothing_held) (asks_both n m (f ∷ fs)) ≡ []
 unfolding walk_fault
 both_words_fine n m f fs k l h =
-    ap₂ or_else option_fine (ap (λ s. walk_fault leaf [] s (n ∷ codes "--rows" ∷ m ∷ f ∷ fs)) option_walk
-    ∙ ap₂ or_else (number_fine n k.is_plain) (ap (λ s. walk_fault leaf [] s (codes "--rows" ∷ m ∷ f ∷ fs)) (number_walk n k.is_plain)
+    ap₂ or_else (option_fine Nodes) (ap (λ s. walk_fault leaf [] s (n ∷ codes "--rows" ∷ m ∷ f ∷ fs)) (option_walk Nodes)
+    ∙ ap₂ or_else (number_fine Nodes n k.is_plain) (ap (λ s. walk_fault leaf [] s (codes "--rows" ∷ m ∷ f ∷ fs)) (number_walk Nodes n k.is_plain)
     ∙ ap₂ or_else (second_fine n k) (ap (λ s. walk_fault leaf [] s (m ∷ f ∷ fs)) (second_walk n)
     ∙ ap₂ or_else (more_fine n m l.is_plain) (ap (λ s. walk_fault leaf [] s (f ∷ fs)) (more_walk n m l.is_plain)
     ∙ ap₂ or_else (both_file_fine n m f l h.0) (ap (λ s. walk_fault leaf [] s fs) (both_file_walk n m f h.0) ∙ words_fine (both_row n m) (f ∷ []) fs h.1)))))
@@ -333,13 +404,13 @@ both_rows own n m f fs k l h =
 pub both_files : (own n m f : Text) (fs : List Text) → IsBudget n → IsBudget m → AllPlain (f ∷ fs) → files_in (own ∷ codes "verify" ∷ asks_both n m (f ∷ fs)) ≡ f ∷ fs
 both_files own n m f fs k l h = ap files_of (both_rows own n m f fs k l h)
 
-read_number : (n : Text) → IsBudget n → number_or 20000 (Some n) ≡ digits_value 10 (without_leading_plus n)
-read_number n k = rw (unsigned n k) refl
-
 pub both_nodes : (own n m f : Text) (fs : List Text) → IsBudget n → IsBudget m → AllPlain (f ∷ fs) → nodes_in (own ∷ codes "verify" ∷ asks_both n m (f ∷ fs)) ≡ digits_value 10 (without_leading_plus n)
 both_nodes own n m f fs k l h =
-    ap nodes_of (both_rows own n m f fs k l h) ∙ ap (λ t. number_or 20000 (Some t)) (as_plain n k.is_plain).0 ∙ read_number n k
+    ap nodes_of (both_rows own n m f fs k l h) ∙ ap (λ t. number_or 20000 (Some t)) (as_plain n k.is_plain).0 ∙ read_budget n k
 
 pub both_rows_number : (own n m f : Text) (fs : List Text) → IsBudget n → IsBudget m → AllPlain (f ∷ fs) → most_rows_in (own ∷ codes "verify" ∷ asks_both n m (f ∷ fs)) ≡ digits_value 10 (without_leading_plus m)
 both_rows_number own n m f fs k l h =
-    ap most_rows_of (both_rows own n m f fs k l h) ∙ ap (λ t. number_or 20000 (Some t)) (as_plain m l.is_plain).0 ∙ read_number m l
+    ap most_rows_of (both_rows own n m f fs k l h) ∙ ap (λ t. number_or 20000 (Some t)) (as_plain m l.is_plain).0 ∙ read_budget m l
+
+pub both_workers : (own n m f : Text) (fs : List Text) → IsBudget n → IsBudget m → AllPlain (f ∷ fs) → workers_in (own ∷ codes "verify" ∷ asks_both n m (f ∷ fs)) ≡ 4
+both_workers own n m f fs k l h = ap workers_of (both_rows own n m f fs k l h)

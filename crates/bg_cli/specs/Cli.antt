@@ -1,5 +1,5 @@
 -- The command line: which words are taken, and what they ask.
-use Rattle.std.specs.Prelude.{◌≡◌, ◌==◌, ℕ, pos, true, false, if◌then◌else◌, List, [], ◌∷◌, map, codes, Option, Some, None, option_map, unwrap_or, String, string_bytes}
+use Rattle.std.specs.Prelude.{◌≡◌, ◌==◌, ◌&&◌, nat_le, ℕ, pos, true, false, if◌then◌else◌, List, [], ◌∷◌, map, codes, Option, Some, None, option_map, unwrap_or, String, string_bytes}
 use Rattle.std.specs.Str.Parse.{digits_value, without_leading_plus}
 use Rattle.std.specs.declared.alloc.Global.{Global}
 use Rattle.clap.specs.ValueTests.{accepts}
@@ -29,6 +29,16 @@ nodes = budget (codes "nodes")
 abbrev pub most_rows : Rule
 most_rows = budget (codes "rows")
 
+-- `--workers N`, from 1 to 16; 4 where it isn't given
+abbrev pub workers : Rule
+workers =
+    record (new_rule (codes "workers")) {
+      long = Some (codes "workers");
+      parser = Some (parser.Signed (pos 1) (pos 16));
+      action = Some Set;
+      defaults = codes "4" ∷ [];
+    }
+
 -- one file or more
 abbrev pub files : Rule
 files =
@@ -39,12 +49,12 @@ files =
     }
 
 abbrev pub verify : App
-verify = with_rule (with_rule (with_rule (new_app (codes "verify")) nodes) most_rows) files
+verify = with_rule (with_rule (with_rule (with_rule (new_app (codes "verify")) workers) nodes) most_rows) files
 
 abbrev pub required : App → App
 required a = record a { top = record a.top { subcommand_required = true } }
 
--- the command: `bg verify [--nodes N] [--rows N] FILE..`
+-- the command: `bg verify [--workers N] [--nodes N] [--rows N] FILE..`
 unfoldable pub cli : App
 cli = with_subcommand (required (new_app (codes "bg"))) verify.top
 
@@ -82,6 +92,14 @@ nodes_of rows = number_or 20000 (one_of (codes "nodes") rows)
 abbrev pub most_rows_of : List Row → ℕ
 most_rows_of rows = number_or 20000 (one_of (codes "rows") rows)
 
+-- a number from 1 to 16 is as it is, another one as 4
+abbrev pub as_workers : ℕ → ℕ
+as_workers n = if nat_le 1 n && nat_le n 16 then n else 4
+
+-- how many workers check places of candidates; only a number from 1 to 16 is taken
+abbrev pub workers_of : List Row → ℕ
+workers_of rows = as_workers (number_or 4 (one_of (codes "workers") rows))
+
 abbrev pub files_in : List Text → List Text
 files_in words = files_of (rows_in words)
 
@@ -90,6 +108,9 @@ nodes_in words = nodes_of (rows_in words)
 
 abbrev pub most_rows_in : List Text → ℕ
 most_rows_in words = most_rows_of (rows_in words)
+
+abbrev pub workers_in : List Text → ℕ
+workers_in words = workers_of (rows_in words)
 
 -- a word that isn't empty and doesn't begin with a dash
 abbrev pub Plain : Text → Type 0
@@ -101,7 +122,15 @@ abbrev pub AllPlain : List Text → Type 0
 AllPlain [] = Unit {0}
 AllPlain (w ∷ ws) = Plain w × AllPlain ws
 
--- a number that `--nodes` and `--rows` take, without a sign
-pub record IsBudget (n : Text) : Type 0 where
+-- a number from 1 to the most, without a sign
+pub record IsNumberTo (most : ℕ) (n : Text) : Type 0 where
   pub is_plain : Plain n
-  pub passes : accepts false (parser.Signed (pos 1) (pos 1000000)) n ≡ true
+  pub passes : accepts false (parser.Signed (pos 1) (pos most)) n ≡ true
+
+-- one that `--nodes` and `--rows` take
+abbrev pub IsBudget : Text → Type 0
+IsBudget = IsNumberTo 1000000
+
+-- one that `--workers` takes
+abbrev pub IsWorkers : Text → Type 0
+IsWorkers = IsNumberTo 16

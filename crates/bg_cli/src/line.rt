@@ -1,9 +1,9 @@
 //! From the words of a command line to what is asked.
-ghost use Rattle.std.specs.Prelude.{◌≡◌, ◌≢◌, IfOk, IsErrOf, map, codes, false};
+ghost use Rattle.std.specs.Prelude.{◌≡◌, ◌≢◌, ◌<◌, ◌≤◌, IfOk, IsErrOf, map, codes, false};
 ghost use Rattle.clap.specs.Walk.{rule_of};
 ghost use Rattle.clap.specs.Words.{app_of, found_of, kind_of, rows_of};
 ghost use Rattle.bg_cli.specs.declared.line.LineError.TheVariants.{Memory};
-ghost use Rattle.bg_cli.specs.Cli.{cli, budget, files, texts_of, IsTaken, files_in, nodes_in, most_rows_in, files_of, nodes_of, most_rows_of, rows_for};
+ghost use Rattle.bg_cli.specs.Cli.{cli, workers, budget, files, texts_of, IsTaken, files_in, workers_in, nodes_in, most_rows_in, files_of, workers_of, as_workers, nodes_of, most_rows_of, rows_for};
 
 use clap::error::ErrorKind;
 use clap::{Arg, ArgAction, ArgMatches, Command, Error, value_parser};
@@ -15,11 +15,15 @@ pub const NODES: u32 = 20_000;
 /// The most rows of an elimination, where the words say nothing of it.
 pub const ROWS: u32 = 20_000;
 
-/// What a command line asks: the files in order, how many nodes of a certificate's tree may count, and the most rows that an
-/// elimination keeps.
+/// How many workers check places of candidates, where the words say nothing of it.
+pub const WORKERS: u32 = 4;
+
+/// What a command line asks: the files in order, how many workers check places of candidates, how many nodes of a certificate's tree
+/// may count, and the most rows that an elimination keeps.
 #[derive(Drop)]
 pub struct Line<'a> {
     pub files: Vec<&'a str>,
+    pub workers: u32,
     pub nodes: u32,
     pub rows: u32,
 }
@@ -45,6 +49,18 @@ fn budget<'a>(alloc: Global, name: &'a str) -> Arg<'a>
         .default_value("20000")
 }
 
+/// The option `--workers` with a number from 1 to 16, which is 4 where it isn't given.
+fn workers<'a>(alloc: Global) -> Arg<'a>
+    ensures rule { rule_of result ≡ workers }
+    ensures own { result.global ≡ false }
+{
+    Arg::new(alloc, "workers")
+        .long("workers")
+        .value_parser(value_parser!(u32).range(1..=16))
+        .action(ArgAction::Set)
+        .default_value("4")
+}
+
 /// The files, of which there is one at least.
 fn files<'a>(alloc: Global) -> Arg<'a>
     ensures rule { rule_of result ≡ files }
@@ -56,11 +72,12 @@ fn files<'a>(alloc: Global) -> Arg<'a>
         .action(ArgAction::Append)
 }
 
-/// The command `bg verify [--nodes N] [--rows N] FILE..`.
+/// The command `bg verify [--workers N] [--nodes N] [--rows N] FILE..`.
 pub fn cli<'a>(alloc: Global) -> Result<Command<'a>, AllocError>
     ensures { IfOk result (λ c. app_of c ≡ cli) }
 {
     let verify = Command::new(alloc, "verify")
+        .arg(workers(alloc))?
         .arg(budget(alloc, "nodes"))?
         .arg(budget(alloc, "rows"))?
         .arg(files(alloc))?;
@@ -104,21 +121,41 @@ fn most_rows_of(verify: &ArgMatches<'_>) -> u32
     verify.get_one::<u32>("rows").unwrap_or(ROWS)
 }
 
+/// A number of workers: one from 1 to 16 as it is, another one as the usual one.
+fn as_workers(n: u32) -> u32
+    ensures is { result ≡ as_workers n }
+    ensures some { (0 < result) × (result ≤ 16) }
+{
+    if 1 <= n && n <= 16 { n } else { WORKERS }
+}
+
+/// The number of workers that the matches of `verify` hold.
+fn workers_of(verify: &ArgMatches<'_>) -> u32
+    ensures is { result ≡ workers_of (rows_of (found_of verify.now)) }
+    ensures some { (0 < result) × (result ≤ 16) }
+{
+    as_workers(verify.get_one::<u32>("workers").unwrap_or(WORKERS))
+}
+
 /// What the matches ask.
 fn line_of<'a>(alloc: Global, matches: &ArgMatches<'a>) -> Result<Line<'a>, AllocError>
     ensures files { IfOk result (λ line. map (λ file. file.now) line.files.items ≡ files_of (rows_for matches.now)) }
+    ensures workers { IfOk result (λ line. line.workers ≡ workers_of (rows_for matches.now)) }
+    ensures some { IfOk result (λ line. (0 < line.workers) × (line.workers ≤ 16)) }
     ensures nodes { IfOk result (λ line. line.nodes ≡ nodes_of (rows_for matches.now)) }
     ensures rows { IfOk result (λ line. line.rows ≡ most_rows_of (rows_for matches.now)) }
 {
     let Some((_, verify)) = matches.subcommand() else {
         return Ok(Line {
             files: Vec::new(alloc),
+            workers: WORKERS,
             nodes: NODES,
             rows: ROWS,
         });
     };
     Ok(Line {
         files: files_of(alloc, verify)?,
+        workers: workers_of(verify),
         nodes: nodes_of(verify),
         rows: most_rows_of(verify),
     })
@@ -131,6 +168,8 @@ fn line_of<'a>(alloc: Global, matches: &ArgMatches<'a>) -> Result<Line<'a>, Allo
 pub fn read_line<'a>(alloc: Global, words: &'a [String]) -> Result<Line<'a>, LineError>
     ensures taken { IfOk result (λ line. IsTaken (texts_of words.now)) }
     ensures files { IfOk result (λ line. map (λ file. file.now) line.files.items ≡ files_in (texts_of words.now)) }
+    ensures workers { IfOk result (λ line. line.workers ≡ workers_in (texts_of words.now)) }
+    ensures some { IfOk result (λ line. (0 < line.workers) × (line.workers ≤ 16)) }
     ensures nodes { IfOk result (λ line. line.nodes ≡ nodes_in (texts_of words.now)) }
     ensures rows { IfOk result (λ line. line.rows ≡ most_rows_in (texts_of words.now)) }
     ensures refused { IsErrOf result LineError.Usage → IsTaken (texts_of words.now) → ⊥ }

@@ -4,3 +4,4 @@ pub mod Cuts
 pub mod Apart
 pub mod Decided
 pub mod Verified
+pub mod Marks

@@ -1,11 +1,10 @@
 -- What the code finds is what is told.
-use Rattle.std.proofs.Common.{◌≡◌, ℕ, ◌+◌, Bool, true, false, ◌&&◌, ◌||◌, List, [], ◌∷◌, ◌++◌, map, filter, cond, fold, flat_map, count_by, codes, if◌then◌else◌, Option, Some, None, is_none, refl, sym, ap, ◌∙◌}
-use Rattle.std.specs.Fmt.{decimal, digits}
+use Rattle.std.proofs.Common.{◌≡◌, ℕ, ◌+◌, Bool, true, false, ◌&&◌, ◌||◌, List, [], ◌∷◌, ◌++◌, map, filter, cond, fold, flat_map, count_by, if◌then◌else◌, Option, Some, None, is_none, refl, sym, ap, ◌∙◌}
 use Rattle.std.specs.List.{list_any}
 use Rattle.std.proofs.lemmas.List.{map-append}
 use Rattle.bg_base.specs.declared.ids.CandId.{CandId}
 use Rattle.bg_text.specs.Views.{option_of}
-use Rattle.bg_ast.specs.Resolved.{Program}
+use Rattle.bg_ast.specs.Syntax.{Prog}
 use Rattle.bg_ast.specs.Views.{candidate_of}
 use Rattle.bg_scalar.specs.declared.scalar.Scalar.{Scalar}
 use Rattle.bg_scalar.specs.Values.{val_of}
@@ -14,16 +13,18 @@ use Rattle.bg_check.specs.declared.verdict.Verdict.{Verdict}
 use Rattle.bg_check.specs.declared.verdict.Verdict.TheVariants as verdict
 use Rattle.bg_check.specs.declared.verdict.Judged.{Judged}
 use Rattle.bg_check.specs.Outcomes as c
-use Rattle.bg_check.specs.Outcomes.{verdict_of, told_one, told, outcome_of}
+use Rattle.bg_check.specs.Outcomes.{verdict_of, told_one, told}
+use Rattle.bg_check.specs.Verdicts.{judged}
+use Rattle.bg_houdini.specs.declared.outcome.Outcome.{Outcome}
+use Rattle.bg_houdini.specs.Told.{outcome_of}
 use Rattle.bg_told.specs.declared.word.Word.{Word}
 use Rattle.bg_told.specs.declared.word.Word.TheVariants.{Verified, Refuted, Unknown}
-use Rattle.bg_told.specs.Lines.{line, texts}
+use Rattle.bg_told.specs.Lines.{texts}
 use Rattle.bg_told.specs.Places.{variable_text, judged_text}
 use Rattle.bg_told.specs.Report as r
 use Rattle.bg_told.specs.Views.{why_of, told_word, status_in}
 use Rattle.bg_told.specs.Words.{is_ordinary, word_in, is_word, has, word_of, word_for, count_of}
 use Rattle.bg_told.specs.Entries.{entry_text, shown_text}
-use Rattle.bg_told.proofs.Texts.{texts_nil}
 
 same_none : (o : Option CandId) → is_none (option_of candidate_of o) ≡ is_none o
 same_none None = refl
@@ -106,8 +107,9 @@ status_by false true = refl
 status_by false false = refl
 
 -- the program's word
-pub status_told : (os : List (List Judged)) → status_in (word_for os) ≡ t.status_of (outcome_of why_of os)
-status_told os =
+pub status_told : (p : Prog) (o : Outcome) → status_in (word_for (judged o.verdicts.items)) ≡ t.status_of (outcome_of why_of p o)
+status_told p o =
+    let os = judged o.verdicts.items in
     let refuted = any_told (has Refuted) t.has_refuted has_refuted os in
     let unknown = any_told (has Unknown) t.has_unknown has_unknown os in
     status_by (list_any (has Refuted) os) (list_any (has Unknown) os)
@@ -137,16 +139,3 @@ texts_map text f (x ∷ xs) (y ∷ ys) = ap (λ (z : List ℕ). text x (f y) ++ 
 pub values_told : (names : List (List ℕ)) (gs fs : List Scalar) → texts entry_text names (gs ++ fs) ≡ texts variable_text names (map val_of gs ++ map val_of fs)
 values_told names gs fs =
     sym (texts_map variable_text val_of names (gs ++ fs)) ∙ ap (texts variable_text names) (map-append val_of gs fs)
-
-zero_text : decimal 0 ≡ codes "0"
-unfolding digits
-zero_text = refl
-
--- there are no candidates
-pub summary_told : (os : List (List Judged)) → line (codes "summary: 0 retained, 0 dropped; " ++ r.count_text t.AllProved (map (told why_of) os) ++ codes ", " ++ r.count_text t.SomeRefuted (map (told why_of) os) ++ codes ", " ++ r.count_text t.SomeUnknown (map (told why_of) os)) ≡ r.summary_text (outcome_of why_of os)
-summary_told os =
-    ap (λ (z : List ℕ). line (codes "summary: " ++ (z ++ codes " retained, " ++ z ++ codes " dropped; ") ++ r.count_text t.AllProved (map (told why_of) os) ++ codes ", " ++ r.count_text t.SomeRefuted (map (told why_of) os) ++ codes ", " ++ r.count_text t.SomeUnknown (map (told why_of) os))) (sym zero_text)
-
-pub report_told : (p : Program) (os : List (List Judged)) → codes "axioms: consistent\nretained set: greatest\n" ++ texts (r.implementation_text p.globals) p.implementations (map (told why_of) os) ++ r.summary_text (outcome_of why_of os) ≡ r.result_text p (outcome_of why_of os)
-report_told p os =
-    ap (λ (c : List ℕ). line (codes "axioms: consistent") ++ c ++ line (codes "retained set: greatest") ++ texts (r.implementation_text p.globals) p.implementations (map (told why_of) os) ++ r.summary_text (outcome_of why_of os)) (sym (texts_nil r.candidate_text p.candidates))

@@ -5,3 +5,4 @@ pub mod Report
 pub mod Views
 pub mod Words
 pub mod Entries
+pub mod Fates

@@ -1,7 +1,7 @@
 //! What is kept of a place that is left unknown.
 ghost use Rattle.std.specs.Prelude.{◌≡◌, ◌++◌, OnOk, length};
 ghost use Rattle.bg_sound.specs.Told.{Nodes, Rows, Range};
-ghost use Rattle.bg_told.specs.Kept.{operator_text, operation_text, cause_text};
+ghost use Rattle.bg_told.specs.Kept.{operator_text, operation_text, why_text, cause_text};
 ghost use Rattle.bg_told.specs.Views.{operation_of, end_of, why_of};
 
 use crate::put::{put_integer, put_number};
@@ -95,5 +95,27 @@ pub fn put_cause(out: &mut Vec<u8>, cause: &Cause) -> Result<(), AllocError>
         Cause::Search(why) => put_why(out, why),
         Cause::Form(operation) => put_outside(out, *operation),
         Cause::Replay(_, operation) => put_outside(out, *operation),
+    }
+}
+
+/// The word for where a search ends.
+fn put_end_word(out: &mut Vec<u8>, why: &Why) -> Result<(), AllocError>
+    ensures { OnOk result (out.new.items ≡ out.old.items ++ why_text (end_of why.now)) }
+{
+    match why {
+        Why::Nodes(_, _) => out.extend_from_slice(b"nodes"),
+        Why::Rows(_, _) => out.extend_from_slice(b"rows"),
+        Why::Range(_, _) => out.extend_from_slice(b"range"),
+    }
+}
+
+/// The cause's word.
+pub fn put_cause_word(out: &mut Vec<u8>, cause: &Cause) -> Result<(), AllocError>
+    ensures { OnOk result (out.new.items ≡ out.old.items ++ why_text (why_of cause.now)) }
+{
+    match cause {
+        Cause::Search(why) => put_end_word(out, why),
+        Cause::Form(_) => out.extend_from_slice(b"range"),
+        Cause::Replay(_, _) => out.extend_from_slice(b"range"),
     }
 }

@@ -1,7 +1,9 @@
 //! The report: the text of what is known of each implementation and place.
 #![tactic(auto)]
 
+mod candidates;
 mod choices;
+mod fates;
 mod kept;
 mod laws;
 mod place;

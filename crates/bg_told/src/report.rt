@@ -1,17 +1,24 @@
 //! The report.
 ghost use Rattle.std.specs.Prelude.{◌≡◌, ◌++◌, OnOk, IfOk, map};
+ghost use Rattle.bg_ast.specs.Meaning.{meaning_of};
 ghost use Rattle.bg_ast.specs.Views.{declared_of, impl_of, program_of};
 ghost use Rattle.bg_check.specs.Verdicts.{judged};
-ghost use Rattle.bg_check.specs.Outcomes.{told, outcome_of};
+ghost use Rattle.bg_check.specs.Outcomes.{told};
+ghost use Rattle.bg_sound.specs.Told as t;
+ghost use Rattle.bg_houdini.specs.Told.{outcome_of};
+ghost use Rattle.bg_told.specs.Fates.{told_fate};
 ghost use Rattle.bg_told.specs.Lines.{texts};
 ghost use Rattle.bg_told.specs.Report.{head_text, implementation_text, count_text, summary_text, result_text};
 ghost use Rattle.bg_told.specs.Views.{why_of, told_word};
 
+use crate::candidates::{put_candidates, put_fates_count, put_set};
+use crate::fates::{Fate, fates_of, is_greatest};
 use crate::places::put_places;
 use crate::put::{put_number, put_position, put_word};
 use crate::word::{Word, count_of, implementation_word};
 use bg_ast::resolved::{Declared, Implementation, Resolved};
 use bg_check::Judged;
+use bg_houdini::Outcome;
 use std::alloc::{AllocError, Global};
 
 fn put_head(
@@ -72,37 +79,49 @@ fn put_count(out: &mut Vec<u8>, outcome: &[Vec<Judged>], word: Word) -> Result<(
     Ok(())
 }
 
-fn put_summary(out: &mut Vec<u8>, outcome: &[Vec<Judged>]) -> Result<(), AllocError>
-    ensures { OnOk result (out.new.items ≡ out.old.items ++ summary_text (outcome_of why_of (judged outcome.now))) }
+/// The numbers of candidates that are retained and dropped, and of implementations of each word.
+fn put_summary(
+    out: &mut Vec<u8>,
+    fates: &[Fate<'_>],
+    verdicts: &[Vec<Judged>],
+) -> Result<(), AllocError>
+    ensures { OnOk result ((o : t.Outcome) → o.fates ≡ map told_fate fates.now → o.implementations ≡ map (told why_of) (judged verdicts.now) → out.new.items ≡ out.old.items ++ summary_text o) }
 {
-    out.extend_from_slice(b"summary: 0 retained, 0 dropped; ")?;
-    put_count(out, outcome, Word::Verified)?;
+    out.extend_from_slice(b"summary: ")?;
+    put_fates_count(out, fates)?;
+    put_count(out, verdicts, Word::Verified)?;
     out.extend_from_slice(b", ")?;
-    put_count(out, outcome, Word::Refuted)?;
+    put_count(out, verdicts, Word::Refuted)?;
     out.extend_from_slice(b", ")?;
-    put_count(out, outcome, Word::Unknown)?;
+    put_count(out, verdicts, Word::Unknown)?;
     out.push(b'\n')?;
     Ok(())
 }
 
-/// The report of a program, of whose places this is known by implementation: a line for each implementation, with the position of its
-/// keyword and its word, and below it its ordinary places that aren't proved, with the entry values and choices with which one fails or the
-/// cause and what is kept of it; then how many implementations have each word.
+/// The report of what an inference comes to: a line for each candidate by declaration, with what became of it; whether the retained set
+/// is the greatest inductive one; a line for each implementation, with the position of its keyword and its word, and below it its
+/// ordinary places that aren't proved, with the entry values and choices with which one fails or the cause and what is kept of it; then
+/// how many candidates are retained and dropped, and how many implementations have each word.
+///
+/// Only want of memory is an error.
 pub fn result_text(
     alloc: Global,
     program: &Resolved,
-    outcome: &[Vec<Judged>],
+    outcome: &Outcome,
 ) -> Result<Vec<u8>, AllocError>
-    ensures { IfOk result (λ text. text.items ≡ result_text (program_of program.now) (outcome_of why_of (judged outcome.now))) }
+    ensures { IfOk result (λ text. text.items ≡ result_text (program_of program.now) (outcome_of why_of (meaning_of (program_of program.now)) outcome.now)) }
 {
+    let fates = fates_of(alloc, program, outcome)?;
     let mut out = Vec::new(alloc);
-    out.extend_from_slice(b"axioms: consistent\nretained set: greatest\n")?;
+    out.extend_from_slice(b"axioms: consistent\n")?;
+    put_candidates(&mut out, &program.candidates, &fates)?;
+    put_set(&mut out, is_greatest(&outcome.inferred.removals))?;
     put_implementations(
         &mut out,
         &program.globals,
         &program.implementations,
-        outcome,
+        &outcome.verdicts,
     )?;
-    put_summary(&mut out, outcome)?;
+    put_summary(&mut out, &fates, &outcome.verdicts)?;
     Ok(out)
 }

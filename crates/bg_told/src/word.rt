@@ -3,11 +3,13 @@ ghost use Rattle.std.specs.Prelude.{◌≡◌};
 ghost use Rattle.std.specs.List.{list_any};
 ghost use Rattle.bg_sound.specs.Told.{status_of};
 ghost use Rattle.bg_check.specs.Verdicts.{judged};
-ghost use Rattle.bg_check.specs.Outcomes.{outcome_of};
+ghost use Rattle.bg_ast.specs.Syntax.{Prog};
+ghost use Rattle.bg_houdini.specs.Told.{outcome_of};
 ghost use Rattle.bg_told.specs.Views.{why_of, status_in};
 ghost use Rattle.bg_told.specs.Words.{is_ordinary, word_in, has_word, has, word_of, word_for, count_of};
 
 use bg_check::{Judged, Verdict};
+use bg_houdini::Outcome;
 use bg_places::Place;
 
 /// What a report says of an implementation.
@@ -94,12 +96,12 @@ fn program_word(outcome: &[Vec<Judged>]) -> Word
     }
 }
 
-/// The word of a program, of whose places this is known by implementation: refuted where some ordinary place is refuted, else unknown
-/// where one is unknown, else verified. It gives the status of what is told.
-pub fn word_of(outcome: &[Vec<Judged>]) -> Word
-    ensures { status_in result ≡ status_of (outcome_of why_of (judged outcome.now)) }
+/// The word of a program, where an inference comes to this: refuted where some ordinary place is refuted, else unknown where one is
+/// unknown, else verified. It gives the status of what is told.
+pub fn word_of(outcome: &Outcome) -> Word
+    ensures { (p : Prog) → status_in result ≡ status_of (outcome_of why_of p outcome.now) }
 {
-    program_word(outcome)
+    program_word(&outcome.verdicts)
 }
 
 /// How many implementations have the word.

@@ -1,10 +1,8 @@
 use Rattle.std.proofs.Common.{rules, ℤ, subst, ap, Some, ◌≡◌, ◌∙◌, pos}
 use Rattle.std.specs.Int.{int_max, int_min}
-use Rattle.clap.specs.Walk.{rule_of}
 use Rattle.clap.specs.declared.builder.value_parser.ValueParser.TheVariants as parser
 use Rattle.clap.specs.Words.{NarrowsTo, signed_between}
 use Rattle.clap.specs.declared.builder.value_parser.ValueParser.{ValueParser}
-use Rattle.bg_cli.specs.Cli.{budget}
 use Rattle.bg_cli.proofs.line.budget.Goals as goal
 
 narrowed : (p r : ValueParser) (a b : ℤ) → p ≡ parser.Signed (pos 0) (pos 4294967295) → a ≡ pos 1 → b ≡ pos 1000000 → NarrowsTo p (Some a) (Some b) r → r ≡ parser.Signed (pos 1) (pos 1000000)

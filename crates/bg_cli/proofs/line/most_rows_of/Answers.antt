@@ -7,5 +7,5 @@ use Rattle.bg_cli.proofs.line.most_rows_of.Goals as goal
 
 pub returns : goal.returns
 returns c =
-    c.unwrap_or.ensures ∙ reads_one (one_text (found_of c.args.verify.now) (codes "rows")) c.get_one.result c.get_one.ensures.none c.get_one.ensures.value
+    c.unwrap_or.ensures ∙ reads_one 20000 (one_text (found_of c.args.verify.now) (codes "rows")) c.get_one.result c.get_one.ensures.none c.get_one.ensures.value
     ∙ ap (number_or 20000) (one_text-rows (found_of c.args.verify.now) (codes "rows"))

@@ -1,15 +1,18 @@
-use Rattle.std.proofs.Common.{◌≡◌, ◌++◌, List, ℕ, codes, map, ap, ◌∙◌, append_assoc}
-use Rattle.bg_sound.specs.Told.{AllProved, SomeRefuted, SomeUnknown}
+use Rattle.std.proofs.Common.{◌≡◌, ◌++◌, List, codes, map, sym, ap, ◌∙◌, append_assoc}
+use Rattle.bg_sound.specs.Told.{Fate, Judged, AllProved, SomeRefuted, SomeUnknown}
 use Rattle.bg_check.specs.Verdicts.{judged}
 use Rattle.bg_check.specs.Outcomes.{told}
+use Rattle.bg_told.specs.Fates.{told_fate}
 use Rattle.bg_told.specs.Lines.{line}
-use Rattle.bg_told.specs.Report.{count_text}
+use Rattle.bg_told.specs.Report.{count_text, fates_text}
 use Rattle.bg_told.specs.Views.{why_of}
-use Rattle.bg_told.proofs.Told.{summary_told}
 use Rattle.bg_told.proofs.report.put_summary.Goals as goal
 
 pub returns : goal.returns
-returns c =
-    let os = map (told why_of) (judged c.args.outcome.now) in
-    let made : c.push.new.self.items ≡ c.args.out.now.items ++ line (codes "summary: 0 retained, 0 dropped; " ++ count_text AllProved os ++ codes ", " ++ count_text SomeRefuted os ++ codes ", " ++ count_text SomeUnknown os) = rw (c.in_ok-push.ensures.items, c.in_ok-put_count-3.ensures, c.in_ok-extend_from_slice-3.ensures.items, c.in_ok-put_count-2.ensures, c.in_ok-extend_from_slice-2.ensures.items, c.in_ok-put_count.ensures, c.in_ok-extend_from_slice.ensures.items) (simp append_assoc) in
-    made ∙ ap (λ (text : List ℕ). c.args.out.now.items ++ text) (summary_told (judged c.args.outcome.now))
+returns c = λ o same_fates same_words.
+    let fs = map told_fate c.args.fates.now in
+    let os = map (told why_of) (judged c.args.verdicts.now) in
+    let made : c.push.new.self.items ≡ c.args.out.now.items ++ line (codes "summary: " ++ fates_text fs ++ count_text AllProved os ++ codes ", " ++ count_text SomeRefuted os ++ codes ", " ++ count_text SomeUnknown os) = rw (c.in_ok-push.ensures.items, c.in_ok-put_count-3.ensures, c.in_ok-extend_from_slice-3.ensures.items, c.in_ok-put_count-2.ensures, c.in_ok-extend_from_slice-2.ensures.items, c.in_ok-put_count.ensures, c.in_ok-put_fates_count.ensures, c.in_ok-extend_from_slice.ensures.items) (simp append_assoc) in
+    made
+    ∙ ap (λ (x : List Fate). c.args.out.now.items ++ line (codes "summary: " ++ fates_text x ++ count_text AllProved os ++ codes ", " ++ count_text SomeRefuted os ++ codes ", " ++ count_text SomeUnknown os)) (sym same_fates)
+    ∙ ap (λ (x : List (List Judged)). c.args.out.now.items ++ line (codes "summary: " ++ fates_text o.fates ++ count_text AllProved x ++ codes ", " ++ count_text SomeRefuted x ++ codes ", " ++ count_text SomeUnknown x)) (sym same_words)
