@@ -2,7 +2,6 @@
 use Rattle.std.specs.Prelude.{ℕ, ◌+◌, Bool, true, false, not, List, [], ◌∷◌, ◌++◌, map, flat_map, length, drop, Option, Some, None, slice_get, find}
 use Rattle.bg_base.specs.declared.pos.Pos.{Pos}
 use Rattle.bg_text.specs.Trees as t
-use Rattle.bg_ast.specs.Syntax as s
 use Rattle.bg_ast.specs.Resolved as r
 use Rattle.bg_names.specs.declared.error.FaultKind.TheVariants as kinds
 use Rattle.bg_names.specs.Faults.{Fault, fault, unless}

@@ -78,28 +78,35 @@ fn named(alloc: Global, pos: Pos, text: &[u8]) -> Result<Name, Refusal>
     Ok(Name { pos, text })
 }
 
+/// What the operands of a chain are read with: how many parts a list may have behind its first, how many brackets may still
+/// be opened, and how many levels bind tighter.
+#[derive(Clone, Copy)]
+struct Level {
+    limit: usize,
+    depth: u32,
+    rungs: u32,
+}
+
 /// The operands behind the first, from the second link on.
 #[cycle(expr)]
 fn more_links<'a>(
     alloc: Global,
-    limit: usize,
-    depth: u32,
-    rungs: u32,
+    level: Level,
     made: Vec<TreeLink>,
     first: InfixSign,
     tokens: &[Token<'a>],
     at: usize,
 ) -> Result<(Vec<TreeLink>, usize), Refusal>
-    requires { rungs ≤ 6 }
-    ensures { Gives (λ v. map link_view v.items) (λ j. views (drop j tokens.now)) result (joined (map link_view made.items) (many (next_sign first) (operand (ladder limit (inner_of limit depth) rungs)) limit (views (drop at tokens.now)))) }
+    requires { level.rungs ≤ 6 }
+    ensures { Gives (λ v. map link_view v.items) (λ j. views (drop j tokens.now)) result (joined (map link_view made.items) (many (next_sign first) (operand (ladder level.limit (inner_of level.limit level.depth) level.rungs)) level.limit (views (drop at tokens.now)))) }
 {
     let mut made = made;
     let mut rest = at;
-    for _ in 0..limit {
+    for _ in 0..level.limit {
         let Some(((pos, sign), after)) = after_next_sign(first, tokens, rest) else {
             return Ok((made, rest));
         };
-        let (operand, after) = ladder(alloc, limit, depth, rungs, tokens, after)?;
+        let (operand, after) = ladder(alloc, level.limit, level.depth, level.rungs, tokens, after)?;
         made.push(TreeLink { pos, sign, operand })?;
         rest = after;
     }
@@ -128,7 +135,12 @@ fn links<'a>(
     };
     let (operand, after) = ladder(alloc, limit, depth, rungs, tokens, after)?;
     made.push(TreeLink { pos, sign, operand })?;
-    more_links(alloc, limit, depth, rungs, made, sign, tokens, after)
+    let level = Level {
+        limit,
+        depth,
+        rungs,
+    };
+    more_links(alloc, level, made, sign, tokens, after)
 }
 
 /// The chains of the levels that bind least first.
@@ -271,8 +283,8 @@ fn list<'a>(
 ) -> Result<(Vec<TreeExpr>, usize), Refusal>
     ensures { Gives (λ v. exs_of (map ex_of v.items)) (λ j. views (drop j tokens.now)) result (list_at limit (expr_at limit depth) (views (drop at tokens.now))) }
 {
-    let mut made = Vec::new(alloc);
     let (first, after) = ladder(alloc, limit, depth, 6, tokens, at)?;
+    let mut made = Vec::new(alloc);
     made.push(first)?;
     more_exprs(alloc, limit, depth, made, tokens, after)
 }
@@ -305,14 +317,13 @@ fn call<'a>(
     alloc: Global,
     limit: usize,
     depth: u32,
-    pos: Pos,
-    text: &[u8],
+    name: (Pos, &[u8]),
     tokens: &[Token<'a>],
     at: usize,
 ) -> Result<(TreeExpr, usize), Refusal>
-    ensures { Gives ex_of (λ j. views (drop j tokens.now)) result (call_at limit (inner_of limit depth) (pos, text.now) (views (drop at tokens.now))) }
+    ensures { Gives ex_of (λ j. views (drop j tokens.now)) result (call_at limit (inner_of limit depth) (name.entry.0, name.entry.1.now) (views (drop at tokens.now))) }
 {
-    let name = named(alloc, pos, text)?;
+    let name = named(alloc, name.0, name.1)?;
     match after_kind(Kind::Open, tokens, at) {
         None => Ok((TreeExpr::Named(name), at)),
         Some((_, after)) => {
@@ -353,8 +364,8 @@ fn atom<'a>(
 ) -> Result<(TreeExpr, usize), Refusal>
     ensures { Gives ex_of (λ j. views (drop j tokens.now)) result (atom_at limit (inner_of limit depth) (views (drop at tokens.now))) }
 {
-    if let Some(((pos, text), after)) = after_text(Kind::Name, tokens, at) {
-        return call(alloc, limit, depth, pos, text, tokens, after);
+    if let Some((name, after)) = after_text(Kind::Name, tokens, at) {
+        return call(alloc, limit, depth, name, tokens, after);
     }
     if let Some((pos, after)) = after_kind(Kind::Old, tokens, at) {
         return match after_kind(Kind::Open, tokens, after) {

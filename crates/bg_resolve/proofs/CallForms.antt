@@ -1,5 +1,5 @@
 -- The calls of each form of an expression, at the lists that the code meets.
-use Rattle.std.proofs.Common.{◌≡◌, ℕ, List, [], ◌∷◌, ◌++◌, map, flat_map, Option, Some, None, refl, sym, ap, ◌∙◌, append-nil, Vec, Box, Global}
+use Rattle.std.proofs.Common.{◌≡◌, ℕ, ◌+◌, ◌<◌, List, [], ◌∷◌, ◌++◌, map, flat_map, length, get_or, drop, Option, Some, None, refl, sym, ap, ◌∙◌, append-nil, append_assoc, Vec, Box, Global}
 use Rattle.bg_base.specs.declared.pos.Pos.{Pos}
 use Rattle.bg_text.specs.declared.expr.Name.{Name}
 use Rattle.bg_text.specs.declared.expr.TreeExpr.{TreeExpr}
@@ -11,6 +11,7 @@ use Rattle.bg_text.specs.Trees as t
 use Rattle.bg_text.specs.Views as v
 use Rattle.bg_text.proofs.Lists as w
 use Rattle.bg_names.specs.Spaces.{place}
+use Rattle.bg_names.proofs.Firsts.{drop_item}
 use Rattle.bg_resolve.specs.Calls.{called, ex_calls, exs_calls, brackets_calls, links_calls, tree_calls, link_calls, value_calls, bracket_calls}
 
 module _ (fs : List (List ℕ)) where
@@ -49,5 +50,14 @@ module _ (fs : List (List ℕ)) where
 
   pub calls-Update : (p : Pos) (es : Vec TreeExpr Global) (e : TreeExpr) → bracket_calls fs (bracket.Update p es e) ≡ flat_map (tree_calls fs) es.items ++ tree_calls fs e
   calls-Update p es e = ap parts_calls (w.bracket_view-Update p es e) ∙ ap (λ l. l ++ tree_calls fs e) (exs-of es.items)
+
+-- calls that are added, one item of a list further
+pub calls_step : {A : Type 0} (f : A → List ℕ) (old new : List ℕ) (xs : List A) (i : ℕ) (x : A) (whole : List ℕ) → i < length xs → x ≡ get_or xs i x → old ++ flat_map f (drop i xs) ≡ whole → new ≡ old ++ f x → new ++ flat_map f (drop (i + 1) xs) ≡ whole
+calls_step f old new xs i x whole h at known e =
+    let rest = flat_map f (drop (i + 1) xs) in
+    ap (λ l. l ++ rest) e
+    ∙ append_assoc old (f x) rest
+    ∙ ap (λ l. old ++ flat_map f l) (sym (drop_item xs i x h at))
+    ∙ known
 
 pub ruleset call_forms = (calls-Apply, calls-Chain, calls-Postfix, calls-Select, calls-Update)

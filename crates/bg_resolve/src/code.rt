@@ -32,6 +32,15 @@ use bg_spaces::space::{Space, scope_in};
 use bg_text::{Body, Formals, Name, Signature, TreeStmt, Variables};
 use std::alloc::Global;
 
+/// An implementation as it is written: where it begins, and the procedure's name, the signature and the body that it has.
+#[derive(Clone, Copy)]
+pub struct Written<'a> {
+    pub pos: Pos,
+    pub name: &'a Name,
+    pub signature: &'a Signature,
+    pub body: &'a Body,
+}
+
 /// The names of a list, each once; no fault is noted. Errors: Memory.
 pub fn quiet_names<'a>(alloc: Global, ids: &[&'a Name]) -> Result<Names<'a>, ResolveError>
     ensures made { IfOk result (λ names. listed names ≡ with_names [] (map id_in ids.now)) }
@@ -243,21 +252,19 @@ fn inner<'a>(
     g: &Space<'a>,
     notes: &mut Notes<'a>,
     next: &mut usize,
-    name: &'a Name,
-    s: &'a Signature,
-    b: &'a Body,
+    x: &Written<'a>,
 ) -> Result<Vec<Stmt>, ResolveError>
-    ensures made { IfOk result (λ made. sts_in made.items ≡ named_sts (inside (spaces_in g.now) (v.id_of name.now) (v.sig_of s.now) (v.body_of b.now)) next.old 0 [] [] (v.body_of b.now).stmts) }
-    ensures first { OnOk result (first_of notes.new ≡ better (first_of notes.old) (code_faults (spaces_in g.now) (v.id_of name.now) (v.sig_of s.now) (v.body_of b.now))) }
-    ensures next { OnOk result (next.new ≡ next.old + sts_count (v.body_of b.now).stmts) }
+    ensures made { IfOk result (λ made. sts_in made.items ≡ named_sts (inside (spaces_in g.now) (v.id_of x.now.name.now) (v.sig_of x.now.signature.now) (v.body_of x.now.body.now)) next.old 0 [] [] (v.body_of x.now.body.now).stmts) }
+    ensures first { OnOk result (first_of notes.new ≡ better (first_of notes.old) (code_faults (spaces_in g.now) (v.id_of x.now.name.now) (v.sig_of x.now.signature.now) (v.body_of x.now.body.now))) }
+    ensures next { OnOk result (next.new ≡ next.old + sts_count (v.body_of x.now.body.now).stmts) }
     ensures err { IfErr result (λ e. e ≡ Memory) }
 {
-    let frame = frame(alloc, notes, s, b)?;
-    note_locals(alloc, g, notes, &b.locals)?;
-    let labels = labels(alloc, notes, &b.stmts)?;
-    let inputs = inputs(alloc, s)?;
-    let inside = inside_in(g, &frame, inputs, name, &labels);
-    statements(alloc, &inside, notes, next, &b.stmts)
+    let frame = frame(alloc, notes, x.signature, x.body)?;
+    note_locals(alloc, g, notes, &x.body.locals)?;
+    let labels = labels(alloc, notes, &x.body.stmts)?;
+    let inputs = inputs(alloc, x.signature)?;
+    let inside = inside_in(g, &frame, inputs, x.name, &labels);
+    statements(alloc, &inside, notes, next, &x.body.stmts)
 }
 
 /// An implementation. Errors: Memory.
@@ -266,24 +273,21 @@ pub fn code<'a>(
     g: &Space<'a>,
     notes: &mut Notes<'a>,
     next: &mut usize,
-    pos: Pos,
-    name: &'a Name,
-    s: &'a Signature,
-    b: &'a Body,
+    x: &Written<'a>,
 ) -> Result<Made, ResolveError>
-    ensures made { IfOk result (λ x. impl_of x ≡ named_code (spaces_in g.now) next.old pos (v.id_of name.now) (v.sig_of s.now) (v.body_of b.now)) }
-    ensures first { OnOk result (first_of notes.new ≡ better (first_of notes.old) (code_faults (spaces_in g.now) (v.id_of name.now) (v.sig_of s.now) (v.body_of b.now))) }
-    ensures next { OnOk result (next.new ≡ next.old + sts_count (v.body_of b.now).stmts) }
+    ensures made { IfOk result (λ m. impl_of m ≡ named_code (spaces_in g.now) next.old x.now.pos (v.id_of x.now.name.now) (v.sig_of x.now.signature.now) (v.body_of x.now.body.now)) }
+    ensures first { OnOk result (first_of notes.new ≡ better (first_of notes.old) (code_faults (spaces_in g.now) (v.id_of x.now.name.now) (v.sig_of x.now.signature.now) (v.body_of x.now.body.now))) }
+    ensures next { OnOk result (next.new ≡ next.old + sts_count (v.body_of x.now.body.now).stmts) }
     ensures err { IfErr result (λ e. e ≡ Memory) }
 {
-    let body = inner(alloc, g, notes, next, name, s, b)?;
-    let procedure = number_of(&g.procedures, name)?;
-    let params = variables(alloc, g, &s.params)?;
-    let results = variables(alloc, g, results(s))?;
-    let locals = locals(alloc, g, &b.locals)?;
-    let name = copy_name(alloc, name)?;
+    let body = inner(alloc, g, notes, next, x)?;
+    let procedure = number_of(&g.procedures, x.name)?;
+    let params = variables(alloc, g, &x.signature.params)?;
+    let results = variables(alloc, g, results(x.signature))?;
+    let locals = locals(alloc, g, &x.body.locals)?;
+    let name = copy_name(alloc, x.name)?;
     Ok(Made {
-        pos,
+        pos: x.pos,
         name,
         procedure,
         params,

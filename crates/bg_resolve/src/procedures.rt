@@ -13,7 +13,7 @@ ghost use Rattle.bg_resolve.specs.Parts.{procedure_faults_of, body_faults_of};
 ghost use Rattle.bg_resolve.specs.Pieces.{clause_count, body_count, named_bodies};
 ghost use Rattle.bg_names.specs.declared.error.ResolveError.TheVariants.{Memory};
 
-use crate::code::{code, quiet_names, variables};
+use crate::code::{Written, code, quiet_names, variables};
 use bg_ast::resolved::{Implementation as MadeBody, Procedure as Made};
 use bg_names::changes::declare;
 use bg_names::copy::copy_name;
@@ -22,7 +22,7 @@ use bg_names::exprs::note_use;
 use bg_names::notes::Notes;
 use bg_spaces::modifies::modifies;
 use bg_spaces::signatures::{
-    Clauses, frame_names, name_specs, note_signature, param_names, results,
+    Clauses, Sights, frame_names, name_specs, note_signature, param_names, results,
 };
 use bg_spaces::space::{Space, scope_in};
 use bg_text::{Decl, Implementation, Procedure, Signature};
@@ -48,7 +48,12 @@ fn specification<'a>(
     let frame = quiet_names(alloc, &names)?;
     let before = scope_in(g, &params, true, false);
     let after = scope_in(g, &frame, true, true);
-    name_specs(alloc, g, &before, &after, notes, next, &q.specs)
+    let sees = Sights {
+        spaces: g,
+        before,
+        after,
+    };
+    name_specs(alloc, &sees, notes, next, &q.specs)
 }
 
 /// A procedure.
@@ -140,7 +145,13 @@ fn push_own<'a>(
     match &q.body {
         None => note_frame(alloc, notes, &q.signature),
         Some(b) => {
-            let x = code(alloc, g, notes, next, q.pos, &q.name, &q.signature, b)?;
+            let written = Written {
+                pos: q.pos,
+                name: &q.name,
+                signature: &q.signature,
+                body: b,
+            };
+            let x = code(alloc, g, notes, next, &written)?;
             out.push(x)?;
             Ok(())
         }
@@ -164,7 +175,13 @@ fn push_other<'a>(
 {
     note_use(&g.procedures, notes, &m.name);
     note_signature(alloc, g, notes, &m.signature)?;
-    let x = code(alloc, g, notes, next, m.pos, &m.name, &m.signature, &m.body)?;
+    let written = Written {
+        pos: m.pos,
+        name: &m.name,
+        signature: &m.signature,
+        body: &m.body,
+    };
+    let x = code(alloc, g, notes, next, &written)?;
     out.push(x)?;
     Ok(())
 }

@@ -94,6 +94,14 @@ fn note_modified<'a>(g: &Space, notes: &mut Notes<'a>, names: &'a [Name])
     }
 }
 
+/// What a specification sees: the spaces, and what names mean in a `requires` and in an `ensures`.
+#[derive(Clone, Copy)]
+pub struct Sights<'s, 'a> {
+    pub spaces: &'s Space<'a>,
+    pub before: Scope<'s, 'a>,
+    pub after: Scope<'s, 'a>,
+}
+
 /// The clauses of a specification.
 #[derive(Drop)]
 pub struct Clauses {
@@ -104,37 +112,35 @@ pub struct Clauses {
 /// A part of a specification, with the next number where it is a clause.
 fn name_spec<'a>(
     alloc: Global,
-    g: &Space,
-    before: &Scope,
-    after: &Scope,
+    sees: &Sights,
     notes: &mut Notes<'a>,
     next: &mut usize,
     made: &mut Clauses,
     spec: &'a Spec,
 ) -> Result<(), ResolveError>
-    ensures before { OnOk result (map clause_of made.new.requires_.items ≡ map clause_of made.old.requires_.items ++ named_requires (scope_of before.now) next.old (v.spec_of spec.now ∷ [])) }
-    ensures after { OnOk result (map clause_of made.new.ensures_.items ≡ map clause_of made.old.ensures_.items ++ named_ensures (scope_of after.now) next.old (v.spec_of spec.now ∷ [])) }
+    ensures before { OnOk result (map clause_of made.new.requires_.items ≡ map clause_of made.old.requires_.items ++ named_requires (scope_of sees.now.before) next.old (v.spec_of spec.now ∷ [])) }
+    ensures after { OnOk result (map clause_of made.new.ensures_.items ≡ map clause_of made.old.ensures_.items ++ named_ensures (scope_of sees.now.after) next.old (v.spec_of spec.now ∷ [])) }
     ensures next { OnOk result (next.new ≡ next.old + specs_count (v.spec_of spec.now ∷ [])) }
-    ensures first { OnOk result (first_of notes.new ≡ better (first_of notes.old) (spec_faults_in (spaces_in g.now) (scope_of before.now) (scope_of after.now) (v.spec_of spec.now))) }
+    ensures first { OnOk result (first_of notes.new ≡ better (first_of notes.old) (spec_faults_in (spaces_in sees.now.spaces.now) (scope_of sees.now.before) (scope_of sees.now.after) (v.spec_of spec.now))) }
     ensures err { IfErr result (λ e. e ≡ Memory) }
 {
     match spec {
         Spec::Requires(k) => {
             let id = number(*next)?;
-            let x = clause(alloc, before, notes, id, k)?;
+            let x = clause(alloc, &sees.before, notes, id, k)?;
             made.requires_.push(x)?;
             *next += 1;
             Ok(())
         }
         Spec::Ensures(k) => {
             let id = number(*next)?;
-            let x = clause(alloc, after, notes, id, k)?;
+            let x = clause(alloc, &sees.after, notes, id, k)?;
             made.ensures_.push(x)?;
             *next += 1;
             Ok(())
         }
         Spec::Modifies(_, names) => {
-            note_modified(g, notes, names);
+            note_modified(sees.spaces, notes, names);
             Ok(())
         }
     }
@@ -143,17 +149,15 @@ fn name_spec<'a>(
 /// A specification, with the next numbers. Errors: Memory.
 pub fn name_specs<'a>(
     alloc: Global,
-    g: &Space,
-    before: &Scope,
-    after: &Scope,
+    sees: &Sights,
     notes: &mut Notes<'a>,
     next: &mut usize,
     specs: &'a [Spec],
 ) -> Result<Clauses, ResolveError>
-    ensures before { IfOk result (λ made. map clause_of made.requires_.items ≡ named_requires (scope_of before.now) next.old (map v.spec_of specs.now)) }
-    ensures after { IfOk result (λ made. map clause_of made.ensures_.items ≡ named_ensures (scope_of after.now) next.old (map v.spec_of specs.now)) }
+    ensures before { IfOk result (λ made. map clause_of made.requires_.items ≡ named_requires (scope_of sees.now.before) next.old (map v.spec_of specs.now)) }
+    ensures after { IfOk result (λ made. map clause_of made.ensures_.items ≡ named_ensures (scope_of sees.now.after) next.old (map v.spec_of specs.now)) }
     ensures next { OnOk result (next.new ≡ next.old + specs_count (map v.spec_of specs.now)) }
-    ensures first { OnOk result (first_of notes.new ≡ better (first_of notes.old) (flat_map (spec_faults_in (spaces_in g.now) (scope_of before.now) (scope_of after.now)) (map v.spec_of specs.now))) }
+    ensures first { OnOk result (first_of notes.new ≡ better (first_of notes.old) (flat_map (spec_faults_in (spaces_in sees.now.spaces.now) (scope_of sees.now.before) (scope_of sees.now.after)) (map v.spec_of specs.now))) }
     ensures err { IfErr result (λ e. e ≡ Memory) }
 {
     let mut made = Clauses {
@@ -161,7 +165,7 @@ pub fn name_specs<'a>(
         ensures_: Vec::new(alloc),
     };
     for spec in specs {
-        name_spec(alloc, g, before, after, notes, next, &mut made, spec)?;
+        name_spec(alloc, sees, notes, next, &mut made, spec)?;
     }
     Ok(made)
 }

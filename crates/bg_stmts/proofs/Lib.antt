@@ -1,2 +1,1 @@
 pub mod StatementRules
-mod Calls

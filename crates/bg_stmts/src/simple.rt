@@ -244,43 +244,60 @@ fn called<'a>(
     Ok((made, after))
 }
 
-/// A call behind its first name.
+/// A call behind its first name: the further names that take results, and the procedure, where the first name takes one too; and
+/// the arguments.
 #[tactic(auto, unfolding(crate::specs::Statements::takes_at))]
 fn taking<'a>(
     alloc: Global,
     limit: usize,
     depth: u32,
-    pos: Pos,
-    attributes: Vec<Attribute>,
-    first: Name,
     tokens: &[Token<'a>],
     at: usize,
-) -> Result<(TreeCall, usize), Refusal>
-    ensures { Gives call_of (λ j. views (drop j tokens.now)) result (with_read (λ v. call_by pos (map attr_of attributes.items) (id_of first) v.0 v.1) (takes_at limit depth (views (drop at tokens.now)))) }
+) -> Result<((Option<(Vec<Name>, Name)>, Vec<TreeExpr>), usize), Refusal>
+    ensures { Gives (λ v. (option_of (λ t. (map id_of t.0.items, id_of t.1)) v.0, exs_in v.1.items)) (λ j. views (drop j tokens.now)) result (takes_at limit depth (views (drop at tokens.now))) }
 {
     if let Some(_) = after_kind(Kind::Open, tokens, at) {
         let (args, after) = called(alloc, limit, depth, tokens, at)?;
-        let call = TreeCall {
-            pos,
-            attributes,
-            takes: Vec::new(alloc),
-            procedure: first,
-            args,
-        };
-        return Ok((call, after));
+        return Ok(((None, args), after));
     }
     let (rest, after) = more_names(alloc, limit, tokens, at)?;
     let (_, after) = expect_kind(Kind::Becomes, tokens, after)?;
     let (procedure, after) = name(alloc, tokens, after)?;
     let (args, after) = called(alloc, limit, depth, tokens, after)?;
-    let call = TreeCall {
-        pos,
-        attributes,
-        takes: first_name(first, rest)?,
-        procedure,
-        args,
-    };
-    Ok((call, after))
+    Ok(((Some((rest, procedure)), args), after))
+}
+
+/// The call that stands behind these words.
+fn call_by(
+    alloc: Global,
+    pos: Pos,
+    attributes: Vec<Attribute>,
+    first: Name,
+    taken: Option<(Vec<Name>, Name)>,
+    args: Vec<TreeExpr>,
+) -> Result<TreeCall, Refusal>
+    ensures ok { IfOk result (λ made. call_of made ≡ call_by pos (map attr_of attributes.items) (id_of first) (option_of (λ t. (map id_of t.0.items, id_of t.1)) taken) (exs_in args.items)) }
+    ensures err { IfErr result (λ x. x ≡ Refusal.Memory) }
+{
+    match taken {
+        None => Ok(TreeCall {
+            pos,
+            attributes,
+            takes: Vec::new(alloc),
+            procedure: first,
+            args,
+        }),
+        Some((rest, procedure)) => {
+            let takes = first_name(first, rest)?;
+            Ok(TreeCall {
+                pos,
+                attributes,
+                takes,
+                procedure,
+                args,
+            })
+        }
+    }
 }
 
 /// A call.
@@ -297,7 +314,9 @@ fn call<'a>(
     let (pos, after) = expect_kind(Kind::Call, tokens, at)?;
     let (attributes, after) = attributes(alloc, limit, depth, tokens, after)?;
     let (first, after) = name(alloc, tokens, after)?;
-    taking(alloc, limit, depth, pos, attributes, first, tokens, after)
+    let ((taken, args), after) = taking(alloc, limit, depth, tokens, after)?;
+    let call = call_by(alloc, pos, attributes, first, taken, args)?;
+    Ok((call, after))
 }
 
 /// `havoc` and its names.

@@ -32,17 +32,17 @@ ladder-returns t c =
     ladder_got _ _ _ _ _ m _ _ _ _ _ c.in_ok-e.ensures c.in_ok-links.ensures c.in_ok-chained.ensures.ok
 
 pub more_links-returns-in_default : goal.more_links-returns-in_default
-more_links-returns-in_default t c = sym c.loop.invariant ∙ many_stop _ _ _ _ (c.args.limit - c.loop.counter) (sym c.in_default.ensures)
+more_links-returns-in_default t c = sym c.loop.invariant ∙ many_stop _ _ _ _ (c.args.level.limit - c.loop.counter) (sym c.in_default.ensures)
 
 pub more_links-returns-in_err-operand : goal.more_links-returns-in_err-operand
 more_links-returns-in_err-operand t c =
     let p = err_from_is_err_and c.from_residual.result c.from_residual.ensures.1 in
-    let m : c.args.limit - c.loop.counter ≡ suc (c.args.limit - (c.loop.counter + 1)) = omega arith in
+    let m : c.args.level.limit - c.loop.counter ≡ suc (c.args.level.limit - (c.loop.counter + 1)) = omega arith in
     rw (p.1, p.2) (refuses_on _ _ _ _ (λ y h. sym c.loop.invariant ∙ many_bad _ _ _ _ _ _ _ _ y m (sym c.in-Some.ensures) (rw h refl)) (λ y h. sym c.loop.invariant ∙ many_deep _ _ _ _ _ _ _ _ y m (sym c.in-Some.ensures) (rw h refl)) c.in_err-operand.ensures)
 
 pub more_links-loop-preserved : goal.more_links-loop-preserved
 more_links-loop-preserved t c =
-    let m : c.args.limit - c.loop.counter ≡ suc (c.args.limit - (c.loop.counter + 1)) = omega arith in
+    let m : c.args.level.limit - c.loop.counter ≡ suc (c.args.level.limit - (c.loop.counter + 1)) = omega arith in
     rw (c.in_ok-push.ensures.items, map-append) (sym (many_more _ _ _ _ _ _ _ _ _ _ m (sym c.in-Some.ensures) (rw c.in_ok-operand.ensures refl)) ∙ c.loop.invariant)
 
 pub more_exprs-returns-in_default : goal.more_exprs-returns-in_default
@@ -133,4 +133,4 @@ call-returns-in_err-args-in-Some t c =
 pub call-returns-in_ok-args-in-Some : goal.call-returns-in_ok-args-in-Some
 call-returns-in_ok-args-in-Some t c =
     let e : c.args.depth ≡ suc (c.args.depth - 1) = omega (arith, c.if-depth-eq0.false) in
-    call_got _ _ _ _ e (c.args.pos, c.args.text.now) _ _ _ (sym c.in-Some.ensures) c.in_ok-args-in-Some.ensures ∙ ap (λ v. Got v (views (drop c.in_ok-args-in-Some.after c.args.tokens.now))) (apply_is c.in_ok-name.name c.in_ok-args-in-Some.args c.args.pos c.args.text.now c.in_ok-name.ensures.ok.0 c.in_ok-name.ensures.ok.1)
+    call_got _ _ _ _ e (c.args.name.0, c.args.name.1.now) _ _ _ (sym c.in-Some.ensures) c.in_ok-args-in-Some.ensures ∙ ap (λ v. Got v (views (drop c.in_ok-args-in-Some.after c.args.tokens.now))) (apply_is c.in_ok-name.name c.in_ok-args-in-Some.args c.args.name.0 c.args.name.1.now c.in_ok-name.ensures.ok.0 c.in_ok-name.ensures.ok.1)

@@ -38,7 +38,7 @@ abbrev pub decreases-more_exprs : goal.decreases-more_exprs
 decreases-more_exprs l = 40 * l.depth + 23
 
 abbrev pub decreases-more_links : goal.decreases-more_links
-decreases-more_links l = 40 * l.depth + 3 * l.rungs + 4
+decreases-more_links l = 40 * l.level.depth + 3 * l.level.rungs + 4
 
 abbrev pub decreases-prefixed : goal.decreases-prefixed
 decreases-prefixed l = 40 * l.depth + 2
@@ -55,5 +55,5 @@ invariant-more_exprs-loop l =
 
 abbrev pub invariant-more_links-loop : goal.invariant-more_links-loop
 invariant-more_links-loop l =
-    let part = operand (ladder l.limit (inner_of l.limit l.depth) l.rungs) in
-    joined (map link_view l.made.items) (many (next_sign l.first) part (l.limit - l.counter) (views (drop l.rest l.tokens))) ≡ joined (map link_view l.fn.made.items) (many (next_sign l.first) part l.limit (views (drop l.at l.tokens)))
+    let part = operand (ladder l.level.limit (inner_of l.level.limit l.level.depth) l.level.rungs) in
+    joined (map link_view l.made.items) (many (next_sign l.first) part (l.level.limit - l.counter) (views (drop l.rest l.tokens))) ≡ joined (map link_view l.fn.made.items) (many (next_sign l.first) part l.level.limit (views (drop l.at l.tokens)))

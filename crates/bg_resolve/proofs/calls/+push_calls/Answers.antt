@@ -3,7 +3,7 @@ use Rattle.std.proofs.lemmas.Result.{on_ok_weaker}
 use Rattle.bg_names.specs.Spaces.{place}
 use Rattle.bg_resolve.specs.Calls.{called, tree_calls, link_calls, bracket_calls}
 use Rattle.bg_names.specs.Views.{listed}
-use Rattle.bg_resolve.proofs.CallForms.{calls-Apply, calls-Chain, calls-Postfix, calls-Select, calls-Update}
+use Rattle.bg_resolve.proofs.CallForms.{calls-Apply, calls-Chain, calls-Postfix, calls-Select, calls-Update, calls_step}
 use Rattle.bg_resolve.proofs.calls.+push_calls.Goals as goal
 
 -- two lists are added, one behind the other
@@ -39,3 +39,15 @@ push_calls-returns-in_ok-push_calls-in-Chain-clause-ok t c =
     let fs = listed c.args.functions.now in
     let old = c.args.out.now.items in
     on_ok_weaker c.of_links.result (λ e. two old _ _ _ (tree_calls fs c.in-Chain.e.value) _ (flat_map (link_calls fs) c.in-Chain.ls.items) (ap (tree_calls fs) c.deref-in-Chain.ensures) (ap (flat_map (link_calls fs)) c.deref-in-Chain-2.ensures.value) c.in_ok-push_calls-in-Chain.ensures.ok e ∙ ap (λ l. old ++ l) (sym (calls-Chain fs c.in-Chain.e c.in-Chain.ls) ∙ ap (tree_calls fs) (sym c.in-Chain.is))) c.of_links.ensures.ok
+
+pub of_exprs-loop-e-preserved : goal.of_exprs-loop-e-preserved
+of_exprs-loop-e-preserved t c =
+    calls_step (tree_calls (listed c.args.functions.now)) c.loop-e.out.items _ c.args.es.now c.loop-e.e-index c.e-item.result _ c.loop-e-test.true c.e-item.is c.loop-e.invariant c.in_ok-push_calls.ensures.ok
+
+pub of_brackets-loop-b-preserved : goal.of_brackets-loop-b-preserved
+of_brackets-loop-b-preserved t c =
+    calls_step (bracket_calls (listed c.args.functions.now)) c.loop-b.out.items _ c.args.bs.now c.loop-b.b-index c.b-item.result _ c.loop-b-test.true c.b-item.is c.loop-b.invariant c.in_ok-of_bracket.ensures.ok
+
+pub of_links-loop-l-preserved : goal.of_links-loop-l-preserved
+of_links-loop-l-preserved t c =
+    calls_step (link_calls (listed c.args.functions.now)) c.loop-l.out.items _ c.args.ls.now c.loop-l.l-index c.l-item.result _ c.loop-l-test.true c.l-item.is c.loop-l.invariant c.in_ok-push_calls.ensures.ok

@@ -25,9 +25,9 @@ four f f1 f2 f3 new a b c d h k m e = after f f3 new (a ++ b ++ c) d (after f f2
 pub returns-clause-first : goal.returns-clause-first
 returns-clause-first c =
     let g = spaces_in c.args.g.now in
-    let q = v.id_of c.args.name.now in
-    let s = v.sig_of c.args.s.now in
-    let b = v.body_of c.args.b.now in
+    let q = v.id_of c.args.x.now.name.now in
+    let s = v.sig_of c.args.x.now.signature.now in
+    let b = v.body_of c.args.x.now.body.now in
     let labels = rw c.deref-2.ensures.value at c.in_ok-labels.ensures.made in
     let is = c.inside_in-inside.ensures ∙ inside-is g q s b _ _ _ c.in_ok-frame.ensures.made labels c.in_ok-inputs.ensures.made in
     on_ok_weaker c.statements.result

@@ -50,11 +50,11 @@ loop-spec-preserved c =
     let some = c.loop-spec-test.true in
     let known = c.loop-spec.invariant in
     let done = c.in_ok-name_spec.ensures in
-    let before = scope_of c.args.before.now in
-    let after = scope_of c.args.after.now in
+    let before = scope_of c.args.sees.now.before in
+    let after = scope_of c.args.sees.now.after in
     record {
       before = more_named (named_requires before) (one_requires before) _ _ _ _ xs c.loop-spec.spec-index c.spec-item.result _ some at known.before done.before done.next;
       after = more_named (named_ensures after) (one_ensures after) _ _ _ _ xs c.loop-spec.spec-index c.spec-item.result _ some at known.after done.after done.next;
       next = more_count _ _ xs c.loop-spec.spec-index c.spec-item.result _ some at known.next done.next;
-      first = noted_step (spec_faults_in (spaces_in c.args.g.now) before after) v.spec_of _ _ xs c.loop-spec.spec-index c.spec-item.result _ some at known.first done.first;
+      first = noted_step (spec_faults_in (spaces_in c.args.sees.now.spaces.now) before after) v.spec_of _ _ xs c.loop-spec.spec-index c.spec-item.result _ some at known.first done.first;
     }
