@@ -1,5 +1,5 @@
 -- The clauses have a valuation exactly where the equations deny the entry.
-use Rattle.std.proofs.Common.{◌≡◌, ℕ, zero, suc, ◌+◌, ◌-◌, ◌<◌, Bool, true, false, List, [], ◌∷◌, ◌++◌, length, Option, refl, sym, ap, subst, ◌∙◌, arith}
+use Rattle.std.proofs.Common.{◌≡◌, ℕ, zero, suc, ◌+◌, ◌-◌, ◌<◌, Bool, true, false, List, [], ◌∷◌, length, Option, refl, sym, ap, subst, ◌∙◌, arith}
 use Rattle.std.specs.Prelude.{nat_lt, slice_get, Some, None, Ok, ℤ}
 use Rattle.std.proofs.lemmas.Bool.Decides.{nat_tests}
 use Rattle.bg_base.specs.declared.exact.OutOfRange.{OutOfRange}
@@ -12,16 +12,14 @@ use Rattle.bg_formula.specs.Meaning.{Valuation, same, signed, clauses_true}
 use Rattle.bg_formed.specs.Formed.{FormBlock, blocks_below}
 use Rattle.bg_formed.specs.Wells.{form_equations}
 use Rattle.bg_formed.specs.Used.{refused}
-use Rattle.bg_formed.proofs.Below.{lower}
 use Rattle.bg_clause.specs.Told.{Told, entry_told}
 use Rattle.bg_clause.specs.Whole.{formula, clauses_by, clauses_of}
 use Rattle.bg_formed.specs.Agree.{AreRows, RowsAgree}
 use Rattle.bg_clause.specs.Valued.{worth_in}
-use Rattle.bg_clause.proofs.Clausal.{all_in}
 use Rattle.bg_clause.proofs.Backward.{entry_denied}
 use Rattle.bg_clause.proofs.Locals.{Agree, local_clauses}
 use Rattle.bg_clause.proofs.Forward.{entry_met}
-use Rattle.bg_clause.proofs.Wholes.{entry_below, entry_more, atoms_of, at_truth, at_row, at_name, worth_clauses, formula_whole}
+use Rattle.bg_clause.proofs.Wholes.{entry_below, atoms_of, at_truth, at_row, at_name, worth_clauses, formula_whole}
 
 by_cases : (o : Option OutOfRange) (g f : Formula) → clauses_by o g ≡ Ok f → (o ≡ None) × (g ≡ f)
 by_cases None g f e = (refl, cc)

@@ -1,7 +1,7 @@
 -- What forms and clauses are worth depends on their atoms alone.
-use Rattle.std.proofs.Common.{◌≡◌, ℕ, zero, suc, ◌+◌, Bool, true, false, List, [], ◌∷◌, ◌++◌, map, refl, sym, ap, ◌∙◌, arith}
+use Rattle.std.proofs.Common.{◌≡◌, ℕ, suc, ◌+◌, Bool, true, false, List, [], ◌∷◌, ◌++◌, map, refl, sym, ap, ◌∙◌, arith}
 use Rattle.std.specs.Prelude.{not, nat_lt}
-use Rattle.std.specs.Prelude.{◌&&◌, ◌||◌, if◌then◌else◌, slice_get, Option}
+use Rattle.std.specs.Prelude.{◌&&◌, ◌||◌, slice_get, Option}
 use Rattle.bg_ast.specs.Execution.{Spot}
 use Rattle.bg_passive.specs.Passive.{is_absent}
 use Rattle.bg_passive.specs.Equations.{is_well}
@@ -11,7 +11,7 @@ use Rattle.bg_formula.specs.declared.atom.Literal.{Literal}
 use Rattle.bg_formula.specs.Formulas.{literals_below, clauses_below}
 use Rattle.bg_formula.specs.Meaning.{same}
 use Rattle.bg_forms.specs.Forms.{Form, Plain, Is, NotSo, Both, Same, form_true}
-use Rattle.bg_forms.proofs.Meaning.{zero_below, below_suc, and_left, and_right}
+use Rattle.bg_forms.proofs.Meaning.{and_left, and_right}
 use Rattle.bg_clause.proofs.Clausal.{any_in, all_in}
 use Rattle.bg_clause.proofs.Defining.{Named, own, deep}
 use Rattle.bg_clause.proofs.Emitting.{parts, parts_as}

@@ -1,6 +1,7 @@
 -- Forms that wait for their clauses.
 use Rattle.std.specs.Prelude.{ℕ, zero, suc, ◌+◌, Bool, List, [], ◌∷◌, ◌++◌}
 use Rattle.bg_formula.specs.declared.atom.Literal.{Literal}
+use Rattle.bg_clause.specs.declared.waiting.Saying.{Saying}
 use Rattle.bg_clause.specs.declared.waiting.Waiting as code
 use Rattle.bg_clause.specs.declared.waiting.Waiting.TheVariants as waiting
 use Rattle.bg_forms.specs.Forms.{Form, Plain, Is, NotSo, Both, Same}
@@ -12,8 +13,12 @@ pub data Waits : Type 0 where
   Says : Bool → List Literal → Form → Waits
   Defines : Literal → Form → Waits
 
+-- what waits with a form that is to be true or false beside literals
+abbrev pub says_of : Saying → Waits
+says_of s = Says s.sign s.literals.items (form_in s.form)
+
 abbrev pub waits_of : code.Waiting → Waits
-waits_of (waiting.Says s ls f) = Says s ls.items (form_in f)
+waits_of (waiting.Says s) = says_of s
 waits_of (waiting.Defines k f) = Defines k (form_in f)
 
 abbrev pub emitted_of : Waits → ℕ → List (List Literal)

@@ -3,12 +3,12 @@ ghost use Rattle.std.specs.Prelude.{◌≡◌, ◌<◌, ◌∷◌, ◌++◌, map
 ghost use Rattle.bg_clause.specs.Emitted.{after, emitted};
 ghost use Rattle.bg_forms.specs.Views.{form_in};
 ghost use Rattle.bg_clause.specs.Views.{clauses_in};
-ghost use Rattle.bg_clause.specs.Waiting.{Says, Defines, waits_of, emitted_all, after_all, size_of, size_all};
+ghost use Rattle.bg_clause.specs.Waiting.{Defines, says_of, waits_of, emitted_all, after_all, size_of, size_all};
 
 use crate::clause::add;
 use crate::naming::{name_for, signed_as};
 use crate::pairs::{add_both, add_equal, add_same};
-use crate::waiting::{Waiting, define, define_both, say, say_both, say_not_both};
+use crate::waiting::{Saying, Waiting, define, define_both, say, say_both, say_not_both};
 use bg_forms::{Form, Parts, opposite};
 use bg_formula::Literal;
 use std::alloc::{AllocError, Global};
@@ -20,15 +20,18 @@ fn emit_says(
     alloc: Global,
     out: &mut Vec<Vec<Literal>>,
     waiting: &mut VecDeque<Waiting>,
-    sign: bool,
-    literals: Vec<Literal>,
-    form: Form,
+    says: Saying,
     next: &mut u32,
 ) -> Result<(), AllocError>
-    ensures clauses { OnOk result (clauses_in out.new.items ++ emitted_all (map waits_of waiting.new.items) next.new ≡ clauses_in out.old.items ++ emitted_all (Says sign literals.items (form_in form) ∷ map waits_of waiting.old.items) next.old) }
-    ensures more { OnOk result (after_all (map waits_of waiting.new.items) next.new ≡ after_all (Says sign literals.items (form_in form) ∷ map waits_of waiting.old.items) next.old) }
-    ensures smaller { OnOk result (size_all (map waits_of waiting.new.items) < size_all (Says sign literals.items (form_in form) ∷ map waits_of waiting.old.items)) }
+    ensures clauses { OnOk result (clauses_in out.new.items ++ emitted_all (map waits_of waiting.new.items) next.new ≡ clauses_in out.old.items ++ emitted_all (says_of says ∷ map waits_of waiting.old.items) next.old) }
+    ensures more { OnOk result (after_all (map waits_of waiting.new.items) next.new ≡ after_all (says_of says ∷ map waits_of waiting.old.items) next.old) }
+    ensures smaller { OnOk result (size_all (map waits_of waiting.new.items) < size_all (says_of says ∷ map waits_of waiting.old.items)) }
 {
+    let Saying {
+        literals,
+        form,
+        sign,
+    } = says;
     match form.parts() {
         Parts::Plain(b) => {
             if b == sign {
@@ -106,7 +109,7 @@ fn emit_one(
     ensures smaller { OnOk result (size_all (map waits_of waiting.new.items) < size_all (waits_of w ∷ map waits_of waiting.old.items)) }
 {
     match w {
-        Waiting::Says(sign, literals, f) => emit_says(alloc, out, waiting, sign, literals, f, next),
+        Waiting::Says(says) => emit_says(alloc, out, waiting, says, next),
         Waiting::Defines(k, f) => emit_defines(alloc, out, waiting, k, f, next),
     }
 }

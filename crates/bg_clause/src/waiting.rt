@@ -10,11 +10,18 @@ use bg_formula::Literal;
 use std::alloc::{AllocError, Global};
 use std::collections::VecDeque;
 
-/// A form that waits for its clauses: one of the literals is to be true or the form to be worth this, or the literal is to be worth
-/// what the form is.
+/// One of the literals is to be true or the form to be worth this.
+#[derive(Drop)]
+pub struct Saying {
+    pub literals: Vec<Literal>,
+    pub form: Form,
+    pub sign: bool,
+}
+
+/// A form that waits for its clauses: it is to be worth something, or the literal is to be worth what the form is.
 #[derive(Drop)]
 pub enum Waiting {
-    Says(bool, Vec<Literal>, Form),
+    Says(Saying),
     Defines(Literal, Form),
 }
 
@@ -27,7 +34,11 @@ pub fn say(
 ) -> Result<(), AllocError>
     ensures { OnOk result (map waits_of waiting.new.items ≡ Says sign literals.items (form_in form) ∷ map waits_of waiting.old.items) }
 {
-    waiting.push_front(Waiting::Says(sign, literals, form))?;
+    waiting.push_front(Waiting::Says(Saying {
+        literals,
+        form,
+        sign,
+    }))?;
     Ok(())
 }
 
