@@ -1,6 +1,6 @@
 -- Clauses, guards and what is assigned: what their tokens allow.
-use Rattle.std.proofs.Common.{◌≡◌, ℕ, ◌+◌, Bool, true, false, List, [], ◌∷◌, ◌++◌, map, None, refl, sym, ap, subst}
-use Rattle.std.specs.Prelude.{◌&&◌, is_none}
+use Rattle.std.proofs.Common.{◌≡◌, ℕ, ◌+◌, Bool, true, false, List, [], ◌∷◌, ◌++◌, map, Option, Some, None, refl, sym, ap, ◌∙◌, subst}
+use Rattle.std.proofs.lemmas.Bool.{lt-ltb}
 use Rattle.std.specs.List.{list_all}
 use Rattle.bg_base.specs.declared.pos.Pos.{Pos}
 use Rattle.bg_text.specs.declared.token.Kind.{Kind}
@@ -14,65 +14,19 @@ use Rattle.bg_text.specs.Spelling.{ex_marks}
 use Rattle.bg_text.specs.Statements.{clause_word, clause_marks, guard_marks, bracket_marks, target_marks, takes_marks}
 use Rattle.bg_ast.specs.Syntax as x
 use Rattle.bg_ast.specs.Meaning as m
-use Rattle.bg_names.specs.Spaces.{Scope, meaning}
-use Rattle.bg_names.specs.Exprs.{named_ex, named_exs}
-use Rattle.bg_names.specs.Clauses.{bare, candidate_in, candidate_of, with_rest, guard_in, guard_unless, guard_of, said, guarding, named_clause, named_clauses}
+use Rattle.bg_names.specs.Spaces.{Scope}
+use Rattle.bg_names.specs.Exprs.{named_ex, named_exs, named_links}
+use Rattle.bg_names.specs.Clauses.{bare, candidate_of, with_rest, guard_in, guard_unless, guard_of, chain_of, said, guarding, named_clause, named_clauses}
 use Rattle.bg_names.specs.Inside.{Inside, named_index, named_target}
 use Rattle.bg_bodies.specs.Bodies.{named_guard}
 use Rattle.bg_front.specs.Later.{behind}
+use Rattle.bg_meant.proofs.Bodies.{NamesCandidates, clause_guarded}
+use Rattle.bg_sense.specs.Resolved.{HasCandidate}
 use Rattle.bg_sense.proofs.Bools.{both, and_left, and_right}
-use Rattle.bg_fits.specs.Scalars.{exs_pass, clause_passes, guard_passes}
+use Rattle.bg_fits.specs.Scalars.{is_declared, exs_pass, clause_passes, guard_passes}
 use Rattle.bg_judged.proofs.Marks.{flat, braced, Judged, assoc, never, Reads}
 use Rattle.bg_judged.proofs.Exprs.{few, are_few, on_ex}
 use Rattle.bg_judged.proofs.Groups.{on_attrs, on_ids}
-
--- no name means a candidate
-abbrev pub Plain : Scope → Type 0
-Plain s = (y : List ℕ) → candidate_in (meaning s y) ≡ None
-
-module _ (s : Scope) (plain : Plain s) where
-  no_candidate : (e : t.Ex) → candidate_of s e ≡ None
-  no_candidate (t.Number p z) = refl
-  no_candidate (t.Truth p b) = refl
-  no_candidate (t.Named p y) = plain y
-  no_candidate (t.Apply p f es) = refl
-  no_candidate (t.Old p e) = refl
-  no_candidate (t.Parens p e) = refl
-  no_candidate (t.Prefix signs e) = refl
-  no_candidate (t.Postfix e bs) = refl
-  no_candidate (t.Chain e ls) = refl
-
-  no_guard_in : (e : t.Ex) → guard_in s e ≡ None
-  no_guard_in (t.Number p z) = refl
-  no_guard_in (t.Truth p b) = refl
-  no_guard_in (t.Named p y) = refl
-  no_guard_in (t.Apply p f es) = refl
-  no_guard_in (t.Old p e) = refl
-  no_guard_in (t.Parens p e) = refl
-  no_guard_in (t.Prefix signs e) = refl
-  no_guard_in (t.Postfix e bs) = refl
-  no_guard_in (t.Chain a t.NoLink) = refl
-  no_guard_in (t.Chain a (t.Link p op.Implies e ls)) = ap (with_rest e ls) (no_candidate (bare a))
-  no_guard_in (t.Chain a (t.Link p op.Iff e ls)) = refl
-  no_guard_in (t.Chain a (t.Link p op.Explies e ls)) = refl
-  no_guard_in (t.Chain a (t.Link p op.And e ls)) = refl
-  no_guard_in (t.Chain a (t.Link p op.Or e ls)) = refl
-  no_guard_in (t.Chain a (t.Link p op.Equal e ls)) = refl
-  no_guard_in (t.Chain a (t.Link p op.Unequal e ls)) = refl
-  no_guard_in (t.Chain a (t.Link p op.Less e ls)) = refl
-  no_guard_in (t.Chain a (t.Link p op.AtMost e ls)) = refl
-  no_guard_in (t.Chain a (t.Link p op.Greater e ls)) = refl
-  no_guard_in (t.Chain a (t.Link p op.AtLeast e ls)) = refl
-  no_guard_in (t.Chain a (t.Link p op.Plus e ls)) = refl
-  no_guard_in (t.Chain a (t.Link p op.Minus e ls)) = refl
-  no_guard_in (t.Chain a (t.Link p op.Times e ls)) = refl
-
-  no_guard_unless : (b : Bool) (e : t.Ex) → guard_unless b s e ≡ None
-  no_guard_unless true e = refl
-  no_guard_unless false e = no_guard_in (bare e)
-
-  no_guard : (k : t.Clause) → guard_of s k ≡ None
-  no_guard k = no_guard_unless k.is_free k.says
 
 -- what a clause says is made of what may stand
 abbrev pub ClauseGood : Bool → t.Clause → Type 0
@@ -85,14 +39,42 @@ abbrev pub HasNoBracket : t.Target → Type 0
 HasNoBracket y = y.brackets ≡ []
 
 module _ (w : Bool) where
-  pub clause_good : (s : Scope) → Plain s → (n : ℕ) (k : t.Clause) → ClauseGood w k → clause_passes (few w) (m.clause_of (named_clause s n k)) ≡ true
-  clause_good s plain n k h =
-      subst (λ o. (is_none (guarding o) && few w (m.ex_of (named_ex s (said o k.says)))) ≡ true) (sym (no_guard s plain k)) (h s)
+  -- parentheses change no meaning
+  bare_same : (s : Scope) (e : t.Ex) → m.ex_of (named_ex s (bare e)) ≡ m.ex_of (named_ex s e)
+  bare_same s (t.Parens p e) = bare_same s e
+  bare_same s _ = refl
 
-  pub clauses_good : (s : Scope) → Plain s → (n : ℕ) (ks : List t.Clause) → Each (ClauseGood w) ks → list_all (clause_passes (few w)) (map m.clause_of (named_clauses s n ks)) ≡ true
-  clauses_good s plain n [] h = refl
-  clauses_good s plain n (k ∷ ks) h =
-      both (clause_passes (few w) (m.clause_of (named_clause s n k))) _ (clause_good s plain n k h.0) (clauses_good s plain (n + 1) ks h.1)
+  -- the operands behind the first `==>` of a chain
+  chain_few : (s : Scope) (e : t.Ex) (ls : t.Links) → few w (m.chained (m.ex_of (named_ex s e)) (named_links s ls)) ≡ true → few w (m.ex_of (named_ex s (chain_of e ls))) ≡ true
+  chain_few s e t.NoLink h = h
+  chain_few s e (t.Link p sign_ a ls) h = h
+
+  rest_few : (s : Scope) (e whole : t.Ex) → few w (m.ex_of (named_ex s e)) ≡ true → few w (m.ex_of (named_ex s whole)) ≡ true → few w (m.ex_of (named_ex s (said (guard_in s e) whole))) ≡ true
+  rest_few s (t.Chain a (t.Link p op.Implies e ls)) whole h k = by (candidate_of s (bare a))
+    where
+      by : (o : Option ℕ) → few w (m.ex_of (named_ex s (said (with_rest e ls o) whole))) ≡ true
+      by None = k
+      by (Some c) =
+          chain_few s e ls (and_right (few w (m.ex_of (named_ex s a))) (few w (m.chained (m.ex_of (named_ex s e)) (named_links s ls))) h)
+  rest_few s _ whole h k = k
+
+  -- what a clause says behind its candidate
+  said_few : (s : Scope) (b : Bool) (e : t.Ex) → few w (m.ex_of (named_ex s e)) ≡ true → few w (m.ex_of (named_ex s (said (guard_unless b s e) e))) ≡ true
+  said_few s true e h = h
+  said_few s false e h = rest_few s (bare e) e (ap (few w) (bare_same s e) ∙ h) h
+
+  declared : (many : ℕ) (o : Option ℕ) (k : x.Clause) → HasCandidate many o k → is_declared many o ≡ true
+  declared many None k h = refl
+  declared many (Some c) k h = lt-ltb c many h.0
+
+  pub clause_good : (s : Scope) (many : ℕ) → NamesCandidates many s → (n : ℕ) (k : t.Clause) → ClauseGood w k → clause_passes many (few w) (m.clause_of (named_clause s n k)) ≡ true
+  clause_good s many names n k h =
+      both (is_declared many (guarding (guard_of s k))) (few w (m.ex_of (named_ex s (said (guard_of s k) k.says)))) (declared many (guarding (guard_of s k)) (m.clause_of (named_clause s n k)) (clause_guarded many s names n k)) (said_few s k.is_free k.says (h s))
+
+  pub clauses_good : (s : Scope) (many : ℕ) → NamesCandidates many s → (n : ℕ) (ks : List t.Clause) → Each (ClauseGood w) ks → list_all (clause_passes many (few w)) (map m.clause_of (named_clauses s n ks)) ≡ true
+  clauses_good s many names n [] h = refl
+  clauses_good s many names n (k ∷ ks) h =
+      both (clause_passes many (few w) (m.clause_of (named_clause s n k))) _ (clause_good s many names n k h.0) (clauses_good s many names (n + 1) ks h.1)
 
   on_word : (k : Kind) → behind (flat false) k ≡ flat false → (c : t.Clause) (b : Bool) → c.is_free ≡ b → (rest : List Mark) → Judged w (flat false) (clause_word k c ++ rest) → Judged w (flat false) rest
   on_word k calm c true e rest =

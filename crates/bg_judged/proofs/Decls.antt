@@ -1,15 +1,15 @@
 -- Declarations: what their tokens allow.
-use Rattle.std.proofs.Common.{Bool, false, List, [], ◌∷◌, ◌++◌, Option, Some, None, refl}
+use Rattle.std.proofs.Common.{◌≡◌, Bool, true, false, List, [], ◌∷◌, ◌++◌, Option, Some, None, refl}
 use Rattle.bg_text.specs.declared.token.Kind.TheVariants as kinds
 use Rattle.bg_text.specs.Trees as t
 use Rattle.bg_text.specs.Marks.{Mark, sign, id_mark, each, commas, if_there}
-use Rattle.bg_text.specs.Types.{attr_marks, ids_marks, group_marks}
+use Rattle.bg_text.specs.Types.{attr_marks, ids_marks, type_marks, group_marks}
 use Rattle.bg_text.specs.Types.{All as Each, IfThere}
 use Rattle.bg_text.specs.Statements.{sts_marks}
-use Rattle.bg_text.specs.Declarations.{in_parens, sig_marks, spec_marks, vars_marks, body_marks, tail_marks, decl_marks}
-use Rattle.bg_spaces.specs.Declarations.{result_groups}
+use Rattle.bg_text.specs.Declarations.{unique_marks, in_parens, sig_marks, spec_marks, vars_marks, body_marks, tail_marks, decl_marks}
+use Rattle.bg_spaces.specs.Declarations.{are_candidates, result_groups}
 use Rattle.bg_judged.proofs.Marks.{flat, braced, Judged, assoc, never, Reads, on_each, on_commas}
-use Rattle.bg_judged.proofs.Groups.{GroupGood, on_attrs, on_ids, on_group}
+use Rattle.bg_judged.proofs.Groups.{GroupGood, on_ty, on_attrs, on_ids, on_group}
 use Rattle.bg_judged.proofs.Clauses.{ClauseGood, on_clause}
 use Rattle.bg_judged.proofs.Stmts.{StsGood, shut_sts, on_sts}
 
@@ -30,15 +30,24 @@ BodyGood w b = Each (VarsGood w) b.locals × StsGood w b.stmts
 abbrev pub TailGood : Bool → List t.Spec → Option t.Body → Type 0
 TailGood w specs b = Each (SpecGood w) specs × IfThere (BodyGood w) b
 
--- variables, procedures and implementations made of what may stand, and nothing else
+-- candidates, variables, procedures and implementations made of what may stand, and nothing else
 abbrev pub DeclGood : Bool → t.Decl → Type 0
 DeclGood w (t.Types p attrs ds) = ⊥
-DeclGood w (t.Constants c) = ⊥
+DeclGood w (t.Constants c) = are_candidates c ≡ true
 DeclGood w (t.Function f) = ⊥
 DeclGood w (t.Axiom p attrs e) = ⊥
 DeclGood w (t.Globals v) = VarsGood w v
 DeclGood w (t.Procedure q) = SigGood w q.sig × TailGood w q.specs q.body
 DeclGood w (t.Implementation q) = SigGood w q.sig × BodyGood w q.body
+
+-- where it declares constants, they are candidates
+abbrev pub DeclaresCandidates : t.Decl → Type 0
+DeclaresCandidates (t.Constants c) = are_candidates c ≡ true
+DeclaresCandidates _ = Unit {0}
+
+-- good where its constants are candidates
+abbrev pub DeclRead : Bool → t.Decl → Type 0
+DeclRead w d = DeclaresCandidates d → DeclGood w d
 
 module _ (w : Bool) where
   on_parens : Reads w false in_parens (Each (GroupGood w))
@@ -104,15 +113,36 @@ module _ (w : Bool) where
       let b = on_attrs w ys (named ++ (more ++ rest)) (assoc w (flat false) attrs named (more ++ rest) a) in
       on_sig s (more ++ rest) b.1
 
-  pub on_decl : Reads w false decl_marks (DeclGood w)
+  on_unique : (b : Bool) (rest : List Mark) → Judged w (flat false) (unique_marks b ++ rest) → Judged w (flat false) rest
+  on_unique true rest h = h.1
+  on_unique false rest h = h
+
+  on_constants : (c : t.Consts) (rest : List Mark) → Judged w (flat false) (decl_marks (t.Constants c) ++ rest) → Judged w (flat false) rest
+  on_constants c rest h =
+      let attrs = each attr_marks c.group.attrs in
+      let unique = unique_marks c.is_unique in
+      let names = ids_marks c.group.names in
+      let types = type_marks c.group.ty in
+      let last = sign kinds.Semicolon ∷ [] in
+      let typed = sign kinds.Colon ∷ types in
+      let more = last ++ rest in
+      let a = assoc w (flat false) (((attrs ++ unique) ++ names) ++ typed) last rest h.1 in
+      let b = assoc w (flat false) ((attrs ++ unique) ++ names) typed more a in
+      let d = assoc w (flat false) (attrs ++ unique) names (typed ++ more) b in
+      let e = assoc w (flat false) attrs unique (names ++ (typed ++ more)) d in
+      let f = on_unique c.is_unique (names ++ (typed ++ more)) (on_attrs w c.group.attrs (unique ++ (names ++ (typed ++ more))) e) in
+      let g = on_ids w c.group.names (typed ++ more) f in
+      (on_ty w c.group.ty more g.1).1.1
+
+  pub on_decl : Reads w false decl_marks (DeclRead w)
   on_decl (t.Types p attrs ds) rest h = never (h.0 refl)
-  on_decl (t.Constants c) rest h = never (h.0 refl)
+  on_decl (t.Constants c) rest h = (λ are. are, on_constants c rest h)
   on_decl (t.Function f) rest h = never (h.0 refl)
   on_decl (t.Axiom p attrs e) rest h = never (h.0 refl)
-  on_decl (t.Globals v) rest h = on_vars v rest h
+  on_decl (t.Globals v) rest h = let a = on_vars v rest h in (λ are. a.0, a.1)
   on_decl (t.Procedure q) rest h =
       let a = on_head q.attrs q.name q.sig (tail_marks q.specs q.body) rest h.1 in
-      let b = on_tail q.specs q.body rest a.1 in ((a.0, b.0), b.1)
+      let b = on_tail q.specs q.body rest a.1 in (λ are. (a.0, b.0), b.1)
   on_decl (t.Implementation q) rest h =
       let a = on_head q.attrs q.name q.sig (body_marks q.body) rest h.1 in
-      let b = on_body q.body rest a.1 in ((a.0, b.0), b.1)
+      let b = on_body q.body rest a.1 in (λ are. (a.0, b.0), b.1)

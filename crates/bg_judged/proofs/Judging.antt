@@ -8,6 +8,7 @@ use Rattle.bg_ast.specs.Resolved as r
 use Rattle.bg_ast.specs.Meaning.{meaning_of}
 use Rattle.bg_typed.specs.Rules.{KeepsTypes}
 use Rattle.bg_front.specs.Later.{is_unjudged, outside, spot_from}
+use Rattle.bg_front.specs.Others.{AreCandidates}
 use Rattle.bg_front.specs.Programs.{IsMeaningOf, IsProgramOf}
 use Rattle.bg_front.proofs.Named.{are_named_in, is_named_in}
 use Rattle.bg_fits.specs.Scalars.{passes, is_scalar_type, is_scalar, is_over_scalars}
@@ -28,7 +29,7 @@ beyond_unjudged kinds.Axiom h = never h
 beyond_unjudged kinds.Bool h = refl
 beyond_unjudged kinds.Break h = refl
 beyond_unjudged kinds.Call h = refl
-beyond_unjudged kinds.Const h = never h
+beyond_unjudged kinds.Const h = refl
 beyond_unjudged kinds.Else h = refl
 beyond_unjudged kinds.Ensures h = refl
 beyond_unjudged kinds.False h = refl
@@ -83,12 +84,12 @@ judged_here : (inside : Bool) (k : Kind) → inside ≡ false → (not inside &&
 judged_here true k out h = never out
 judged_here false k out h = h
 
-pub within_scalars : (numbers : Bool) (bytes : List ℕ) (ts : List Tok) (p : r.Program) → IsMeaningOf bytes ts p → KeepsTypes p → AreWithin numbers ts → is_over_scalars numbers (meaning_of p) ≡ true
-within_scalars numbers bytes ts p h typed within =
-    let good = subst (λ q. passes (is_scalar_type numbers) (few numbers) (meaning_of q) ≡ true) (sym (is_named_in bytes ts p h)) (tokens_good numbers ts h.decls within h.tree.1.spells.1 (are_named_in bytes ts p h).0) in
+pub within_scalars : (numbers : Bool) (bytes : List ℕ) (ts : List Tok) (p : r.Program) → (h : IsMeaningOf bytes ts p) → KeepsTypes p → AreWithin numbers ts → AreCandidates h.decls → is_over_scalars numbers (meaning_of p) ≡ true
+within_scalars numbers bytes ts p h typed within are =
+    let good = subst (λ q. passes (is_scalar_type numbers) (few numbers) (meaning_of q) ≡ true) (sym (is_named_in bytes ts p h)) (tokens_good numbers ts h.decls within are h.tree.1.spells.1 (are_named_in bytes ts p h).0) in
     program_turn numbers (few numbers) (is_scalar numbers) (scalar_turn numbers) (meaning_of p) typed.typed good
 
 pub judged_scalars : (bytes : List ℕ) (p : r.Program) → IsProgramOf bytes p → is_over_scalars true (meaning_of p) ≡ true
 judged_scalars bytes p h =
     let within : AreWithin true h.tokens = λ front t rest cut out. beyond_unjudged t.kind (judged_here (spot_from outside front).inside t.kind out (h.judged front t rest cut)) in
-    within_scalars true bytes h.tokens p h.spelled h.typed within
+    within_scalars true bytes h.tokens p h.spelled h.typed within h.candidates

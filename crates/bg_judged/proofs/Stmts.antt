@@ -16,24 +16,25 @@ use Rattle.bg_names.specs.Clauses.{named_clauses}
 use Rattle.bg_names.specs.Inside.{Inside, entered}
 use Rattle.bg_bodies.specs.Bodies.{before_next, named_guard, arm_count, arms_count, st_count, sts_count, named_st, named_sts, named_arms}
 use Rattle.bg_front.specs.Later.{behind}
+use Rattle.bg_meant.proofs.Bodies.{NamesCandidates}
 use Rattle.bg_sense.proofs.Bools.{both}
 use Rattle.bg_fits.specs.Scalars.{clause_passes, guard_passes, st_passes}
 use Rattle.bg_judged.proofs.Marks.{flat, braced, Judged, assoc, Shuts, shuts_more, on_each, on_commas}
 use Rattle.bg_judged.proofs.Exprs.{few, on_list}
 use Rattle.bg_judged.proofs.Groups.{on_attrs, on_ids}
-use Rattle.bg_judged.proofs.Clauses.{Plain, ClauseGood, GuardGood, HasNoBracket, clause_good, clauses_good, shut_word, on_clause, on_guard, on_target, on_takes, exs_few, values_few}
+use Rattle.bg_judged.proofs.Clauses.{ClauseGood, GuardGood, HasNoBracket, clause_good, clauses_good, shut_word, on_clause, on_guard, on_target, on_takes, exs_few, values_few}
 
 abbrev pub StGood : Bool → t.St → Type 0
-StGood w st = (b : Inside) → Plain b.scope → (n loop : ℕ) (blocks : List (ℕ × ℕ)) (before : List ℕ) → st_passes (few w) (m.st_of (named_st b n loop blocks before st)) ≡ true
+StGood w st = (b : Inside) (many : ℕ) → NamesCandidates many b.scope → (n loop : ℕ) (blocks : List (ℕ × ℕ)) (before : List ℕ) → st_passes many (few w) (m.st_of (named_st b n loop blocks before st)) ≡ true
 
 abbrev pub StsGood : Bool → t.Sts → Type 0
-StsGood w ss = (b : Inside) → Plain b.scope → (n loop : ℕ) (blocks : List (ℕ × ℕ)) (before : List ℕ) → st_passes (few w) (m.sts_of (named_sts b n loop blocks before ss)) ≡ true
+StsGood w ss = (b : Inside) (many : ℕ) → NamesCandidates many b.scope → (n loop : ℕ) (blocks : List (ℕ × ℕ)) (before : List ℕ) → st_passes many (few w) (m.sts_of (named_sts b n loop blocks before ss)) ≡ true
 
 -- arms, with what stands behind them
 abbrev pub ArmsGood : Bool → t.Arms → Type 0
 ArmsGood w arms =
-    (b : Inside) → Plain b.scope → (n loop : ℕ) (blocks : List (ℕ × ℕ)) (k : ℕ) (o : x.St) → st_passes (few w) o ≡ true →
-    st_passes (few w) (m.arms_of k (named_arms b n loop blocks arms) o) ≡ true
+    (b : Inside) (many : ℕ) → NamesCandidates many b.scope → (n loop : ℕ) (blocks : List (ℕ × ℕ)) (k : ℕ) (o : x.St) → st_passes many (few w) o ≡ true →
+    st_passes many (few w) (m.arms_of k (named_arms b n loop blocks arms) o) ≡ true
 
 module _ (w : Bool) where
   shut_clause : (k : Kind) → behind braced k ≡ behind (flat false) k → (c : t.Clause) → Shuts w (clause_marks k c)
@@ -79,7 +80,7 @@ module _ (w : Bool) where
       let e = assoc w (flat false) attrs takes (args ++ (last ++ rest)) d in
       let f = on_takes w c.takes (args ++ (last ++ rest)) (on_attrs w c.attrs (takes ++ (args ++ (last ++ rest))) e) in
       let g = on_list w false c.args (last ++ rest) f.1.1 in
-      (λ b plain n loop blocks before. exs_few w (m.exs_of (named_exs b.scope c.args)) (g.0 b.scope refl), g.1.1.1)
+      (λ b many names n loop blocks before. exs_few w (m.exs_of (named_exs b.scope c.args)) (g.0 b.scope refl), g.1.1.1)
 
   on_assign : (p : Pos) (ts : List t.Target) (es : t.Exs) (rest : List Mark) → Judged w (flat false) (st_marks (t.Assign p ts es) ++ rest) → StGood w (t.Assign p ts es) × Judged w (flat false) rest
   on_assign p ts es rest h =
@@ -90,34 +91,34 @@ module _ (w : Bool) where
       let d = assoc w (flat false) left values (last ++ rest) a in
       let e = on_commas w false target_marks HasNoBracket (on_target w) ts (values ++ (last ++ rest)) d in
       let g = on_list w false es (last ++ rest) e.1.1 in
-      (λ b plain n loop blocks before. values_few w b ts es e.0 (g.0 b.scope refl), g.1.1)
+      (λ b many names n loop blocks before. values_few w b ts es e.0 (g.0 b.scope refl), g.1.1)
 
   arm_good : (g : t.Guard) (ss : t.Sts) (arms : t.Arms) → GuardGood w g → StsGood w ss → ArmsGood w arms → ArmsGood w (t.Arm g ss arms)
-  arm_good g ss arms guard body more b plain n loop blocks k o good =
-      both (guard_passes (few w) (m.guard_of (named_guard b g))) _ (guard b) (both (st_passes (few w) (m.sts_of (named_sts b n loop blocks [] ss))) _ (body b plain n loop blocks []) (more b plain (n + sts_count ss) loop blocks (suc k) o good))
+  arm_good g ss arms guard body more b many names n loop blocks k o good =
+      both (guard_passes (few w) (m.guard_of (named_guard b g))) _ (guard b) (both (st_passes many (few w) (m.sts_of (named_sts b n loop blocks [] ss))) _ (body b many names n loop blocks []) (more b many names (n + sts_count ss) loop blocks (suc k) o good))
 
   mutual
     pub on_st : (s : t.St) (rest : List Mark) → Judged w (flat false) (st_marks s ++ rest) → StGood w s × Judged w (flat false) rest
-    on_st (t.Label y) rest h = (λ b plain n loop blocks before. refl, h.1.1)
+    on_st (t.Label y) rest h = (λ b many names n loop blocks before. refl, h.1.1)
     on_st (t.Assert c) rest h =
         let a = on_clause w kinds.Assert refl c rest h in
-        (λ b plain n loop blocks before. clause_good w b.scope plain n c a.0, a.1)
+        (λ b many names n loop blocks before. clause_good w b.scope many names n c a.0, a.1)
     on_st (t.Assume c) rest h =
         let a = on_clause w kinds.Assume refl c rest h in
-        (λ b plain n loop blocks before. a.0 b.scope, a.1)
+        (λ b many names n loop blocks before. a.0 b.scope, a.1)
     on_st (t.Havoc p xs) rest h =
         let a = on_ids w xs (sign kinds.Semicolon ∷ rest) (assoc w (flat false) (ids_marks xs) (sign kinds.Semicolon ∷ []) rest h.1) in
-        (λ b plain n loop blocks before. refl, a.1)
+        (λ b many names n loop blocks before. refl, a.1)
     on_st (t.Assign p ts es) rest h = on_assign p ts es rest h
     on_st (t.Invoke c) rest h = on_call c rest h
     on_st (t.If p arms) rest h =
         let a = on_arms arms rest h.1 in
-        (λ b plain n loop blocks before. a.0 b plain (n + arm_count arms) loop (entered before n blocks) n x.Skip refl, a.1)
+        (λ b many names n loop blocks before. a.0 b many names (n + arm_count arms) loop (entered before n blocks) n x.Skip refl, a.1)
     on_st (t.IfElse p arms ss) rest h =
         let block = in_braces (sts_marks ss) in
         let a = on_arms arms ((sign kinds.Else ∷ block) ++ rest) (assoc w (flat false) (arms_marks arms) (sign kinds.Else ∷ block) rest h.1) in
         let d = on_sts ss (sign kinds.CloseBrace ∷ rest) (open_block ss rest a.1.1) in
-        (λ b plain n loop blocks before. a.0 b plain (n + arm_count arms) loop (entered before n blocks) n _ (d.0 b plain (n + arm_count arms + arms_count arms) loop (entered before n blocks) []), d.1.1)
+        (λ b many names n loop blocks before. a.0 b many names (n + arm_count arms) loop (entered before n blocks) n _ (d.0 b many names (n + arm_count arms + arms_count arms) loop (entered before n blocks) []), d.1.1)
     on_st (t.While p g cs ss) rest h =
         let clauses = each (clause_marks kinds.Invariant) cs in
         let block = in_braces (sts_marks ss) in
@@ -125,23 +126,23 @@ module _ (w : Bool) where
         let d = on_guard w g (clauses ++ (block ++ rest)) (assoc w (flat false) (guard_marks g) clauses (block ++ rest) a) in
         let e = on_each w false (clause_marks kinds.Invariant) (ClauseGood w) (on_clause w kinds.Invariant refl) cs (block ++ rest) d.1 in
         let f = on_sts ss (sign kinds.CloseBrace ∷ rest) (open_block ss rest e.1) in
-        (λ b plain n loop blocks before. both (guard_passes (few w) (m.guard_of (named_guard b g))) _ (d.0 b) (both (list_all (clause_passes (few w)) (map m.clause_of (named_clauses b.scope (n + 1) cs))) _ (clauses_good w b.scope plain (n + 1) cs e.0) (f.0 b plain (n + 1 + length cs) n (entered before n blocks) [])), f.1.1)
-    on_st (t.Break p None) rest h = (λ b plain n loop blocks before. refl, h.1.1)
-    on_st (t.Break p (Some y)) rest h = (λ b plain n loop blocks before. refl, h.1.1.1)
+        (λ b many names n loop blocks before. both (guard_passes (few w) (m.guard_of (named_guard b g))) _ (d.0 b) (both (list_all (clause_passes many (few w)) (map m.clause_of (named_clauses b.scope (n + 1) cs))) _ (clauses_good w b.scope many names (n + 1) cs e.0) (f.0 b many names (n + 1 + length cs) n (entered before n blocks) [])), f.1.1)
+    on_st (t.Break p None) rest h = (λ b many names n loop blocks before. refl, h.1.1)
+    on_st (t.Break p (Some y)) rest h = (λ b many names n loop blocks before. refl, h.1.1.1)
     on_st (t.Goto p xs) rest h =
         let a = on_ids w xs (sign kinds.Semicolon ∷ rest) (assoc w (flat false) (ids_marks xs) (sign kinds.Semicolon ∷ []) rest h.1) in
-        (λ b plain n loop blocks before. refl, a.1)
-    on_st (t.Return p) rest h = (λ b plain n loop blocks before. refl, h.1.1)
+        (λ b many names n loop blocks before. refl, a.1)
+    on_st (t.Return p) rest h = (λ b many names n loop blocks before. refl, h.1.1)
 
     pub on_sts : (ss : t.Sts) (rest : List Mark) → Judged w (flat false) (sts_marks ss ++ rest) → StsGood w ss × Judged w (flat false) rest
-    on_sts t.NoSt rest h = (λ b plain n loop blocks before. refl, h)
+    on_sts t.NoSt rest h = (λ b many names n loop blocks before. refl, h)
     on_sts (t.Then s ss) rest h =
         let a = on_st s (sts_marks ss ++ rest) (assoc w (flat false) (st_marks s) (sts_marks ss) rest h) in
         let d = on_sts ss rest a.1 in
-        (λ b plain n loop blocks before. both (st_passes (few w) (m.st_of (named_st b n loop blocks before s))) _ (a.0 b plain n loop blocks before) (d.0 b plain (n + st_count s) loop blocks (before_next b before s)), d.1)
+        (λ b many names n loop blocks before. both (st_passes many (few w) (m.st_of (named_st b n loop blocks before s))) _ (a.0 b many names n loop blocks before) (d.0 b many names (n + st_count s) loop blocks (before_next b before s)), d.1)
 
     on_arms : (arms : t.Arms) (rest : List Mark) → Judged w (flat false) (arms_marks arms ++ rest) → ArmsGood w arms × Judged w (flat false) rest
-    on_arms t.NoArm rest h = (λ b plain n loop blocks k o good. good, h)
+    on_arms t.NoArm rest h = (λ b many names n loop blocks k o good. good, h)
     on_arms (t.Arm g ss arms) rest h =
         let block = in_braces (sts_marks ss) in
         let more = more_arms_marks arms in
@@ -152,7 +153,7 @@ module _ (w : Bool) where
         (arm_good g ss arms d.0 e.0 f.0, f.1)
 
     on_more : (arms : t.Arms) (rest : List Mark) → Judged w (flat false) (more_arms_marks arms ++ rest) → ArmsGood w arms × Judged w (flat false) rest
-    on_more t.NoArm rest h = (λ b plain n loop blocks k o good. good, h)
+    on_more t.NoArm rest h = (λ b many names n loop blocks k o good. good, h)
     on_more (t.Arm g ss arms) rest h =
         let block = in_braces (sts_marks ss) in
         let more = more_arms_marks arms in

@@ -1,6 +1,6 @@
 -- Typed programs: where each typed expression that passes one test passes another, so does the program.
 use Rattle.std.proofs.Common.{◌≡◌, ℕ, zero, suc, Bool, true, false, List, [], ◌∷◌, ◌++◌, Some, None, refl, sym, subst}
-use Rattle.std.specs.Prelude.{◌&&◌, ◌==◌, slice_get, All, is_none}
+use Rattle.std.specs.Prelude.{◌&&◌, slice_get, All}
 use Rattle.std.specs.List.{list_all}
 use Rattle.std.proofs.lemmas.List.Elements.{All-head, All-tail}
 use Rattle.bg_ast.specs.Values.{Ty, BoolTy}
@@ -9,7 +9,7 @@ use Rattle.bg_sense.specs.Types.{types_of, const_types}
 use Rattle.bg_sense.specs.Typing.{Sig, HasType, HaveTypes, sig_in, types_in}
 use Rattle.bg_sense.specs.Typed.{IsFormula, IsGuard, Around, sig_around, around, AreTypedDecls, IsTypedStatement, IsTypedProc, IsTypedImpl, IsTyped, labels_of, HasNoOld}
 use Rattle.bg_sense.proofs.Bools.{both, and_left, and_right}
-use Rattle.bg_fits.specs.Scalars.{is_empty, exs_pass, clause_passes, guard_passes, st_passes, decl_passes, decls_pass, proc_passes, impl_passes, passes, is_scalar_type}
+use Rattle.bg_fits.specs.Scalars.{is_declared, is_empty, exs_pass, clause_passes, guard_passes, st_passes, decl_passes, decls_pass, proc_passes, impl_passes, passes, is_scalar_type}
 use Rattle.bg_judged.proofs.Typed.{Fine}
 
 empty_is : {A : Type 0} (xs : List A) → is_empty xs ≡ true → xs ≡ []
@@ -39,7 +39,7 @@ append_pass p [] ys h k = k
 append_pass p (x ∷ xs) ys h k =
     both (p x) (list_all p (xs ++ ys)) (and_left (p x) (list_all p xs) h) (append_pass p xs ys (and_right (p x) (list_all p xs) h) k)
 
-module _ (w : Bool) (ex other : Ex → Bool) (turn : (s : Sig) → Fine w s → (e : Ex) (t : Ty) → HasType e s t → ex e ≡ true → other e ≡ true) where
+module _ (w : Bool) (ex other : Ex → Bool) (turn : (s : Sig) → Fine w s → (e : Ex) (t : Ty) → HasType e s t → ex e ≡ true → other e ≡ true) (many : ℕ) where
   module _ (s : Sig) (fine : Fine w s) where
     formula_turn : (e : Ex) → IsFormula s e → ex e ≡ true → other e ≡ true
     formula_turn e h k = turn s fine e BoolTy h.0 k
@@ -55,14 +55,14 @@ module _ (w : Bool) (ex other : Ex → Bool) (turn : (s : Sig) → Fine w s → 
     exs_turn (More e es) (t ∷ ts) h k =
         both (other e) (exs_pass other es) (turn s fine e t h.0 (and_left (ex e) (exs_pass ex es) k)) (exs_turn es ts h.1 (and_right (ex e) (exs_pass ex es) k))
 
-    clause_turn : (k : Clause) → IsFormula s k.says → clause_passes ex k ≡ true → clause_passes other k ≡ true
+    clause_turn : (k : Clause) → IsFormula s k.says → clause_passes many ex k ≡ true → clause_passes many other k ≡ true
     clause_turn k h p =
-        both (is_none k.candidate) (other k.says) (and_left (is_none k.candidate) (ex k.says) p) (formula_turn k.says h (and_right (is_none k.candidate) (ex k.says) p))
+        both (is_declared many k.candidate) (other k.says) (and_left (is_declared many k.candidate) (ex k.says) p) (formula_turn k.says h (and_right (is_declared many k.candidate) (ex k.says) p))
 
-    clauses_turn : (P : Clause → Type 0) → ((k : Clause) → P k → IsFormula s k.says) → (ks : List Clause) → All P ks → list_all (clause_passes ex) ks ≡ true → list_all (clause_passes other) ks ≡ true
+    clauses_turn : (P : Clause → Type 0) → ((k : Clause) → P k → IsFormula s k.says) → (ks : List Clause) → All P ks → list_all (clause_passes many ex) ks ≡ true → list_all (clause_passes many other) ks ≡ true
     clauses_turn P says [] h p = refl
     clauses_turn P says (k ∷ ks) h p =
-        both (clause_passes other k) (list_all (clause_passes other) ks) (clause_turn k (says k (All-head P k ks h)) (and_left (clause_passes ex k) (list_all (clause_passes ex) ks) p)) (clauses_turn P says ks (All-tail P k ks h) (and_right (clause_passes ex k) (list_all (clause_passes ex) ks) p))
+        both (clause_passes many other k) (list_all (clause_passes many other) ks) (clause_turn k (says k (All-head P k ks h)) (and_left (clause_passes many ex k) (list_all (clause_passes many ex) ks) p)) (clauses_turn P says ks (All-tail P k ks h) (and_right (clause_passes many ex k) (list_all (clause_passes many ex) ks) p))
 
     guard_turn : (g : Guard) → IsGuard s g → guard_passes ex g ≡ true → guard_passes other g ≡ true
     guard_turn Star h k = refl
@@ -76,10 +76,10 @@ module _ (w : Bool) (ex other : Ex → Bool) (turn : (s : Sig) → Fine w s → 
         let wheres = formulas_turn d.wheres (All-head (λ x. All (IsFormula s) x.wheres) d ds h) (and_right (ty d.ty) (list_all ex d.wheres) here) in
         both (decl_passes ty other d) (decls_pass ty other ds) (both (ty d.ty) (list_all other d.wheres) (and_left (ty d.ty) (list_all ex d.wheres) here) wheres) (decls_turn ds (All-tail (λ x. All (IsFormula s) x.wheres) d ds h) (and_right (decl_passes ty ex d) (decls_pass ty ex ds) k))
 
-  st_turn : (r : Around) → Fine w (sig_around r) → (inside before : List ℕ) (a : St) → IsTypedStatement r inside before a → st_passes ex a ≡ true → st_passes other a ≡ true
+  st_turn : (r : Around) → Fine w (sig_around r) → (inside before : List ℕ) (a : St) → IsTypedStatement r inside before a → st_passes many ex a ≡ true → st_passes many other a ≡ true
   st_turn r fine inside before Skip h k = refl
   st_turn r fine inside before (Then a b) h k =
-      both (st_passes other a) (st_passes other b) (st_turn r fine inside (labels_of b ++ before) a h.0 (and_left (st_passes ex a) (st_passes ex b) k)) (st_turn r fine inside before b h.1 (and_right (st_passes ex a) (st_passes ex b) k))
+      both (st_passes many other a) (st_passes many other b) (st_turn r fine inside (labels_of b ++ before) a h.0 (and_left (st_passes many ex a) (st_passes many ex b) k)) (st_turn r fine inside before b h.1 (and_right (st_passes many ex a) (st_passes many ex b) k))
   st_turn r fine inside before (Label l) h k = refl
   st_turn r fine inside before (Assert c) h k = clause_turn (sig_around r) fine c h.1 k
   st_turn r fine inside before (Assume e) h k = formula_turn (sig_around r) fine e h k
@@ -89,12 +89,12 @@ module _ (w : Bool) (ex other : Ex → Bool) (turn : (s : Sig) → Fine w s → 
   st_turn r fine inside before (Invoke c) h k =
       exs_turn (sig_around r) fine c.args (types_of h.0.params) h.1.1.0 k
   st_turn r fine inside before (If n g a b) h k =
-      let rest = and_right (guard_passes ex g) (st_passes ex a && st_passes ex b) k in
-      both (guard_passes other g) (st_passes other a && st_passes other b) (guard_turn (sig_around r) fine g h.0 (and_left (guard_passes ex g) (st_passes ex a && st_passes ex b) k)) (both (st_passes other a) (st_passes other b) (st_turn r fine (n ∷ inside) before a h.1 (and_left (st_passes ex a) (st_passes ex b) rest)) (st_turn r fine (n ∷ inside) before b h.2 (and_right (st_passes ex a) (st_passes ex b) rest)))
+      let rest = and_right (guard_passes ex g) (st_passes many ex a && st_passes many ex b) k in
+      both (guard_passes other g) (st_passes many other a && st_passes many other b) (guard_turn (sig_around r) fine g h.0 (and_left (guard_passes ex g) (st_passes many ex a && st_passes many ex b) k)) (both (st_passes many other a) (st_passes many other b) (st_turn r fine (n ∷ inside) before a h.1 (and_left (st_passes many ex a) (st_passes many ex b) rest)) (st_turn r fine (n ∷ inside) before b h.2 (and_right (st_passes many ex a) (st_passes many ex b) rest)))
   st_turn r fine inside before (While n g ks a) h k =
-      let had = list_all (clause_passes ex) ks in
-      let rest = and_right (guard_passes ex g) (had && st_passes ex a) k in
-      both (guard_passes other g) (list_all (clause_passes other) ks && st_passes other a) (guard_turn (sig_around r) fine g h.0 (and_left (guard_passes ex g) (had && st_passes ex a) k)) (both (list_all (clause_passes other) ks) (st_passes other a) (clauses_turn (sig_around r) fine (λ c. IsFormula (sig_around r) c.says) (λ c i. i) ks h.1 (and_left had (st_passes ex a) rest)) (st_turn r fine (n ∷ inside) before a h.2 (and_right had (st_passes ex a) rest)))
+      let had = list_all (clause_passes many ex) ks in
+      let rest = and_right (guard_passes ex g) (had && st_passes many ex a) k in
+      both (guard_passes other g) (list_all (clause_passes many other) ks && st_passes many other a) (guard_turn (sig_around r) fine g h.0 (and_left (guard_passes ex g) (had && st_passes many ex a) k)) (both (list_all (clause_passes many other) ks) (st_passes many other a) (clauses_turn (sig_around r) fine (λ c. IsFormula (sig_around r) c.says) (λ c i. i) ks h.1 (and_left had (st_passes many ex a) rest)) (st_turn r fine (n ∷ inside) before a h.2 (and_right had (st_passes many ex a) rest)))
   st_turn r fine inside before (Break n) h k = refl
   st_turn r fine inside before (Goto ls) h k = refl
   st_turn r fine inside before Return h k = refl
@@ -114,11 +114,11 @@ module _ (w : Bool) (ex other : Ex → Bool) (turn : (s : Sig) → Fine w s → 
         frame = types_fine w ex ds h;
       }
 
-  proc_turn : (p : Prog) → Bare p → (q : Proc) → IsTypedProc p q → proc_passes (is_scalar_type w) ex q ≡ true → proc_passes (is_scalar_type w) other q ≡ true
+  proc_turn : (p : Prog) → Bare p → (q : Proc) → IsTypedProc p q → proc_passes many (is_scalar_type w) ex q ≡ true → proc_passes many (is_scalar_type w) other q ≡ true
   proc_turn p b q h k =
       let ty = is_scalar_type w in
-      let before = list_all (clause_passes ex) q.requires_ in
-      let after = list_all (clause_passes ex) q.ensures_ in
+      let before = list_all (clause_passes many ex) q.requires_ in
+      let after = list_all (clause_passes many ex) q.ensures_ in
       let params = and_left (decls_pass ty ex q.params) (decls_pass ty ex q.results && (before && after)) k in
       let rest = and_right (decls_pass ty ex q.params) (decls_pass ty ex q.results && (before && after)) k in
       let results = and_left (decls_pass ty ex q.results) (before && after) rest in
@@ -127,38 +127,38 @@ module _ (w : Bool) (ex other : Ex → Bool) (turn : (s : Sig) → Fine w s → 
       let large = fine_in p b (q.params ++ q.results) (append_pass (decl_passes ty ex) q.params q.results params results) in
       both _ _ (decls_turn (sig_in p q.params) small q.params h.params params) (both _ _ (decls_turn (sig_in p (q.params ++ q.results)) large q.results h.results results) (both _ _ (clauses_turn (sig_in p q.params) small (λ c. IsFormula (sig_in p q.params) c.says × HasNoOld c.says) (λ c i. i.0) q.requires_ h.requires_ (and_left before after clauses)) (clauses_turn (sig_in p (q.params ++ q.results)) large (λ c. IsFormula (sig_in p (q.params ++ q.results)) c.says) (λ c i. i) q.ensures_ h.ensures_ (and_right before after clauses))))
 
-  procs_turn : (p : Prog) → Bare p → (qs : List Proc) → All (IsTypedProc p) qs → list_all (proc_passes (is_scalar_type w) ex) qs ≡ true → list_all (proc_passes (is_scalar_type w) other) qs ≡ true
+  procs_turn : (p : Prog) → Bare p → (qs : List Proc) → All (IsTypedProc p) qs → list_all (proc_passes many (is_scalar_type w) ex) qs ≡ true → list_all (proc_passes many (is_scalar_type w) other) qs ≡ true
   procs_turn p b [] h k = refl
   procs_turn p b (q ∷ qs) h k =
-      let had = proc_passes (is_scalar_type w) ex in
-      both (proc_passes (is_scalar_type w) other q) _ (proc_turn p b q (All-head (IsTypedProc p) q qs h) (and_left (had q) (list_all had qs) k)) (procs_turn p b qs (All-tail (IsTypedProc p) q qs h) (and_right (had q) (list_all had qs) k))
+      let had = proc_passes many (is_scalar_type w) ex in
+      both (proc_passes many (is_scalar_type w) other q) _ (proc_turn p b q (All-head (IsTypedProc p) q qs h) (and_left (had q) (list_all had qs) k)) (procs_turn p b qs (All-tail (IsTypedProc p) q qs h) (and_right (had q) (list_all had qs) k))
 
-  impl_turn : (p : Prog) → Bare p → list_all (proc_passes (is_scalar_type w) ex) p.procedures ≡ true → (m : Impl) → IsTypedImpl p m → impl_passes (is_scalar_type w) ex m ≡ true → impl_passes (is_scalar_type w) other m ≡ true
+  impl_turn : (p : Prog) → Bare p → list_all (proc_passes many (is_scalar_type w) ex) p.procedures ≡ true → (m : Impl) → IsTypedImpl p m → impl_passes many (is_scalar_type w) ex m ≡ true → impl_passes many (is_scalar_type w) other m ≡ true
   impl_turn p b procs m h k =
       let ty = is_scalar_type w in
       let q = h.procedure in
-      let clauses = list_all (clause_passes ex) q.requires_ && list_all (clause_passes ex) q.ensures_ in
-      let here = passes_at (proc_passes ty ex) p.procedures m.procedure q procs h.is_there in
+      let clauses = list_all (clause_passes many ex) q.requires_ && list_all (clause_passes many ex) q.ensures_ in
+      let here = passes_at (proc_passes many ty ex) p.procedures m.procedure q procs h.is_there in
       let params = and_left (decls_pass ty ex q.params) (decls_pass ty ex q.results && clauses) here in
       let results = and_left (decls_pass ty ex q.results) clauses (and_right (decls_pass ty ex q.params) (decls_pass ty ex q.results && clauses) here) in
-      let locals = and_left (decls_pass ty ex m.locals) (st_passes ex m.body) k in
+      let locals = and_left (decls_pass ty ex m.locals) (st_passes many ex m.body) k in
       let frame = append_pass (decl_passes ty ex) q.params (q.results ++ m.locals) params (append_pass (decl_passes ty ex) q.results m.locals results locals) in
       let fine = fine_in p b (q.params ++ (q.results ++ m.locals)) frame in
-      both _ _ (decls_turn (sig_around (around p q m)) fine m.locals h.locals locals) (st_turn (around p q m) fine [] [] m.body h.body (and_right (decls_pass ty ex m.locals) (st_passes ex m.body) k))
+      both _ _ (decls_turn (sig_around (around p q m)) fine m.locals h.locals locals) (st_turn (around p q m) fine [] [] m.body h.body (and_right (decls_pass ty ex m.locals) (st_passes many ex m.body) k))
 
-  impls_turn : (p : Prog) → Bare p → list_all (proc_passes (is_scalar_type w) ex) p.procedures ≡ true → (ms : List Impl) → All (IsTypedImpl p) ms → list_all (impl_passes (is_scalar_type w) ex) ms ≡ true → list_all (impl_passes (is_scalar_type w) other) ms ≡ true
+  impls_turn : (p : Prog) → Bare p → list_all (proc_passes many (is_scalar_type w) ex) p.procedures ≡ true → (ms : List Impl) → All (IsTypedImpl p) ms → list_all (impl_passes many (is_scalar_type w) ex) ms ≡ true → list_all (impl_passes many (is_scalar_type w) other) ms ≡ true
   impls_turn p b procs [] h k = refl
   impls_turn p b procs (m ∷ ms) h k =
-      let had = impl_passes (is_scalar_type w) ex in
-      both (impl_passes (is_scalar_type w) other m) _ (impl_turn p b procs m (All-head (IsTypedImpl p) m ms h) (and_left (had m) (list_all had ms) k)) (impls_turn p b procs ms (All-tail (IsTypedImpl p) m ms h) (and_right (had m) (list_all had ms) k))
+      let had = impl_passes many (is_scalar_type w) ex in
+      both (impl_passes many (is_scalar_type w) other m) _ (impl_turn p b procs m (All-head (IsTypedImpl p) m ms h) (and_left (had m) (list_all had ms) k)) (impls_turn p b procs ms (All-tail (IsTypedImpl p) m ms h) (and_right (had m) (list_all had ms) k))
 
+module _ (w : Bool) (ex other : Ex → Bool) (turn : (s : Sig) → Fine w s → (e : Ex) (t : Ty) → HasType e s t → ex e ≡ true → other e ≡ true) where
   pub program_turn : (p : Prog) → IsTyped p → passes (is_scalar_type w) ex p ≡ true → passes (is_scalar_type w) other p ≡ true
   program_turn p h k =
       let ty = is_scalar_type w in
-      let qs = list_all (proc_passes ty ex) p.procedures in
-      let ms = list_all (impl_passes ty ex) p.implementations in
-      let five = qs && ms in
-      let four = p.candidates == 0 && five in
+      let qs = list_all (proc_passes p.candidates ty ex) p.procedures in
+      let ms = list_all (impl_passes p.candidates ty ex) p.implementations in
+      let four = qs && ms in
       let three = is_empty p.axioms && four in
       let two = is_empty p.functions && three in
       let one = is_empty p.constants && two in
@@ -170,10 +170,8 @@ module _ (w : Bool) (ex other : Ex → Bool) (turn : (s : Sig) → Fine w s → 
       let k3 = and_right (is_empty p.functions) three k2 in
       let axioms = and_left (is_empty p.axioms) four k3 in
       let k4 = and_right (is_empty p.axioms) four k3 in
-      let candidates = and_left (p.candidates == 0) five k4 in
-      let k5 = and_right (p.candidates == 0) five k4 in
-      let procs = and_left qs ms k5 in
-      let impls = and_right qs ms k5 in
-      let bare : Bare p = record { constants = empty_is p.constants constants; functions = empty_is p.functions functions; globals = globals } in
-      let fine = fine_in p bare [] refl in
-      both _ _ (decls_turn (sig_in p []) fine p.globals h.globals globals) (both _ _ constants (both _ _ functions (both _ _ axioms (both _ _ candidates (both _ _ (procs_turn p bare p.procedures h.procedures procs) (impls_turn p bare procs p.implementations h.implementations impls))))))
+      let procs = and_left qs ms k4 in
+      let impls = and_right qs ms k4 in
+      let bare : Bare w ex other turn p.candidates p = record { constants = empty_is p.constants constants; functions = empty_is p.functions functions; globals = globals } in
+      let fine = fine_in w ex other turn p.candidates p bare [] refl in
+      both _ _ (decls_turn w ex other turn p.candidates (sig_in p []) fine p.globals h.globals globals) (both _ _ constants (both _ _ functions (both _ _ axioms (both _ _ (procs_turn w ex other turn p.candidates p bare p.procedures h.procedures procs) (impls_turn w ex other turn p.candidates p bare procs p.implementations h.implementations impls)))))

@@ -1,6 +1,6 @@
 -- Where variables have types that may stand and nothing else is declared, typed expressions are made of what may stand.
 use Rattle.std.proofs.Common.{◌≡◌, ℕ, zero, suc, Bool, true, false, List, [], ◌∷◌, Some, None, refl, sym, subst}
-use Rattle.std.specs.Prelude.{◌&&◌, slice_get}
+use Rattle.std.specs.Prelude.{slice_get}
 use Rattle.bg_ast.specs.Values.{Ty, IntTy, BoolTy}
 use Rattle.bg_ast.specs.Syntax.{Global, Local, Op, And, Or, Implies, Iff, Equal, Unequal, Less, AtMost, Greater, AtLeast, Plus, Minus, Times, Ex, Number, Fact, Constant, Read, Not, Negative, Binary, Apply, Select, Update, Old}
 use Rattle.bg_sense.specs.Typing.{Sig, OpHasType, HasType}

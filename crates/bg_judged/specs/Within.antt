@@ -6,10 +6,9 @@ use Rattle.bg_text.specs.Tokens.{Tok}
 use Rattle.bg_front.specs.Later.{Spot}
 use Rattle.bg_front.specs.Later.{outside, spot_from}
 
--- a word of types, constants, functions, axioms or maps; and one of whole numbers, unless these may stand
+-- a word of types, functions, axioms or maps; and one of whole numbers, unless these may stand
 abbrev pub is_beyond : (numbers : Bool) → Kind → Bool
 is_beyond numbers kinds.Type = true
-is_beyond numbers kinds.Const = true
 is_beyond numbers kinds.Function = true
 is_beyond numbers kinds.Axiom = true
 is_beyond numbers kinds.OpenBracket = true

@@ -4,14 +4,16 @@ ghost use Rattle.bg_text.specs.Tokens.{Tok};
 ghost use Rattle.bg_ast.specs.Resolved.{Program};
 ghost use Rattle.bg_ast.specs.Meaning.{meaning_of};
 ghost use Rattle.bg_typed.specs.Rules.{KeepsTypes};
+ghost use Rattle.bg_front.specs.Others.{AreCandidates};
 ghost use Rattle.bg_front.specs.Programs.{IsMeaningOf, IsProgramOf};
 ghost use Rattle.bg_fits.specs.Scalars.{is_over_scalars};
 ghost use Rattle.bg_judged.specs.Within.{AreWithin};
 
-/// A program that keeps the rules of types, without a token of types, constants, functions, axioms or maps, attributes apart, is one
-/// over truth values and whole numbers; without a token of whole numbers either, no number stands in it and no variable is one.
+/// A program that keeps the rules of types, without a token of types, functions, axioms or maps, attributes apart, and of whose
+/// constants each is a candidate, is one over truth values and whole numbers; without a token of whole numbers either, no number
+/// stands in it and no variable is one.
 pub fn tokens_of_scalars_spell_programs_over_scalars()
-    ensures { (numbers : Bool) (bytes : List ℕ) (ts : List Tok) (p : Program) → IsMeaningOf bytes ts p → KeepsTypes p → AreWithin numbers ts → is_over_scalars numbers (meaning_of p) ≡ true }
+    ensures { (numbers : Bool) (bytes : List ℕ) (ts : List Tok) (p : Program) → (m : IsMeaningOf bytes ts p) → KeepsTypes p → AreWithin numbers ts → AreCandidates m.decls → is_over_scalars numbers (meaning_of p) ≡ true }
 {}
 
 /// What the reader lets through is a program over truth values and whole numbers.

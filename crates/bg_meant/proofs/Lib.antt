@@ -1,8 +1,8 @@
 mod Times
 mod Statements
 mod Labels
-mod Bodies
-mod Programs
+pub mod Bodies
+pub mod Programs
 mod Places
 mod Meanings
 mod Once

@@ -283,6 +283,11 @@ module _ (g : Spaces) (p : r.Program) (numbers : HasNumbers g p) (ty : ℕ → v
       let at = used g.procedures m.name first.0 in
       (code_well n m.pos m.name m.sig m.body at.0 at.1 last.1, tt)
 
+-- in declarations without faults of names each name that means a candidate means one of the program's
+pub names_candidates : (ds : List t.Decl) → plain_faults ds ≡ [] → (frame : List (List ℕ)) (a b : Bool) → NamesCandidates (length (named ds).candidates) (scope_in (spaces_of ds) frame a b)
+names_candidates ds h =
+    frames_fit (spaces_of ds) (named ds) (has_numbers ds (once_of ds h)) (named_of (named ds).types)
+
 -- ---- the whole
 
 each_of : {A : Type 0} (P Q : A → Type 0) → ((x : A) → P x → Q x) → (xs : List A) → Each P xs → Each Q xs

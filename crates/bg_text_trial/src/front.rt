@@ -1,9 +1,10 @@
 //! What is judged and what isn't yet, and how large a text may be.
 use crate::line::say;
+use std::alloc::{AllocError, Global};
 use std::test::Fail;
 
 /// Texts of which no verdicts are given yet, and the lines that refuse them.
-const LATER: [(&[u8], &[u8]); 8] = [
+const LATER: [(&[u8], &[u8]); 11] = [
     (
         b"procedure {:n 1} P(x: [int]int) { }",
         b"error: 1:23 unsupported [\n",
@@ -29,11 +30,24 @@ const LATER: [(&[u8], &[u8]); 8] = [
         b"procedure P() { } procedure Q(); requires true; axiom true;",
         b"error: 1:49 unsupported axiom\n",
     ),
+    (
+        b"const {:existential true} b: bool; const c: bool;",
+        b"error: 1:36 unsupported const\n",
+    ),
+    (
+        b"const {:existential false} b: bool; axiom true;",
+        b"error: 1:37 unsupported axiom\n",
+    ),
+    (
+        b"const {:existential false} b: bool;",
+        b"error: 1:1 unsupported const\n",
+    ),
     (b"axiom true;", b"error: 1:1 unsupported axiom\n"),
 ];
 
 /// Texts of which verdicts are given.
-const JUDGED: [&[u8]; 8] = [
+const JUDGED: [&[u8]; 9] = [
+    b"const {:existential true} b, c: bool; procedure P(a: bool); requires b ==> a ==> !a; ensures (c) ==> a;",
     b"procedure {:n 1} P(x: int) { }",
     b"procedure P() { assert 12 == 13; }",
     b"procedure P() { while (true) invariant false; { break; } }",
@@ -177,6 +191,27 @@ const EXPANDED: [Large; 3] = [
         b"error: limit expanded 1000001\n",
     ),
 ];
+
+/// A text with one candidate more than so many.
+fn candidates(alloc: Global, others: u32) -> Result<Vec<u8>, AllocError> {
+    let mut text = Vec::new(alloc);
+    text.extend_from_slice(b"const {:existential true} c")?;
+    for i in 0..others {
+        let name = format!(in alloc; ", c{i}")?;
+        text.extend_from_slice(name.as_bytes())?;
+    }
+    text.extend_from_slice(b": bool;")?;
+    Ok(text)
+}
+
+#[test]
+fn at_most_4096_candidates_are_declared(rt: HostRuntime) -> Result<(), Fail> {
+    let most = candidates(rt.alloc(), 4095)?;
+    assert!(rt; say(rt.alloc(), &[(&most, 1)], b"")?);
+    let more = candidates(rt.alloc(), 4096)?;
+    assert!(rt; say(rt.alloc(), &[(&more, 1)], b"error: limit candidates 4097\n")?);
+    Ok(())
+}
 
 #[test]
 fn each_limit_is_that_of_its_line(rt: HostRuntime) -> Result<(), Fail> {

@@ -46,7 +46,7 @@ const TEXTS: [(&[u8], &[u8]); 29] = [
     ),
     (
         b"const unique a, b: bool; const {:a true} c: [int, int][int](bool);",
-        b"error: 1:1 unsupported const\n",
+        b"error: 1:45 unsupported [\n",
     ),
     (b"var {:n} n, m: int, o: bool;", b""),
     (
