@@ -5,3 +5,4 @@ pub mod Apart
 pub mod Decided
 pub mod Verified
 pub mod Marks
+pub mod Order

@@ -28,6 +28,9 @@ kept_text (Nodes n) = decimal n
 kept_text (Rows n) = decimal n
 kept_text (Range o) = operation_text o
 
+abbrev pub kept_line : Why → List ℕ
+kept_line why = line (codes "    kept " ++ kept_text why)
+
 -- a cause in the place's line, and what is kept in the next one
 abbrev pub cause_text : Why → List ℕ
-cause_text why = line (codes " " ++ why_text why) ++ line (codes "    kept " ++ kept_text why)
+cause_text why = line (codes " " ++ why_text why) ++ kept_line why

@@ -6,3 +6,4 @@ pub mod Views
 pub mod Words
 pub mod Entries
 pub mod Fates
+pub mod History

@@ -42,10 +42,13 @@ chosen_text (Chosen value) = value_text value
 abbrev pub choice_text : Choice → List ℕ
 choice_text c = line (codes "    choice " ++ chosen_text c)
 
--- a refuted place: the entry values of the variables with these names, and the choices in order
+-- the entry values of the variables with these names, and the choices in order
+abbrev pub counterexample_text : List (List ℕ) → List Val → List Choice → List ℕ
+counterexample_text names values choices = texts variable_text names values ++ flat_map choice_text choices
+
+-- a refuted place, and how it fails
 abbrev pub refuted_text : List (List ℕ) → Placed → List Val → List Choice → List ℕ
-refuted_text names a values choices =
-    line (told_text SomeRefuted a) ++ (texts variable_text names values ++ flat_map choice_text choices)
+refuted_text names a values choices = line (told_text SomeRefuted a) ++ counterexample_text names values choices
 
 -- an unknown place, with its cause
 abbrev pub unknown_text : Placed → Why → List ℕ

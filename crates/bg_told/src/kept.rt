@@ -1,7 +1,6 @@
 //! What is kept of a place that is left unknown.
 ghost use Rattle.std.specs.Prelude.{◌≡◌, ◌++◌, OnOk, length};
-ghost use Rattle.bg_sound.specs.Told.{Nodes, Rows, Range};
-ghost use Rattle.bg_told.specs.Kept.{operator_text, operation_text, why_text, cause_text};
+ghost use Rattle.bg_told.specs.Kept.{operator_text, operation_text, why_text, kept_text, kept_line, cause_text};
 ghost use Rattle.bg_told.specs.Views.{operation_of, end_of, why_of};
 
 use crate::put::{put_integer, put_number};
@@ -43,59 +42,11 @@ fn operation_of(beyond: &Beyond) -> OutOfRange
     }
 }
 
-fn put_nodes(out: &mut Vec<u8>, budget: u32) -> Result<(), AllocError>
-    ensures { OnOk result (out.new.items ≡ out.old.items ++ cause_text (Nodes budget)) }
-{
-    out.extend_from_slice(b" nodes\n    kept ")?;
-    put_number(out, budget as usize)?;
-    out.extend_from_slice(b"\n")
-}
-
 /// How many rows are kept.
 fn count(order: &Order) -> usize
     ensures { result ≡ length order.now.reasons.items }
 {
     order.reasons.len()
-}
-
-fn put_rows(out: &mut Vec<u8>, order: &Order) -> Result<(), AllocError>
-    ensures { OnOk result (out.new.items ≡ out.old.items ++ cause_text (Rows (length order.now.reasons.items))) }
-{
-    out.extend_from_slice(b" rows\n    kept ")?;
-    put_number(out, count(order))?;
-    out.push(b'\n')?;
-    Ok(())
-}
-
-/// The word for an operation that leaves 128 bits, and in the next line the operation.
-fn put_outside(out: &mut Vec<u8>, operation: OutOfRange) -> Result<(), AllocError>
-    ensures { OnOk result (out.new.items ≡ out.old.items ++ cause_text (Range operation)) }
-{
-    out.extend_from_slice(b" range\n    kept ")?;
-    put_operation(out, operation)?;
-    out.extend_from_slice(b"\n")
-}
-
-/// Where the search ends.
-fn put_why(out: &mut Vec<u8>, why: &Why) -> Result<(), AllocError>
-    ensures { OnOk result (out.new.items ≡ out.old.items ++ cause_text (end_of why.now)) }
-{
-    match why {
-        Why::Nodes(_, budget) => put_nodes(out, *budget),
-        Why::Rows(_, order) => put_rows(out, order),
-        Why::Range(_, beyond) => put_outside(out, operation_of(beyond)),
-    }
-}
-
-/// The cause's word, and in the next line what is kept.
-pub fn put_cause(out: &mut Vec<u8>, cause: &Cause) -> Result<(), AllocError>
-    ensures { OnOk result (out.new.items ≡ out.old.items ++ cause_text (why_of cause.now)) }
-{
-    match cause {
-        Cause::Search(why) => put_why(out, why),
-        Cause::Form(operation) => put_outside(out, *operation),
-        Cause::Replay(_, operation) => put_outside(out, *operation),
-    }
 }
 
 /// The word for where a search ends.
@@ -118,4 +69,45 @@ pub fn put_cause_word(out: &mut Vec<u8>, cause: &Cause) -> Result<(), AllocError
         Cause::Form(_) => out.extend_from_slice(b"range"),
         Cause::Replay(_, _) => out.extend_from_slice(b"range"),
     }
+}
+
+/// What is kept of a search: its budget of nodes, how many rows it has, or the operation.
+fn put_end(out: &mut Vec<u8>, why: &Why) -> Result<(), AllocError>
+    ensures { OnOk result (out.new.items ≡ out.old.items ++ kept_text (end_of why.now)) }
+{
+    match why {
+        Why::Nodes(_, budget) => put_number(out, *budget as usize),
+        Why::Rows(_, order) => put_number(out, count(order)),
+        Why::Range(_, beyond) => put_operation(out, operation_of(beyond)),
+    }
+}
+
+/// What is kept of a cause.
+fn put_kept(out: &mut Vec<u8>, cause: &Cause) -> Result<(), AllocError>
+    ensures { OnOk result (out.new.items ≡ out.old.items ++ kept_text (why_of cause.now)) }
+{
+    match cause {
+        Cause::Search(why) => put_end(out, why),
+        Cause::Form(operation) => put_operation(out, *operation),
+        Cause::Replay(_, operation) => put_operation(out, *operation),
+    }
+}
+
+/// The line of what is kept.
+pub fn put_kept_line(out: &mut Vec<u8>, cause: &Cause) -> Result<(), AllocError>
+    ensures { OnOk result (out.new.items ≡ out.old.items ++ kept_line (why_of cause.now)) }
+{
+    out.extend_from_slice(b"    kept ")?;
+    put_kept(out, cause)?;
+    out.extend_from_slice(b"\n")
+}
+
+/// The cause's word, and in the next line what is kept.
+pub fn put_cause(out: &mut Vec<u8>, cause: &Cause) -> Result<(), AllocError>
+    ensures { OnOk result (out.new.items ≡ out.old.items ++ cause_text (why_of cause.now)) }
+{
+    out.push(b' ')?;
+    put_cause_word(out, cause)?;
+    out.push(b'\n')?;
+    put_kept_line(out, cause)
 }

@@ -4,6 +4,7 @@
 mod candidates;
 mod choices;
 mod fates;
+mod history;
 mod kept;
 mod laws;
 mod place;
@@ -13,6 +14,7 @@ mod report;
 mod values;
 mod word;
 
+pub use history::history_text;
 pub use laws::{
     equal_reports_retain_equal_sets, equal_reports_say_equal_words, verified_is_all_proved,
     verified_is_each_verified,

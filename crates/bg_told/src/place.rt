@@ -37,7 +37,7 @@ fn put_call(out: &mut Vec<u8>, call: Option<Pos>) -> Result<(), AllocError>
 }
 
 /// What is checked, and where.
-fn put_place(out: &mut Vec<u8>, place: &Place) -> Result<(), AllocError>
+pub fn put_place(out: &mut Vec<u8>, place: &Place) -> Result<(), AllocError>
     ensures { OnOk result (out.new.items ≡ out.old.items ++ place_text (placed_of place.now)) }
 {
     put_kind(out, place.spot)?;

@@ -5,7 +5,7 @@ ghost use Rattle.bg_places.specs.Views.{placed_of};
 ghost use Rattle.bg_scalar.specs.Choices.{choice_of};
 ghost use Rattle.bg_scalar.specs.Values.{val_of};
 ghost use Rattle.bg_check.specs.Outcomes.{verdict_of};
-ghost use Rattle.bg_told.specs.Places.{refuted_text, unknown_text, verdict_text};
+ghost use Rattle.bg_told.specs.Places.{counterexample_text, refuted_text, unknown_text, verdict_text};
 ghost use Rattle.bg_told.specs.Report.{names_of};
 ghost use Rattle.bg_told.specs.Views.{why_of};
 ghost use Rattle.bg_told.specs.Entries.{shown_text};
@@ -21,6 +21,24 @@ use bg_model::Counterexample;
 use bg_places::Place;
 use std::alloc::AllocError;
 
+/// The entry values and the choices of a counterexample.
+pub fn put_counterexample(
+    out: &mut Vec<u8>,
+    globals: &[Declared],
+    implementation: &Implementation,
+    cex: &Counterexample,
+) -> Result<(), AllocError>
+    ensures { OnOk result (out.new.items ≡ out.old.items ++ counterexample_text (names_of (map declared_of globals.now) (impl_of implementation.now)) (map val_of cex.now.globals.items ++ map val_of cex.now.frame.items) (map choice_of cex.now.choices.items)) }
+{
+    let values = Values {
+        globals: &cex.globals,
+        frame: &cex.frame,
+    };
+    put_entry(out, globals, implementation, values)?;
+    put_choices(out, &cex.choices)?;
+    Ok(())
+}
+
 /// A refuted place.
 fn put_refuted(
     out: &mut Vec<u8>,
@@ -33,13 +51,7 @@ fn put_refuted(
 {
     put_told(out, Word::Refuted, place)?;
     out.push(b'\n')?;
-    let values = Values {
-        globals: &cex.globals,
-        frame: &cex.frame,
-    };
-    put_entry(out, globals, implementation, values)?;
-    put_choices(out, &cex.choices)?;
-    Ok(())
+    put_counterexample(out, globals, implementation, cex)
 }
 
 /// An unknown place.

@@ -1,13 +1,14 @@
 -- What the top call claims of how it ends.
-use Rattle.std.specs.Prelude.{◌≡◌, ◌+◌, ◌⊎◌, ℕ, List, ◌++◌, Option, Some, codes, take, slice_get, IsTrue}
+use Rattle.std.specs.Prelude.{◌≡◌, ◌+◌, ◌⊎◌, ◌<◌, ◌≤◌, ℕ, List, ◌++◌, Option, Some, codes, take, slice_get, IsTrue}
 use Rattle.bg_io.specs.Causes.{joined, counted, joined_text, IsTextOf}
 use Rattle.bg_ast.specs.Resolved.{Program}
+use Rattle.bg_ast.specs.Meaning.{meaning_of}
 use Rattle.bg_front.specs.Programs.{IsProgramOf, IsRefusedBy}
 use Rattle.bg_front.specs.Refusals.{Refusal}
 use Rattle.bg_front.specs.Lines.{line_of}
-use Rattle.bg_check.specs.declared.verdict.Judged.{Judged}
-use Rattle.bg_check.specs.Verdicts.{AreRight}
-use Rattle.bg_check.specs.Outcomes.{outcome_of}
+use Rattle.bg_houdini.specs.declared.outcome.Outcome as houdini
+use Rattle.bg_houdini.specs.Outcomes.{IsTrueOutcome}
+use Rattle.bg_houdini.specs.Told.{outcome_of}
 use Rattle.bg_sound.specs.Told.{Outcome}
 use Rattle.bg_told.specs.Views.{why_of}
 use Rattle.bg_tool.specs.declared.status.Status.{Status}
@@ -21,12 +22,18 @@ use Rattle.bg_tree.specs.declared.outcome.Budget.{Budget}
 abbrev pub budget_in : List (List ℕ) → Budget
 budget_in words = record { nodes = nodes_in words; rows = most_rows_in words }
 
--- what is told of a program is accounted for: it is told of verdicts that are right, one for each place: a certificate where it says
--- proved, a counterexample where it says refuted, and where it says unknown a cause within the budget, whose words it has
+-- a number of workers that may check
+abbrev pub AreSome : ℕ → Type 0
+AreSome workers = (0 < workers) × (workers ≤ 16)
+
+-- what is told of a program is accounted for: it is told of an outcome that is true of the program. There each dropped candidate has an
+-- entry in an ordered history, with a run that fails under the entry's snapshot or a cause within the budget; each place of a retained
+-- one a certificate under what is retained; and each ordinary place a right verdict under it: a certificate where it says proved, a
+-- counterexample where it says refuted, and where it says unknown a cause within the budget, whose words it has
 pub record IsAccounted (budget : Budget) (p : Program) (o : Outcome) : Type 0 where
-  pub verdicts : List (List Judged)
-  pub right : AreRight budget p verdicts
-  pub told : o ≡ outcome_of why_of verdicts
+  pub inferred : houdini.Outcome
+  pub right : IsTrueOutcome budget p inferred
+  pub told : o ≡ outcome_of why_of (meaning_of p) inferred
 
 -- the text is true of the program that the bytes spell, and what it tells is accounted for
 pub record IsReport (budget : Budget) (bytes : List ℕ) (ends : Status) (text : List ℕ) : Type 0 where

@@ -5,6 +5,7 @@ ghost use Rattle.bg_cli.specs.Cli.{IsTaken, texts_of, files_in};
 ghost use Rattle.bg_ast.specs.Views.{program_of};
 ghost use Rattle.bg_ast.specs.Meaning.{meaning_of};
 ghost use Rattle.bg_sense.specs.Typed.{IsTyped};
+ghost use Rattle.bg_sense.specs.Resolved.{IsResolved};
 ghost use Rattle.bg_fits.specs.Scalars.{is_over_scalars};
 ghost use Rattle.bg_front.specs.Programs.{IsProgramOf, IsRefusedBy};
 ghost use Rattle.bg_front.specs.Refusals.{refusal_of};
@@ -12,21 +13,35 @@ ghost use Rattle.bg_front.specs.Lines.{line_of};
 ghost use Rattle.bg_told.specs.Views.{status_in};
 ghost use Rattle.bg_tool.specs.Statuses.{number_of, refusal_status, is_report, is_refused, is_refusal};
 ghost use Rattle.bg_tool.specs.Reports.{IsTrueText, Wrote};
-ghost use Rattle.bg_tool.specs.Answers.{budget_in, Reported, ReportedSome, RefusedFor, IsReport, WroteSome, Refuses, usage_line, NamesFile, Judges, Completes};
+ghost use Rattle.bg_tool.specs.Answers.{budget_in, AreSome, Reported, ReportedSome, RefusedFor, IsReport, WroteSome, Refuses, usage_line, NamesFile, Judges, Completes};
 
 use crate::status::Status;
 use bg_ast::resolved::Resolved;
-use bg_check::check_program;
-use bg_check::laws::right_verdicts_are_sound;
 use bg_claims::Gate;
 use bg_cli::{Line, LineError, read_line};
-use bg_front::laws::{a_text_has_one_program_or_one_refusal, programs_are_typed};
+use bg_front::laws::{
+    a_text_has_one_program_or_one_refusal, programs_are_resolved, programs_are_typed,
+};
 use bg_front::{MOST_BYTES, ReadError as TextError, Refusal, read_program};
+use bg_houdini::infer;
+use bg_houdini::laws::true_outcomes_are_sound;
 use bg_io::{Files, ReadError, Sink, read_all, write_all};
 use bg_judged::laws::judged_programs_are_over_scalars;
 use bg_told::{Word, result_text, word_of};
 use bg_tree::Budget;
 use std::alloc::{AllocError, Global};
+use std::thread::Threads;
+
+/// How programs are judged: the threads and the gate of the workers that check places of candidates, how many these are, and what a
+/// search may use up.
+#[derive(Drop)]
+struct Manner<'a, R, G> {
+    alloc: Global,
+    rt: &'a R,
+    gate: &'a G,
+    workers: u32,
+    budget: Budget,
+}
 
 /// The status that verdicts give.
 fn status_of(word: Word) -> Status
@@ -41,19 +56,27 @@ fn status_of(word: Word) -> Status
 }
 
 /// The report of a typed program over truth values and whole numbers, and the status that its verdicts give.
-fn report_of(
-    alloc: Global,
+fn report_of<R: Threads + Sync, G: Gate>(
+    how: &Manner<'_, R, G>,
     program: &Resolved,
-    budget: Budget,
 ) -> Result<(Status, Vec<u8>), AllocError>
+    requires workers { AreSome how.now.workers }
     requires typed { IsTyped (meaning_of (program_of program.now)) }
     requires scalars { is_over_scalars true (meaning_of (program_of program.now)) ≡ true }
-    ensures report { IfOk result (λ r. (bytes : List ℕ) → IsProgramOf bytes (program_of program.now) → IsReport budget bytes r.0 r.1.items) }
+    requires resolved { IsResolved (meaning_of (program_of program.now)) }
+    ensures report { IfOk result (λ r. (bytes : List ℕ) → IsProgramOf bytes (program_of program.now) → IsReport how.now.budget bytes r.0 r.1.items) }
     ensures ends { IfOk result (λ r. IsTrue (is_report r.0)) }
 {
-    let outcome = check_program(alloc, program, budget)?;
-    right_verdicts_are_sound();
-    let text = result_text(alloc, program, &outcome)?;
+    let outcome = infer(
+        how.rt,
+        how.alloc,
+        program,
+        how.budget,
+        how.workers,
+        how.gate,
+    )?;
+    true_outcomes_are_sound();
+    let text = result_text(how.alloc, program, &outcome)?;
     Ok((status_of(word_of(&outcome)), text))
 }
 
@@ -124,29 +147,30 @@ fn refuse_bytes<E: Sink>(alloc: Global, refusal: &Refusal<'_>, err: &mut E) -> S
 }
 
 /// Judges the program of a text, and writes its report.
-fn verify<S: Sink, E: Sink>(
-    alloc: Global,
+fn verify<R: Threads + Sync, G: Gate, S: Sink, E: Sink>(
+    how: &Manner<'_, R, G>,
     bytes: &[u8],
-    budget: Budget,
     out: &mut S,
     err: &mut E,
 ) -> Status
-    ensures report { IsTrue (is_report result) → Reported budget bytes.now result (S.written out.old) (S.written out.new) }
+    requires { AreSome how.now.workers }
+    ensures report { IsTrue (is_report result) → Reported how.now.budget bytes.now result (S.written out.old) (S.written out.new) }
     ensures quiet { (IsTrue (is_report result) ⊎ (result ≡ Status.Memory)) → E.written err.new ≡ E.written err.old }
     ensures refused { IsTrue (is_refused result) → RefusedFor bytes.now result (E.written err.old) (E.written err.new) }
     ensures still { IsTrue (is_refused result) → S.written out.new ≡ S.written out.old }
-    ensures part { ((result ≡ Status.Write) ⊎ (result ≡ Status.Memory)) → ReportedSome budget bytes.now (S.written out.old) (S.written out.new) }
+    ensures part { ((result ≡ Status.Write) ⊎ (result ≡ Status.Memory)) → ReportedSome how.now.budget bytes.now (S.written out.old) (S.written out.new) }
     ensures cause { result ≡ Status.Write → Rose (S.faults out.old) (S.faults out.new) ⊎ Rose (E.faults err.old) (E.faults err.new) }
     ensures others { (result ≢ Status.Usage) × (result ≢ Status.Read) }
 {
-    let typed = match read_program(alloc, bytes) {
+    let typed = match read_program(how.alloc, bytes) {
         Ok(typed) => typed,
         Err(TextError::Memory) => return Status::Memory,
-        Err(TextError::Refused(refusal)) => return refuse_bytes(alloc, &refusal, err),
+        Err(TextError::Refused(refusal)) => return refuse_bytes(how.alloc, &refusal, err),
     };
     programs_are_typed();
+    programs_are_resolved();
     judged_programs_are_over_scalars();
-    let Ok((ends, text)) = report_of(alloc, &typed.program, budget) else {
+    let Ok((ends, text)) = report_of(how, &typed.program) else {
         return Status::Memory;
     };
     match write_all(out, &text) {
@@ -156,31 +180,31 @@ fn verify<S: Sink, E: Sink>(
 }
 
 /// Judges the program of these files, and writes its report to `out`; a refusal is one line on `err`.
-fn judge<F: Files, S: Sink, E: Sink>(
-    alloc: Global,
+fn judge<R: Threads + Sync, G: Gate, F: Files, S: Sink, E: Sink>(
+    how: &Manner<'_, R, G>,
     names: &[String],
-    budget: Budget,
     files: &mut F,
     out: &mut S,
     err: &mut E,
 ) -> Status
-    ensures report { IsTrue (is_report result) → Wrote (IsReport budget) (F.contents files.old) (map string_bytes names.now) result (S.written out.old) (S.written out.new) }
+    requires { AreSome how.now.workers }
+    ensures report { IsTrue (is_report result) → Wrote (IsReport how.now.budget) (F.contents files.old) (map string_bytes names.now) result (S.written out.old) (S.written out.new) }
     ensures quiet { (IsTrue (is_report result) ⊎ (result ≡ Status.Memory)) → E.written err.new ≡ E.written err.old }
     ensures refused { IsTrue (is_refused result) → Refuses (F.contents files.old) (map string_bytes names.now) result (E.written err.old) (E.written err.new) }
     ensures read { result ≡ Status.Read → Rose (F.faults files.old) (F.faults files.new) }
     ensures write { result ≡ Status.Write → Rose (S.faults out.old) (S.faults out.new) ⊎ Rose (E.faults err.old) (E.faults err.new) }
     ensures file { result ≡ Status.Read → NamesFile (map string_bytes names.now) (F.starts files.old) (F.starts files.new) (E.written err.old) (E.written err.new) }
     ensures still { IsTrue (is_refusal result) → S.written out.new ≡ S.written out.old }
-    ensures prefix { ((result ≡ Status.Write) ⊎ (result ≡ Status.Memory)) → WroteSome budget (F.contents files.old) (map string_bytes names.now) (S.written out.old) (S.written out.new) }
+    ensures prefix { ((result ≡ Status.Write) ⊎ (result ≡ Status.Memory)) → WroteSome how.now.budget (F.contents files.old) (map string_bytes names.now) (S.written out.old) (S.written out.new) }
     ensures complete { (Rose (F.faults files.old) (F.faults files.new) → ⊥) → (Rose (S.faults out.old) (S.faults out.new) → ⊥) → (Rose (E.faults err.old) (E.faults err.new) → ⊥) → Judges (F.contents files.old) (map string_bytes names.now) result }
     ensures words { result ≢ Status.Usage }
 {
     a_text_has_one_program_or_one_refusal();
-    match read_all(alloc, files, names, MOST_BYTES) {
+    match read_all(how.alloc, files, names, MOST_BYTES) {
         Err(ReadError::ReadFault { file }) => refuse_file(err, names[file].as_str()),
-        Err(ReadError::TooLong { .. }) => refuse_bytes(alloc, &Refusal::TooLong, err),
+        Err(ReadError::TooLong { .. }) => refuse_bytes(how.alloc, &Refusal::TooLong, err),
         Err(ReadError::Memory) => Status::Memory,
-        Ok(bytes) => verify(alloc, &bytes, budget, out, err),
+        Ok(bytes) => verify(how, &bytes, out, err),
     }
 }
 
@@ -209,14 +233,15 @@ fn names_of(alloc: Global, files: &[&str]) -> Result<Vec<String>, AllocError>
 /// What such a report tells is true of the program that the files spell (`sound`): with status 0 some interpretation meets it, and no
 /// execution of any implementation fails (`bg_sound`'s law `status_zero_is_safe`); two reports of one program agree where they should
 /// (`greatest_sets_agree`, `settled_words_agree`); and its bytes decide what it tells of sets and implementations (`bg_told`'s laws).
-/// The first word is the program's own name. Workers that check places of candidates pass the gate before each; there are none yet.
-pub fn run<R: AllocGlobal, F: Files, S: Sink, E: Sink, G: Gate>(
+/// The first word is the program's own name. As many workers as the words say check places of candidates in threads, and pass the gate
+/// before each check.
+pub fn run<R: AllocGlobal + Threads + Sync, F: Files, S: Sink, E: Sink, G: Gate>(
     rt: &R,
     words: &[String],
     files: &mut F,
     out: &mut S,
     err: &mut E,
-    _gate: &G,
+    gate: &G,
 ) -> Status
     ensures taken { (IsTrue (is_report result) ⊎ (IsTrue (is_refused result) ⊎ (result ≡ Status.Read))) → IsTaken (texts_of words.now) }
     ensures sound { IsTrue (is_report result) → Wrote IsTrueText (F.contents files.old) (files_in (texts_of words.now)) result (S.written out.old) (S.written out.new) }
@@ -246,5 +271,12 @@ pub fn run<R: AllocGlobal, F: Files, S: Sink, E: Sink, G: Gate>(
     let Ok(names) = names_of(rt.alloc(), &line.files) else {
         return Status::Memory;
     };
-    judge(rt.alloc(), &names, budget_of(&line), files, out, err)
+    let how = Manner {
+        alloc: rt.alloc(),
+        rt,
+        gate,
+        workers: line.workers,
+        budget: budget_of(&line),
+    };
+    judge(&how, &names, files, out, err)
 }

@@ -1,0 +1,114 @@
+-- The text of a history: why each candidate went.
+use Rattle.std.specs.Prelude.{◌≡◌, ℕ, Bool, if◌then◌else◌, List, [], ◌++◌, codes, flat_map, map, filter, Option, Some, None, is_some, slice_get}
+use Rattle.std.specs.List.Sorted.{IsPermutation, IsNonDecreasingBy}
+use Rattle.std.specs.Fmt.{decimal}
+use Rattle.bg_text.specs.Trees.{Id}
+use Rattle.bg_ast.specs.Resolved.{Impl, Program}
+use Rattle.bg_places.specs.Placed.{Placed, placed}
+use Rattle.bg_rounds.specs.declared.keeper.Removal.{Removal}
+use Rattle.bg_sound.specs.Told.{Why, Verdict, Proved, Refuted, Unknown}
+use Rattle.bg_check.specs.declared.verdict.Cause.{Cause}
+use Rattle.bg_check.specs.declared.verdict.Verdict.TheVariants as verdict
+use Rattle.bg_check.specs.Outcomes.{verdict_of}
+use Rattle.bg_houdini.specs.declared.reason.Reason.{Reason}
+use Rattle.bg_houdini.specs.declared.reason.Reason.TheVariants as reason
+use Rattle.bg_houdini.specs.declared.outcome.Outcome.{Outcome}
+use Rattle.bg_told.specs.Kept.{why_text, kept_line}
+use Rattle.bg_told.specs.Lines.{line, texts, position_text}
+use Rattle.bg_told.specs.Places.{place_text, counterexample_text}
+use Rattle.bg_told.specs.Report.{names_of}
+
+-- an entry as it is told: its number, the candidate that went, the place that isn't proved, the candidates that its check had, and what
+-- was found there
+pub record Gone : Type 0 where
+  pub number : ℕ
+  pub candidate : ℕ
+  pub placed : Option Placed
+  pub snapshot : List Bool
+  pub found : Verdict
+
+abbrev pub number_of : Gone → ℕ
+number_of g = g.number
+
+-- ---- of removals
+
+abbrev pub has_candidate : Placed → Bool
+has_candidate a = is_some a.place.candidate
+
+-- the places that have a candidate, by implementation and place
+abbrev pub guarded : Program → List Placed
+guarded p = filter has_candidate (placed p)
+
+abbrev pub found_of : (Cause → Why) → Reason → Verdict
+found_of words (reason.Refuted cex) = verdict_of words (verdict.Refuted cex)
+found_of words (reason.Unknown cause) = verdict_of words (verdict.Unknown cause)
+
+abbrev pub gone_of : (Cause → Why) → Program → Removal Reason → Gone
+gone_of words p d =
+    record {
+      number = d.number;
+      candidate = d.cand.0;
+      placed = slice_get (guarded p) d.target.0;
+      snapshot = d.snapshot;
+      found = found_of words d.told;
+    }
+
+-- ---- the text
+
+-- the name with this number
+abbrev pub name_text : Option Id → List ℕ
+name_text None = []
+name_text (Some name) = name.text
+
+-- the name of a candidate that the set has
+abbrev pub member_text : Id → Bool → List ℕ
+member_text name here = if here then codes " " ++ name.text else []
+
+-- what was found, in words
+abbrev pub found_text : Verdict → List ℕ
+found_text Proved = []
+found_text (Refuted i s choices) = codes "refuted"
+found_text (Unknown why) = codes "unknown " ++ why_text why
+
+-- how the place fails, or what is kept of the cause
+abbrev pub shown_text : List (List ℕ) → Verdict → List ℕ
+shown_text names Proved = []
+shown_text names (Refuted i s choices) = counterexample_text names (s.globals ++ s.frame) choices
+shown_text names (Unknown why) = kept_line why
+
+-- the number of an entry, its candidate, and the implementation
+abbrev pub front_text : List Id → Impl → ℕ → ℕ → List ℕ
+front_text names m number candidate =
+    codes "drop " ++ decimal number ++ codes " " ++ name_text (slice_get names candidate) ++ codes " in " ++ m.name.text ++ codes " " ++ position_text m.pos
+
+-- the line of an entry at this place of this implementation
+abbrev pub gone_line : List Id → Impl → Placed → ℕ → ℕ → Verdict → List ℕ
+gone_line names m a number candidate found =
+    line (front_text names m number candidate ++ codes " at " ++ place_text a ++ codes ": " ++ found_text found)
+
+abbrev pub snapshot_line : List Id → List Bool → List ℕ
+snapshot_line names snapshot = line (codes "  snapshot" ++ texts member_text names snapshot)
+
+abbrev pub gone_in : Program → Gone → Placed → Option Impl → List ℕ
+gone_in p g a None = []
+gone_in p g a (Some m) = gone_line p.candidates m a g.number g.candidate g.found ++ (snapshot_line p.candidates g.snapshot ++ shown_text (names_of p.globals m) g.found)
+
+abbrev pub gone_at : Program → Gone → Option Placed → List ℕ
+gone_at p g None = []
+gone_at p g (Some a) = gone_in p g a (slice_get p.implementations a.place.implementation)
+
+-- an entry: what went where and why, the candidates of its snapshot by declaration, and how the place fails or what is kept; nothing
+-- where there is no such place
+abbrev pub gone_text : Program → Gone → List ℕ
+gone_text p g = gone_at p g g.placed
+
+-- the entries, in this order; there are no constants and functions that an interpretation has
+abbrev pub history_text : Program → List Gone → List ℕ
+history_text p gs = line (codes "history:") ++ (flat_map (gone_text p) gs ++ line (codes "interpretation:"))
+
+-- the text is that of the removals of the outcome, each once, by number
+pub record IsHistory (words : Cause → Why) (p : Program) (o : Outcome) (text : List ℕ) : Type 0 where
+  pub entries : List Gone
+  pub same : IsPermutation (map (gone_of words p) o.inferred.removals.items) entries
+  pub rising : IsNonDecreasingBy number_of entries
+  pub is : text ≡ history_text p entries
