@@ -8,4 +8,5 @@ pub mod Means
 pub mod Telling
 pub mod Whole
 pub mod Listed
+pub mod Pieces
 pub mod Shared

@@ -1,9 +1,14 @@
 -- What is made once of a program may be shared by threads.
+use Prim.Native.Nat.{ℕ}
+use mathlib.Core.List.{List, [], ◌∷◌}
 use denote.Ref.{NamedLft}
+use denote.Struct.Tuple.{TupleAt}
+use denote.Struct.Field.{shr_ref_field, shr_slice_field, bool-field}
 use denote.Param.Send.{IsSync, sendable}
 use Rattle.std.proofs.Crossing as std
 use Rattle.core.proofs.option.Option.TheSendSync as option
 use Rattle.std.proofs.vec.Vec.TheSendSync as vec
+use Rattle.std.specs.contracts.alloc.Global as heap
 use Rattle.std.proofs.alloc.Global.TheSendSync as global
 use Rattle.bg_base.proofs.pos.Pos.TheSendSync as pos
 use Rattle.bg_base.proofs.ids.CandId.TheSendSync as cand
@@ -121,8 +126,12 @@ passive_field = search (incarnations.the_sync, knot_expr.crosses, parts) depth 6
 atoms_field : IsSync (atoms.the_field).row
 atoms_field = search (knot_form.crosses, knot_expr.crosses, parts) depth 60 fits 20000
 
-prepared_sync : (a : NamedLft) → IsSync (prepared.the_row a)
+pub prepared_sync : (a : NamedLft) → IsSync (prepared.the_row a)
 prepared_sync a = search (block_sync, passive_field, sort.the_sync, atoms_field, parts) depth 60 fits 20000
 
 pub judging_sync : (a : NamedLft) → IsSync (judging.the_row a)
 judging_sync a = search (resolved_sync, prepared_sync, place.the_sync, budget.the_field_sync, parts) depth 60 fits 20000
+
+-- what the closure of a piece captures
+pub captured_sync : (name : List ℕ) (a b c d : NamedLft) → IsSync (TupleAt name ((shr_ref_field a heap.the_row tt).row ∷ (shr_ref_field b (judging.the_row c) tt).row ∷ (shr_slice_field d bool-field.row tt).row ∷ []))
+captured_sync name a b c d = search (judging_sync, parts) depth 60 fits 20000

@@ -1,5 +1,5 @@
 -- What the checker of a program is made of.
-use Rattle.std.specs.Prelude.{◌≡◌, ℕ, ◌<◌, true, false, List, Some, Vec, map, length, slice_get}
+use Rattle.std.specs.Prelude.{◌≡◌, ℕ, ◌+◌, ◌<◌, ◌≤◌, true, false, List, Some, Vec, map, length, slice_get}
 use Rattle.std.specs.declared.alloc.Global.{Global}
 use Rattle.bg_ast.specs.Syntax.{Prog}
 use Rattle.bg_ast.specs.Resolved as r
@@ -24,6 +24,11 @@ use Rattle.bg_houdini.specs.Checks.{TaskFails, TaskPasses, TaskFinds}
 pub record ArePrepared (p : r.Program) (count : ℕ) (ws : List Prepared) : Type 0 where
   pub count_is : length ws ≡ count
   pub each : (k : ℕ) (w : Prepared) → slice_get ws k ≡ Some w → IsPrepared p k w
+
+-- implementations of the program, the first of which has this number, prepared
+pub record ArePreparedFrom (p : r.Program) (first : ℕ) (ws : List Prepared) : Type 0 where
+  pub inside : first + length ws ≤ length p.implementations
+  pub each : (k : ℕ) (w : Prepared) → slice_get ws k ≡ Some w → IsPrepared p (first + k) w
 
 -- what the checker's program means
 abbrev pub program_in : Judging → r.Program

@@ -1,5 +1,6 @@
 pub mod Tasks
 pub mod Checks
 pub mod Checkers
+pub mod Pieces
 pub mod Outcomes
 pub mod Told

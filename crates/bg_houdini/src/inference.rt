@@ -43,6 +43,6 @@ pub fn infer<R: Threads + Sync, G: Gate>(
     let callees = callees_of(alloc, program)?;
     let checker = checker_of(alloc, program, &callees, budget)?;
     let inferred = bg_rounds::infer(rt, alloc, &checker, gate, workers)?;
-    let verdicts = judge_all(alloc, &checker, &inferred.retained)?;
+    let verdicts = judge_all(rt, alloc, &checker, &inferred.retained, workers)?;
     Ok(Outcome { inferred, verdicts })
 }

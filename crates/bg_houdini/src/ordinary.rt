@@ -1,37 +1,109 @@
 //! What is known of the ordinary places under what is retained.
-ghost use Rattle.std.specs.Prelude.{IfOk};
+ghost use Rattle.std.specs.Prelude.{◌≡◌, ◌<◌, ◌≤◌, ◌*◌, ◌++◌, length, take, drop, IfOk, OnOk};
 ghost use Rattle.bg_words.specs.Sets.{has};
-ghost use Rattle.bg_check.specs.Verdicts.{AreRightUnder, judged};
-ghost use Rattle.bg_houdini.specs.Checkers.{IsJudging, program_in};
+ghost use Rattle.bg_check.specs.Verdicts.{AreRightFrom, AreRightUnder, judged};
+ghost use Rattle.bg_houdini.specs.Checkers.{ArePreparedFrom, IsJudging, program_in};
+ghost use Rattle.bg_houdini.specs.Pieces.{IsWith, Joins};
 
 use crate::judging::Judging;
 use crate::sets::truths_of;
-use bg_check::{Judged, judge_ordinary};
+use bg_check::{Judged, Prepared, judge_ordinary};
 use bg_words::CandSet;
 use std::alloc::{AllocError, Global};
+use std::thread;
+use std::thread::Threads;
 
-/// What is known of each ordinary place under a set of candidates, by implementation and place.
-pub fn judge_all(
+/// How many of so many implementations a piece has, where at most this many pieces have all of them.
+fn piece_size(count: usize, pieces: u32) -> usize
+    requires { 0 < pieces }
+    ensures some { 0 < result }
+    ensures enough { count ≤ result * pieces }
+{
+    count.div_ceil(pieces as usize).max(1)
+}
+
+/// What is known of each ordinary place of the implementations that are prepared in a piece, the first of which has this number, under a
+/// set of candidates.
+fn judge_piece(
     alloc: Global,
     judging: &Judging<'_>,
-    set: &CandSet,
+    first: usize,
+    piece: &[Prepared<'_>],
+    set: &[bool],
 ) -> Result<Vec<Vec<Judged>>, AllocError>
-    requires { IsJudging judging.now }
-    ensures { IfOk result (λ made. AreRightUnder (has set.now) judging.now.budget (program_in judging.now) (judged made.items)) }
+    requires judging { IsJudging judging.now }
+    requires piece { ArePreparedFrom (program_in judging.now) first piece.now }
+    ensures { IfOk result (λ made. AreRightFrom judging.now.budget (program_in judging.now) (has set.now) first (take (length piece.now) (drop first (program_in judging.now).implementations)) (judged made.items)) }
 {
-    let truths = truths_of(alloc, set)?;
     let mut made = Vec::new(alloc);
-    for number in 0..judging.prepared.len() {
-        let prepared = &judging.prepared[number];
+    for k in 0..piece.len() {
+        let prepared = &piece[k];
         let one = judge_ordinary(
             alloc,
             judging.program,
             prepared,
-            number,
-            &truths,
+            first + k,
+            set,
             judging.budget,
         )?;
         made.push(one)?;
     }
     Ok(made)
+}
+
+/// Adds what a piece has.
+fn add(
+    made: &mut Vec<Vec<Judged>>,
+    piece: Result<Vec<Vec<Judged>>, AllocError>,
+) -> Result<(), AllocError>
+    ensures { OnOk result (IsWith piece made.old.items made.new.items) }
+{
+    let mut more = piece?;
+    made.append(&mut more)?;
+    Ok(())
+}
+
+/// What the pieces have, one behind the other.
+fn joined(
+    alloc: Global,
+    pieces: Vec<Result<Vec<Vec<Judged>>, AllocError>>,
+) -> Result<Vec<Vec<Judged>>, AllocError>
+    ensures { IfOk result (λ made. Joins pieces.items made.items) }
+{
+    let mut made = Vec::new(alloc);
+    for piece in pieces {
+        add(&mut made, piece)?;
+    }
+    Ok(made)
+}
+
+/// What is known of each ordinary place under a set of candidates, by implementation and place. The implementations are checked in at most
+/// as many pieces as workers, each in a thread of its own.
+pub fn judge_all<R: Threads + Sync>(
+    rt: &R,
+    alloc: Global,
+    judging: &Judging<'_>,
+    set: &CandSet,
+    workers: u32,
+) -> Result<Vec<Vec<Judged>>, AllocError>
+    requires judging { IsJudging judging.now }
+    requires workers { 0 < workers }
+    ensures { IfOk result (λ made. AreRightUnder (has set.now) judging.now.budget (program_in judging.now) (judged made.items)) }
+{
+    let truths = truths_of(alloc, set)?;
+    let known = truths.as_slice();
+    let prepared = judging.prepared.as_slice();
+    let size = piece_size(prepared.len(), workers);
+    let pieces = thread::map_chunks(
+        rt,
+        alloc,
+        prepared,
+        size,
+        &|first, piece|
+            requires judging { IsJudging judging.now }
+            requires piece { ArePreparedFrom (program_in judging.now) first piece.now }
+            ensures { IfOk result (λ made. AreRightFrom judging.entry.now.budget (program_in judging.entry.now) (has known.entry.now) first (take (length piece.entry.now) (drop first (program_in judging.entry.now).implementations)) (judged made.items)) }
+        { judge_piece(alloc, judging, first, piece, known) },
+    )?;
+    joined(alloc, pieces)
 }

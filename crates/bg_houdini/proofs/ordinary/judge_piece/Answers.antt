@@ -1,0 +1,26 @@
+use Rattle.std.proofs.Common.{◌+◌, ◌<◌, List, [], ◌∷◌, Vec, length, take, drop, refl, sym, ap, ◌∙◌, subst, arith}
+use Rattle.std.specs.declared.alloc.Global.{Global}
+use Rattle.std.proofs.lemmas.List.{map-append}
+use Rattle.std.proofs.lemmas.Option.{slice_get_read}
+use Rattle.bg_words.specs.Sets.{has}
+use Rattle.bg_check.specs.declared.verdict.Judged.{Judged}
+use Rattle.bg_check.specs.Verdicts.{AreRightFrom, judged}
+use Rattle.bg_houdini.specs.Checkers.{program_in}
+use Rattle.bg_houdini.proofs.Pieces.{piece_more}
+use Rattle.bg_houdini.proofs.ordinary.judge_piece.Goals as goal
+
+pub judge_ordinary-requires-clause-prepared : goal.judge_ordinary-requires-clause-prepared
+judge_ordinary-requires-clause-prepared c =
+    let ws = c.args.piece.now in
+    let inside : c.loop-k.k < length ws = omega arith in
+    c.requires.piece.each c.loop-k.k c.index-piece-k.result (slice_get_read ws (length ws) c.loop-k.k c.index-piece-k.result refl inside c.index-piece-k.is)
+
+pub loop-k-preserved : goal.loop-k-preserved
+loop-k-preserved c =
+    let j = c.args.judging.now in
+    let p = program_in j in
+    let low : c.loop-k.k < length c.args.piece.now = omega arith in
+    let inside : c.args.first + c.loop-k.k < length p.implementations = let e = c.requires.piece.inside in omega (arith, e, low) in
+    let P : List (List Judged) → Type 0 = AreRightFrom j.budget p (has c.args.set.now) c.args.first (take (c.loop-k.k + 1) (drop c.args.first p.implementations)) in
+    subst P (sym (ap judged c.in_ok-push.ensures.items ∙ map-append (λ (v : Vec Judged Global). v.items) c.loop-k.made.items (c.in_ok-one.one ∷ [])))
+    (piece_more j.budget p (has c.args.set.now) c.args.first c.loop-k.k (judged c.loop-k.made.items) c.in_ok-one.one.items inside c.loop-k.invariant c.in_ok-one.ensures)
