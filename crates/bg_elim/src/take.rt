@@ -10,9 +10,19 @@ use crate::keep::keep;
 use crate::order::Reason;
 use crate::retire::retire;
 use crate::stand::stand;
-use crate::work::{Stand, Taken, Work};
+use crate::work::{Stand, Taken, Tight, Work};
 use bg_rows::{Row, copy, is_false, tighten};
 use std::alloc::{AllocError, Global};
+
+/// The row tightened, and how that stands to the kept rows.
+fn tight_of(alloc: Global, work: &Work, row: &Row) -> Result<Tight, AllocError>
+    ensures tight { IfOk result (λ t. row_of t.row ≡ tightened (row_of row.now)) }
+    ensures stand { IfOk result (λ t. IsStand (work_of work.now) (row_of t.row) t.stand) }
+{
+    let row = tighten(alloc, row)?;
+    let stand = stand(alloc, work, &row)?;
+    Ok(Tight { row, stand })
+}
 
 /// Keeps a row and its tightening, which is paired from then on in the place of one that it
 /// implies. Where a kept row implies it the row is kept alone, and isn't paired.
@@ -20,16 +30,15 @@ fn settle(
     alloc: Global,
     work: &mut Work,
     row: Row,
-    tight: Row,
+    tight: Tight,
     reason: Reason,
-    stand: Stand,
     budget: u32,
 ) -> Result<Taken, AllocError>
     requires indexed { IsIndexed work.old }
     requires room { length (work_of work.old).rows ≤ budget }
-    requires tight { row_of tight ≡ tightened (row_of row) }
+    requires tight { row_of tight.row ≡ tightened (row_of row) }
     requires fine { is_false (row_of row) ≡ false }
-    requires stand { IsStand (work_of work.old) (row_of tight) stand }
+    requires stand { IsStand (work_of work.old) (row_of tight.row) tight.stand }
     ensures indexed { OnOk result (IsIndexed work.new) }
     ensures room { OnOk result (length (work_of work.new).rows ≤ budget) }
     ensures extends { OnOk result (Extends (work_of work.old) (work_of work.new)) }
@@ -40,9 +49,10 @@ fn settle(
     let Some(n) = keep(alloc, work, row, reason, budget)? else {
         return Ok(Taken::Full);
     };
-    if let Stand::Implied(_) = stand {
+    if let Stand::Implied(_) = tight.stand {
         return Ok(Taken::Done);
     }
+    let Tight { row: tight, stand } = tight;
     count_row(&mut work.counts, &tight, stand)?;
     let Some(m) = keep(alloc, work, tight, Reason::Tightened(n), budget)? else {
         return Ok(Taken::Full);
@@ -74,12 +84,11 @@ pub fn take_derived(
     if row.entries.is_empty() {
         return Ok(Taken::Done);
     }
-    let tight = tighten(alloc, &row)?;
-    let stand = stand(alloc, work, &tight)?;
-    if let Stand::Implied(_) = stand {
+    let tight = tight_of(alloc, work, &row)?;
+    if let Stand::Implied(_) = tight.stand {
         return Ok(Taken::Done);
     }
-    settle(alloc, work, row, tight, reason, stand, budget)
+    settle(alloc, work, row, tight, reason, budget)
 }
 
 /// Takes in a given row, which is kept then unless it is always true.
@@ -106,15 +115,6 @@ pub fn take_given(
         return Ok(Taken::Done);
     }
     let row = copy(alloc, given)?;
-    let tight = tighten(alloc, &row)?;
-    let stand = stand(alloc, work, &tight)?;
-    settle(
-        alloc,
-        work,
-        row,
-        tight,
-        Reason::Given(number),
-        stand,
-        budget,
-    )
+    let tight = tight_of(alloc, work, &row)?;
+    settle(alloc, work, row, tight, Reason::Given(number), budget)
 }

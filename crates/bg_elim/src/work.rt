@@ -41,6 +41,13 @@ pub enum Stand {
     Nearer(usize),
 }
 
+/// A row divided by what its coefficients share, and how it stands to the kept rows.
+#[derive(Drop)]
+pub struct Tight {
+    pub row: Row,
+    pub stand: Stand,
+}
+
 /// What pairing two kept rows did.
 #[derive(Clone, Copy)]
 pub enum Paired {
