@@ -222,14 +222,8 @@ fn stmt<'a>(
             let block = take_numbers(walk, 1)?;
             let g = guard(alloc, inside, &mut walk.notes, g)?;
             let ks = invariants(alloc, inside, walk, ks)?;
-            let ss = block_in(
-                alloc,
-                inside,
-                walk,
-                Some(block),
-                &Entry { block, before },
-                ss,
-            )?;
+            let around = Some(block);
+            let ss = block_in(alloc, inside, walk, around, &Entry { block, before }, ss)?;
             Ok(while_node(block, *pos, g, ks, ss))
         }
         TreeStmt::Break(pos, name) => {
