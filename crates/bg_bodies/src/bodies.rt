@@ -24,12 +24,11 @@ use bg_names::walk::{Labelled, Walk, enter, take_numbers};
 use bg_text::{Name, TreeArm, TreeClause, TreeStmt};
 use std::alloc::Global;
 
-/// A block: its number, the labels directly before it, and the loop around its statements.
+/// What is entered with a block: its number, and the labels directly before it.
 #[derive(Clone, Copy)]
-struct Block<'s> {
-    number: u32,
-    labels: &'s [u32],
-    around: Option<u32>,
+struct Entry<'s> {
+    block: u32,
+    before: &'s [u32],
 }
 
 /// An invariant, with the next number.
@@ -210,35 +209,21 @@ fn stmt<'a>(
         }
         TreeStmt::If(_, arms) => {
             let block = take_numbers(walk, arms.len())?;
-            let entered = Block {
-                number: block,
-                labels: before,
-                around,
-            };
-            let arms = arms_in(alloc, inside, walk, &entered, arms)?;
+            let arms = arms_in(alloc, inside, walk, around, &Entry { block, before }, arms)?;
             Ok(if_node(block, arms, Vec::new(alloc)))
         }
         TreeStmt::IfElse(_, arms, ss) => {
             let block = take_numbers(walk, arms.len())?;
-            let entered = Block {
-                number: block,
-                labels: before,
-                around,
-            };
-            let arms = arms_in(alloc, inside, walk, &entered, arms)?;
-            let ss = block_in(alloc, inside, walk, &entered, ss)?;
+            let arms = arms_in(alloc, inside, walk, around, &Entry { block, before }, arms)?;
+            let ss = block_in(alloc, inside, walk, around, &Entry { block, before }, ss)?;
             Ok(if_node(block, arms, ss))
         }
         TreeStmt::While(pos, g, ks, ss) => {
             let block = take_numbers(walk, 1)?;
             let g = guard(alloc, inside, &mut walk.notes, g)?;
             let ks = invariants(alloc, inside, walk, ks)?;
-            let entered = Block {
-                number: block,
-                labels: before,
-                around: Some(block),
-            };
-            let ss = block_in(alloc, inside, walk, &entered, ss)?;
+            let around = Some(block);
+            let ss = block_in(alloc, inside, walk, around, &Entry { block, before }, ss)?;
             Ok(while_node(block, *pos, g, ks, ss))
         }
         TreeStmt::Break(pos, name) => {
@@ -250,48 +235,50 @@ fn stmt<'a>(
     }
 }
 
-/// The statements of a block.
+/// The statements of a block with these labels.
 #[cycle(name_stmt)]
 fn block_in<'a>(
     alloc: Global,
     inside: &Inside<'_, 'a>,
     walk: &mut Walk<'a>,
-    block: &Block,
+    around: Option<u32>,
+    entry: &Entry,
     ss: &'a [TreeStmt],
 ) -> Result<Vec<Stmt>, ResolveError>
-    ensures made { IfOk result (λ made. sts_in made.items ≡ named_sts (inside_of inside.now) walk.old.next (or_zero block.now.around) (entered (stacked block.now.labels.now) block.now.number (blocks_of walk.old.blocks.items)) [] (tree_sts ss.now)) }
-    ensures first { OnOk result (first_of walk.new.notes ≡ better (first_of walk.old.notes) (sts_faults (inside_of inside.now) (ahead_of walk.old) (is_some block.now.around) (stacked block.now.labels.now ++ around_of walk.old.blocks.items) [] (tree_sts ss.now))) }
+    ensures made { IfOk result (λ made. sts_in made.items ≡ named_sts (inside_of inside.now) walk.old.next (or_zero around) (entered (stacked entry.now.before.now) entry.now.block (blocks_of walk.old.blocks.items)) [] (tree_sts ss.now)) }
+    ensures first { OnOk result (first_of walk.new.notes ≡ better (first_of walk.old.notes) (sts_faults (inside_of inside.now) (ahead_of walk.old) (is_some around) (stacked entry.now.before.now ++ around_of walk.old.blocks.items) [] (tree_sts ss.now))) }
     ensures next { OnOk result (walk.new.next ≡ walk.old.next + sts_count (tree_sts ss.now)) }
     ensures ahead { OnOk result (ahead_of walk.new ≡ ahead_of walk.old) }
     ensures blocks { OnOk result (walk.new.blocks.items ≡ walk.old.blocks.items) }
     ensures err { IfErr result (λ e. e ≡ Memory) }
 {
     let outer = walk.blocks.len();
-    enter(&mut walk.blocks, block.labels, block.number)?;
-    let made = stmts(alloc, inside, walk, block.around, ss)?;
+    enter(&mut walk.blocks, entry.before, entry.block)?;
+    let made = stmts(alloc, inside, walk, around, ss)?;
     walk.blocks.truncate(outer);
     Ok(made)
 }
 
-/// The arms of a chain of `else if`, which are one block.
+/// The arms of a chain of `else if` with these labels.
 #[cycle(name_stmt)]
 fn arms_in<'a>(
     alloc: Global,
     inside: &Inside<'_, 'a>,
     walk: &mut Walk<'a>,
-    block: &Block,
+    around: Option<u32>,
+    entry: &Entry,
     arms: &'a [TreeArm],
 ) -> Result<Vec<Arm>, ResolveError>
-    ensures made { IfOk result (λ made. arms_from (map arm_view made.items) ≡ named_arms (inside_of inside.now) walk.old.next (or_zero block.now.around) (entered (stacked block.now.labels.now) block.now.number (blocks_of walk.old.blocks.items)) (tree_arms arms.now)) }
-    ensures first { OnOk result (first_of walk.new.notes ≡ better (first_of walk.old.notes) (arms_faults (inside_of inside.now) (ahead_of walk.old) (is_some block.now.around) (stacked block.now.labels.now ++ around_of walk.old.blocks.items) (tree_arms arms.now))) }
+    ensures made { IfOk result (λ made. arms_from (map arm_view made.items) ≡ named_arms (inside_of inside.now) walk.old.next (or_zero around) (entered (stacked entry.now.before.now) entry.now.block (blocks_of walk.old.blocks.items)) (tree_arms arms.now)) }
+    ensures first { OnOk result (first_of walk.new.notes ≡ better (first_of walk.old.notes) (arms_faults (inside_of inside.now) (ahead_of walk.old) (is_some around) (stacked entry.now.before.now ++ around_of walk.old.blocks.items) (tree_arms arms.now))) }
     ensures next { OnOk result (walk.new.next ≡ walk.old.next + arms_count (tree_arms arms.now)) }
     ensures ahead { OnOk result (ahead_of walk.new ≡ ahead_of walk.old) }
     ensures blocks { OnOk result (walk.new.blocks.items ≡ walk.old.blocks.items) }
     ensures err { IfErr result (λ e. e ≡ Memory) }
 {
     let outer = walk.blocks.len();
-    enter(&mut walk.blocks, block.labels, block.number)?;
-    let made = arms_of(alloc, inside, walk, block.around, arms)?;
+    enter(&mut walk.blocks, entry.before, entry.block)?;
+    let made = arms_of(alloc, inside, walk, around, arms)?;
     walk.blocks.truncate(outer);
     Ok(made)
 }

@@ -1,3 +1,4 @@
 pub mod Joins
 pub mod SpaceForms
 pub mod Noted
+mod Gathered

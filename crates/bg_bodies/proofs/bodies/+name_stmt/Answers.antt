@@ -1,3 +1,4 @@
+-- The proof takes some forty seconds: seven functions are proved at once, and nine of the twelve kinds of statement have goals without an answer.
 use Rattle.std.proofs.Common.{◌+◌, ◌++◌, [], map, sym, ap, ◌∙◌, is_some, arith}
 use Rattle.bg_text.specs.Views as v
 use Rattle.bg_ast.specs.Views.{st_of, sts_in, guard_of, clause_of, arm_view, arms_from}

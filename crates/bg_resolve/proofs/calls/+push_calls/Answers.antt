@@ -1,3 +1,4 @@
+-- The proof takes some nine seconds: the functions of one cycle are proved at once, and the forms of an expression without a list have goals without an answer.
 use Rattle.std.proofs.Common.{◌≡◌, ℕ, List, ◌++◌, flat_map, sym, ap, ◌∙◌, append_assoc, refl}
 use Rattle.std.proofs.lemmas.Result.{on_ok_weaker}
 use Rattle.bg_names.specs.Spaces.{place}

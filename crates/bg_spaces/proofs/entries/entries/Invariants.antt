@@ -1,4 +1,4 @@
-use Rattle.std.proofs.Common.{◌≡◌, ◌+◌, ◌++◌, map, drop}
+use Rattle.std.proofs.Common.{◌≡◌, ◌++◌, map, drop}
 use Rattle.bg_text.specs.Views as v
 use Rattle.bg_spaces.specs.Declarations.{entries_from, no_counts}
 use Rattle.bg_spaces.specs.Views.{entry_of}

@@ -1,4 +1,4 @@
-use Rattle.std.proofs.Common.{◌≡◌, ◌+◌, ◌++◌, map, drop}
+use Rattle.std.proofs.Common.{◌≡◌, ◌++◌, map, drop}
 use Rattle.bg_spaces.specs.Declarations.{text_of}
 use Rattle.bg_names.specs.Views.{id_in}
 use Rattle.bg_spaces.proofs.entries.texts.Given as goal

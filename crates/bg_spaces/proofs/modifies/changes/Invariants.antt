@@ -1,4 +1,4 @@
-use Rattle.std.proofs.Common.{◌≡◌, ◌+◌, ◌++◌, map, flat_map, drop}
+use Rattle.std.proofs.Common.{◌≡◌, ◌++◌, map, flat_map, drop}
 use Rattle.bg_text.specs.Views as v
 use Rattle.bg_spaces.specs.Declarations.{changes_of}
 use Rattle.bg_names.specs.Views.{listed}

@@ -1,10 +1,13 @@
-use Rattle.std.proofs.Common.{◌≡◌, ℕ, ◌+◌, ◌<◌, List, [], ◌∷◌, ◌++◌, map, drop, get_or, length, refl, sym, ap, ◌∙◌, append_assoc, arith}
+use Rattle.std.proofs.Common.{◌≡◌, ℕ, ◌+◌, ◌<◌, List, [], ◌∷◌, ◌++◌, map, drop, get_or, length, refl, sym, ap, ◌∙◌, flat_map, append-nil, append_assoc, arith}
+use Rattle.std.proofs.lemmas.List.{drop_all}
 use Rattle.bg_text.specs.declared.tree.Spec.{Spec}
 use Rattle.bg_text.specs.Trees as t
 use Rattle.bg_text.specs.Views as v
 use Rattle.bg_ast.specs.Resolved as r
+use Rattle.bg_ast.specs.Views.{clause_of}
+use Rattle.bg_names.specs.Faults.{better}
 use Rattle.bg_names.specs.Spaces.{Scope}
-use Rattle.bg_names.specs.Views.{scope_of}
+use Rattle.bg_names.specs.Views.{scope_of, first_of}
 use Rattle.bg_spaces.specs.SpaceViews.{spaces_in}
 use Rattle.bg_spaces.specs.Pieces.{spec_faults_in}
 use Rattle.bg_spaces.specs.Declarations.{named_requires, named_ensures, specs_count}
@@ -58,3 +61,28 @@ loop-spec-preserved c =
       next = more_count _ _ xs c.loop-spec.spec-index c.spec-item.result _ some at known.next done.next;
       first = noted_step (spec_faults_in (spaces_in c.args.sees.now.spaces.now) before after) v.spec_of _ _ xs c.loop-spec.spec-index c.spec-item.result _ some at known.first done.first;
     }
+
+pub returns-clause-before : goal.returns-clause-before
+returns-clause-before c =
+    let made = map clause_of c.loop-spec.made.requires_.items in
+    sym (append-nil made)
+    ∙ ap (λ l. made ++ named_requires (scope_of c.args.sees.now.before) c.loop-spec.next (map v.spec_of l)) (sym (drop_all c.loop-spec.spec-index c.args.specs.now (omega (arith, c.loop-spec-test.false))))
+    ∙ c.loop-spec.invariant.before
+
+pub returns-clause-after : goal.returns-clause-after
+returns-clause-after c =
+    let made = map clause_of c.loop-spec.made.ensures_.items in
+    sym (append-nil made)
+    ∙ ap (λ l. made ++ named_ensures (scope_of c.args.sees.now.after) c.loop-spec.next (map v.spec_of l)) (sym (drop_all c.loop-spec.spec-index c.args.specs.now (omega (arith, c.loop-spec-test.false))))
+    ∙ c.loop-spec.invariant.after
+
+pub returns-clause-next : goal.returns-clause-next
+returns-clause-next c =
+    let none = ap (λ l. specs_count (map v.spec_of l)) (drop_all c.loop-spec.spec-index c.args.specs.now (omega (arith, c.loop-spec-test.false))) in
+    omega (arith, none, c.loop-spec.invariant.next)
+
+pub returns-clause-first : goal.returns-clause-first
+returns-clause-first c =
+    let faults = spec_faults_in (spaces_in c.args.sees.now.spaces.now) (scope_of c.args.sees.now.before) (scope_of c.args.sees.now.after) in
+    ap (λ l. better (first_of c.loop-spec.notes) (flat_map faults (map v.spec_of l))) (sym (drop_all c.loop-spec.spec-index c.args.specs.now (omega (arith, c.loop-spec-test.false))))
+    ∙ c.loop-spec.invariant.first

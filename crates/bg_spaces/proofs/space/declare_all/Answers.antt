@@ -1,3 +1,4 @@
+-- The proof takes some four seconds: six calls may fail, and each of these exits has three clauses.
 use Rattle.std.proofs.Common.{◌≡◌, map, length, sym, ◌∙◌, arith}
 use Rattle.std.proofs.lemmas.List.{length-map}
 use Rattle.std.proofs.lemmas.Result.{err_from_is_err_and}
