@@ -24,6 +24,12 @@ last_or [] y (suc k) x P f h e = absurd (let bad : ⊥ = cc in bad)
 last_or (z ∷ xs) y zero x P f h e = f 0 x e
 last_or (z ∷ xs) y (suc k) x P f h e = last_or xs y k x (λ j. P (suc j)) (λ j w g. f (suc j) w g) h e
 
+pub none_prepared : (p : r.Program) → ArePrepared p 0 []
+none_prepared p = record {
+  count_is = refl;
+  each = λ k w e. let bad : ⊥ = cc in absurd bad;
+}
+
 -- one more implementation
 pub one_prepared : (p : r.Program) (n : ℕ) (ws : List Prepared) (w : Prepared) → ArePrepared p n ws → IsPrepared p n w → ArePrepared p (n + 1) (ws ++ (w ∷ []))
 one_prepared p n ws w h one = record {

@@ -51,8 +51,8 @@ fn judge_piece(
     Ok(made)
 }
 
-/// Adds what a piece has.
-fn add(
+/// Takes in what a piece has.
+fn take_in(
     made: &mut Vec<Vec<Judged>>,
     piece: Result<Vec<Vec<Judged>>, AllocError>,
 ) -> Result<(), AllocError>
@@ -72,13 +72,13 @@ fn joined(
 {
     let mut made = Vec::new(alloc);
     for piece in pieces {
-        add(&mut made, piece)?;
+        take_in(&mut made, piece)?;
     }
     Ok(made)
 }
 
 /// What is known of each ordinary place under a set of candidates, by implementation and place. The implementations are checked in at most
-/// as many pieces as workers, each in a thread of its own.
+/// as many pieces as workers, each in a thread of its own where one can be made.
 pub fn judge_all<R: Threads + Sync>(
     rt: &R,
     alloc: Global,

@@ -4,7 +4,7 @@ use Rattle.bg_houdini.proofs.ordinary.joined.Goals as goal
 
 pub loop-piece-preserved : goal.loop-piece-preserved
 loop-piece-preserved c =
-    joins_more c.args.pieces.items c.in-Some.piece c.loop-piece.piece-iterator.rest.items c.next.new.self.rest.items c.loop-piece.made.items c.add.new.made.items c.in-Some.ensures.steps.0 c.in_ok-add.ensures c.loop-piece.invariant
+    joins_more c.args.pieces.items c.in-Some.piece c.loop-piece.piece-iterator.rest.items c.next.new.self.rest.items c.loop-piece.made.items c.take_in.new.made.items c.in-Some.ensures.steps.0 c.in_ok-take_in.ensures c.loop-piece.invariant
 
 pub returns : goal.returns
 returns c =

@@ -1,4 +1,4 @@
-use Rattle.std.proofs.Common.{◌+◌, ◌<◌, List, [], ◌∷◌, Vec, length, take, drop, refl, sym, ap, ◌∙◌, subst, arith}
+use Rattle.std.proofs.Common.{◌≡◌, ℕ, ◌+◌, ◌<◌, List, [], ◌∷◌, Vec, length, take, drop, refl, sym, ap, ◌∙◌, subst, arith}
 use Rattle.std.specs.declared.alloc.Global.{Global}
 use Rattle.std.proofs.lemmas.List.{map-append}
 use Rattle.std.proofs.lemmas.Option.{slice_get_read}
@@ -24,3 +24,15 @@ loop-k-preserved c =
     let P : List (List Judged) → Type 0 = AreRightFrom j.budget p (has c.args.set.now) c.args.first (take (c.loop-k.k + 1) (drop c.args.first p.implementations)) in
     subst P (sym (ap judged c.in_ok-push.ensures.items ∙ map-append (λ (v : Vec Judged Global). v.items) c.loop-k.made.items (c.in_ok-one.one ∷ [])))
     (piece_more j.budget p (has c.args.set.now) c.args.first c.loop-k.k (judged c.loop-k.made.items) c.in_ok-one.one.items inside c.loop-k.invariant c.in_ok-one.ensures)
+
+pub loop-k-init : goal.loop-k-init
+loop-k-init c =
+    let j = c.args.judging.now in
+    subst (λ (vs : List (Vec Judged Global)). AreRightFrom j.budget (program_in j) (has c.args.set.now) c.args.first [] (judged vs)) (sym c.new-made.ensures.items) tt
+
+pub returns : goal.returns
+returns c =
+    let j = c.args.judging.now in
+    let p = program_in j in
+    let whole : c.loop-k.k ≡ length c.args.piece.now = omega arith in
+    subst (λ (k : ℕ). AreRightFrom j.budget p (has c.args.set.now) c.args.first (take k (drop c.args.first p.implementations)) (judged c.loop-k.made.items)) whole c.loop-k.invariant
