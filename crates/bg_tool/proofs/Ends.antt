@@ -1,11 +1,11 @@
 -- How the top call ends.
-use Rattle.std.proofs.Common.{◌≡◌, ◌⊎◌, inl, inr, ◌<◌, ℕ, suc, List, length, replicate, Option, Some, None, Bool, true, false, refl, sym, ap, ◌∙◌, subst, arith}
+use Rattle.std.proofs.Common.{◌≡◌, ◌⊎◌, inl, inr, ◌<◌, ℕ, suc, List, length, replicate, Option, Some, None, Bool, true, false, if◌then◌else◌, refl, sym, ap, ◌∙◌, subst, arith}
 use Rattle.std.specs.Prelude.{IsTrue, ◌≢◌}
 use Rattle.std.proofs.lemmas.List.{length-replicate}
 use Rattle.bg_io.specs.Causes.{joined_text, IsTextOf, IsTextOver}
 use Rattle.bg_ast.specs.Resolved.{Program}
 use Rattle.bg_front.specs.Programs.{IsProgramOf, IsRefusedBy}
-use Rattle.bg_front.specs.Refusals.{Refusal, TooLong, Bytes, Syntax, Nesting, Names, Types, Later, Implementations, Places, Expanded, is_limit}
+use Rattle.bg_front.specs.Refusals.{Refusal, is_limit}
 use Rattle.bg_tool.specs.declared.asked.Asked.{Asked}
 use Rattle.bg_tool.specs.declared.status.Status.{Status}
 use Rattle.bg_tool.specs.declared.status.Status.TheVariants as status
@@ -22,20 +22,12 @@ refuses : (b : Bool) → IsTrue (is_refused (status_with b))
 refuses true = refl
 refuses false = refl
 
-with_is : (r : Refusal) → refusal_status r ≡ status_with (is_limit r)
-with_is TooLong = refl
-with_is (Bytes p f) = refl
-with_is (Syntax p) = refl
-with_is Nesting = refl
-with_is (Names f) = refl
-with_is (Types ds f) = refl
-with_is (Later p w) = refl
-with_is (Implementations n) = refl
-with_is (Places n) = refl
-with_is Expanded = refl
+by_limit : (b : Bool) → (if b then status.Limit else status.Text) ≡ status_with b
+by_limit true = refl
+by_limit false = refl
 
 pub status_refuses : (r : Refusal) → IsTrue (is_refused (refusal_status r))
-status_refuses r = subst (λ s. IsTrue (is_refused s)) (sym (with_is r)) (refuses (is_limit r))
+status_refuses r = subst (λ s. IsTrue (is_refused s)) (sym (by_limit (is_limit r))) (refuses (is_limit r))
 
 -- what is known of texts
 pub record Known : Type 0 where
