@@ -1,3 +1,4 @@
 pub mod Numbers
 pub mod Finds
 pub mod Plain
+pub mod Flags

@@ -1,5 +1,5 @@
 -- The command line: which words are taken, and what they ask.
-use Rattle.std.specs.Prelude.{◌≡◌, ◌==◌, ◌&&◌, nat_le, ℕ, pos, true, false, if◌then◌else◌, List, [], ◌∷◌, map, codes, Option, Some, None, option_map, unwrap_or, String, string_bytes}
+use Rattle.std.specs.Prelude.{◌≡◌, ◌==◌, ◌&&◌, nat_le, Bool, ℕ, pos, true, false, if◌then◌else◌, List, [], ◌∷◌, map, codes, Option, Some, None, option_map, unwrap_or, String, string_bytes}
 use Rattle.std.specs.Str.Parse.{digits_value, without_leading_plus}
 use Rattle.std.specs.declared.alloc.Global.{Global}
 use Rattle.clap.specs.ValueTests.{accepts}
@@ -8,7 +8,7 @@ use Rattle.clap.specs.Walk.{Row, Rule, Text, all_of, one_of}
 use Rattle.clap.specs.Simple.{App, new_app, new_rule, with_rule, with_subcommand, subcommand_of, subcommand_rows_of}
 use Rattle.clap.specs.declared.parser.matches.ArgMatches.{ArgMatches}
 use Rattle.clap.specs.Lexer.{usize_max}
-use Rattle.clap.specs.declared.builder.action.ArgAction.TheVariants.{Set, Append}
+use Rattle.clap.specs.declared.builder.action.ArgAction.TheVariants.{Set, SetTrue, Append}
 use Rattle.clap.specs.declared.builder.value_parser.ValueParser.TheVariants as parser
 
 -- an option with a number from 1 to 1,000,000; 20,000 where it isn't given
@@ -39,6 +39,10 @@ workers =
       defaults = codes "4" ∷ [];
     }
 
+-- `--history`
+abbrev pub history : Rule
+history = record (new_rule (codes "history")) { long = Some (codes "history"); action = Some SetTrue }
+
 -- one file or more
 abbrev pub files : Rule
 files =
@@ -49,12 +53,12 @@ files =
     }
 
 abbrev pub verify : App
-verify = with_rule (with_rule (with_rule (with_rule (new_app (codes "verify")) workers) nodes) most_rows) files
+verify = with_rule (with_rule (with_rule (with_rule (with_rule (new_app (codes "verify")) workers) nodes) most_rows) history) files
 
 abbrev pub required : App → App
 required a = record a { top = record a.top { subcommand_required = true } }
 
--- the command: `bg verify [--workers N] [--nodes N] [--rows N] FILE..`
+-- the command: `bg verify [--workers N] [--nodes N] [--rows N] [--history] FILE..`
 unfoldable pub cli : App
 cli = with_subcommand (required (new_app (codes "bg"))) verify.top
 
@@ -100,6 +104,21 @@ as_workers n = if nat_le 1 n && nat_le n 16 then n else 4
 abbrev pub workers_of : List Row → ℕ
 workers_of rows = as_workers (number_or 4 (one_of (codes "workers") rows))
 
+abbrev pub is_same : Text → Text → Bool
+is_same [] [] = true
+is_same [] (b ∷ bs) = false
+is_same (a ∷ as') [] = false
+is_same (a ∷ as') (b ∷ bs) = (a == b) && is_same as' bs
+
+-- whether the value of a flag is `true`
+abbrev pub is_set : Option Text → Bool
+is_set None = false
+is_set (Some text) = is_same text (codes "true")
+
+-- whether the history is asked for
+abbrev pub history_of : List Row → Bool
+history_of rows = is_set (one_of (codes "history") rows)
+
 abbrev pub files_in : List Text → List Text
 files_in words = files_of (rows_in words)
 
@@ -111,6 +130,9 @@ most_rows_in words = most_rows_of (rows_in words)
 
 abbrev pub workers_in : List Text → ℕ
 workers_in words = workers_of (rows_in words)
+
+abbrev pub history_in : List Text → Bool
+history_in words = history_of (rows_in words)
 
 -- a word that isn't empty and doesn't begin with a dash
 abbrev pub Plain : Text → Type 0

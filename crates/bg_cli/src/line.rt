@@ -3,7 +3,7 @@ ghost use Rattle.std.specs.Prelude.{◌≡◌, ◌≢◌, ◌<◌, ◌≤◌, If
 ghost use Rattle.clap.specs.Walk.{rule_of};
 ghost use Rattle.clap.specs.Words.{app_of, found_of, kind_of, rows_of};
 ghost use Rattle.bg_cli.specs.declared.line.LineError.TheVariants.{Memory};
-ghost use Rattle.bg_cli.specs.Cli.{cli, workers, budget, files, texts_of, IsTaken, files_in, workers_in, nodes_in, most_rows_in, files_of, workers_of, as_workers, nodes_of, most_rows_of, rows_for};
+ghost use Rattle.bg_cli.specs.Cli.{cli, workers, budget, files, texts_of, IsTaken, files_in, workers_in, nodes_in, most_rows_in, files_of, workers_of, as_workers, nodes_of, most_rows_of, history, history_of, history_in, rows_for};
 
 use clap::error::ErrorKind;
 use clap::{Arg, ArgAction, ArgMatches, Command, Error, value_parser};
@@ -19,13 +19,14 @@ pub const ROWS: u32 = 20_000;
 pub const WORKERS: u32 = 4;
 
 /// What a command line asks: the files in order, how many workers check places of candidates, how many nodes of a certificate's tree
-/// may count, and the most rows that an elimination keeps.
+/// may count, and the most rows that an elimination keeps; and whether the history of the candidates that went is asked for.
 #[derive(Drop)]
 pub struct Line<'a> {
     pub files: Vec<&'a str>,
     pub workers: u32,
     pub nodes: u32,
     pub rows: u32,
+    pub history: bool,
 }
 
 /// Why nothing is asked.
@@ -61,6 +62,16 @@ fn workers<'a>(alloc: Global) -> Arg<'a>
         .default_value("4")
 }
 
+/// The flag `--history`.
+fn history<'a>(alloc: Global) -> Arg<'a>
+    ensures rule { rule_of result ≡ history }
+    ensures own { result.global ≡ false }
+{
+    Arg::new(alloc, "history")
+        .long("history")
+        .action(ArgAction::SetTrue)
+}
+
 /// The files, of which there is one at least.
 fn files<'a>(alloc: Global) -> Arg<'a>
     ensures rule { rule_of result ≡ files }
@@ -72,7 +83,7 @@ fn files<'a>(alloc: Global) -> Arg<'a>
         .action(ArgAction::Append)
 }
 
-/// The command `bg verify [--workers N] [--nodes N] [--rows N] FILE..`.
+/// The command `bg verify [--workers N] [--nodes N] [--rows N] [--history] FILE..`.
 pub fn cli<'a>(alloc: Global) -> Result<Command<'a>, AllocError>
     ensures { IfOk result (λ c. app_of c ≡ cli) }
 {
@@ -80,6 +91,7 @@ pub fn cli<'a>(alloc: Global) -> Result<Command<'a>, AllocError>
         .arg(workers(alloc))?
         .arg(budget(alloc, "nodes"))?
         .arg(budget(alloc, "rows"))?
+        .arg(history(alloc))?
         .arg(files(alloc))?;
     Command::new(alloc, "bg")
         .subcommand_required(true)
@@ -137,6 +149,13 @@ fn workers_of(verify: &ArgMatches<'_>) -> u32
     as_workers(verify.get_one::<u32>("workers").unwrap_or(WORKERS))
 }
 
+/// Whether the matches of `verify` ask for the history.
+fn history_of(verify: &ArgMatches<'_>) -> bool
+    ensures { result ≡ history_of (rows_of (found_of verify.now)) }
+{
+    verify.get_one::<bool>("history").unwrap_or(false)
+}
+
 /// What the matches ask.
 fn line_of<'a>(alloc: Global, matches: &ArgMatches<'a>) -> Result<Line<'a>, AllocError>
     ensures files { IfOk result (λ line. map (λ file. file.now) line.files.items ≡ files_of (rows_for matches.now)) }
@@ -144,6 +163,7 @@ fn line_of<'a>(alloc: Global, matches: &ArgMatches<'a>) -> Result<Line<'a>, Allo
     ensures some { IfOk result (λ line. (0 < line.workers) × (line.workers ≤ 16)) }
     ensures nodes { IfOk result (λ line. line.nodes ≡ nodes_of (rows_for matches.now)) }
     ensures rows { IfOk result (λ line. line.rows ≡ most_rows_of (rows_for matches.now)) }
+    ensures history { IfOk result (λ line. line.history ≡ history_of (rows_for matches.now)) }
 {
     let Some((_, verify)) = matches.subcommand() else {
         return Ok(Line {
@@ -151,6 +171,7 @@ fn line_of<'a>(alloc: Global, matches: &ArgMatches<'a>) -> Result<Line<'a>, Allo
             workers: WORKERS,
             nodes: NODES,
             rows: ROWS,
+            history: false,
         });
     };
     Ok(Line {
@@ -158,6 +179,7 @@ fn line_of<'a>(alloc: Global, matches: &ArgMatches<'a>) -> Result<Line<'a>, Allo
         workers: workers_of(verify),
         nodes: nodes_of(verify),
         rows: most_rows_of(verify),
+        history: history_of(verify),
     })
 }
 
@@ -172,6 +194,7 @@ pub fn read_line<'a>(alloc: Global, words: &'a [String]) -> Result<Line<'a>, Lin
     ensures some { IfOk result (λ line. (0 < line.workers) × (line.workers ≤ 16)) }
     ensures nodes { IfOk result (λ line. line.nodes ≡ nodes_in (texts_of words.now)) }
     ensures rows { IfOk result (λ line. line.rows ≡ most_rows_in (texts_of words.now)) }
+    ensures history { IfOk result (λ line. line.history ≡ history_in (texts_of words.now)) }
     ensures refused { IsErrOf result LineError.Usage → IsTaken (texts_of words.now) → ⊥ }
 {
     let matches = match cli(alloc)?.try_get_matches_from(words) {

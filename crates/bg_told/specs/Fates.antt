@@ -1,9 +1,8 @@
 -- How the code finds what became of each candidate.
-use Rattle.std.specs.Prelude.{ℕ, Bool, false, not, nat_lt, ◌==◌, if◌then◌else◌, List, Option, Some, None, get_or, count_by}
+use Rattle.std.specs.Prelude.{ℕ, Bool, false, not, ◌==◌, if◌then◌else◌, List, Option, Some, None, get_or, count_by}
 use Rattle.std.specs.Borrow.{Bor}
 use Rattle.std.specs.List.{list_any}
 use Rattle.bg_text.specs.Views.{option_of}
-use Rattle.bg_base.specs.declared.ids.CandId.{CandId}
 use Rattle.bg_ast.specs.Views.{candidate_of}
 use Rattle.bg_places.specs.declared.place.Place.{Place}
 use Rattle.bg_rounds.specs.declared.keeper.Removal.{Removal}

@@ -1,12 +1,12 @@
 -- How the top call ends.
-use Rattle.std.proofs.Common.{◌≡◌, ◌⊎◌, inl, inr, ◌<◌, ℕ, suc, List, length, replicate, Option, Some, None, Bool, true, false, refl, sym, ap, ◌∙◌, subst, arith}
+use Rattle.std.proofs.Common.{◌≡◌, ◌⊎◌, inl, inr, ◌<◌, ℕ, suc, List, length, replicate, Option, Some, None, Bool, true, false, if◌then◌else◌, refl, sym, ap, ◌∙◌, subst, arith}
 use Rattle.std.specs.Prelude.{IsTrue, ◌≢◌}
 use Rattle.std.proofs.lemmas.List.{length-replicate}
 use Rattle.bg_io.specs.Causes.{joined_text, IsTextOf, IsTextOver}
 use Rattle.bg_ast.specs.Resolved.{Program}
 use Rattle.bg_front.specs.Programs.{IsProgramOf, IsRefusedBy}
-use Rattle.bg_front.specs.Refusals.{Refusal, TooLong, Bytes, Syntax, Nesting, Names, Types, Later, Implementations, Places, Expanded, is_limit}
-use Rattle.bg_tree.specs.declared.outcome.Budget.{Budget}
+use Rattle.bg_front.specs.Refusals.{Refusal, is_limit}
+use Rattle.bg_tool.specs.declared.asked.Asked.{Asked}
 use Rattle.bg_tool.specs.declared.status.Status.{Status}
 use Rattle.bg_tool.specs.declared.status.Status.TheVariants as status
 use Rattle.bg_tool.specs.Statuses.{refusal_status, is_report, is_refused}
@@ -22,20 +22,12 @@ refuses : (b : Bool) → IsTrue (is_refused (status_with b))
 refuses true = refl
 refuses false = refl
 
-with_is : (r : Refusal) → refusal_status r ≡ status_with (is_limit r)
-with_is TooLong = refl
-with_is (Bytes p f) = refl
-with_is (Syntax p) = refl
-with_is Nesting = refl
-with_is (Names f) = refl
-with_is (Types ds f) = refl
-with_is (Later p w) = refl
-with_is (Implementations n) = refl
-with_is (Places n) = refl
-with_is Expanded = refl
+by_limit : (b : Bool) → (if b then status.Limit else status.Text) ≡ status_with b
+by_limit true = refl
+by_limit false = refl
 
 pub status_refuses : (r : Refusal) → IsTrue (is_refused (refusal_status r))
-status_refuses r = subst (λ s. IsTrue (is_refused s)) (sym (with_is r)) (refuses (is_limit r))
+status_refuses r = subst (λ s. IsTrue (is_refused s)) (sym (by_limit (is_limit r))) (refuses (is_limit r))
 
 -- what is known of texts
 pub record Known : Type 0 where
@@ -54,17 +46,17 @@ long_text None names n h =
 long_text (Some held) names n h = (joined_text held names, (refl, h))
 
 -- a report is true of the bytes
-pub wrote_true : (budget : Budget) (contents : Option (List ℕ → List ℕ)) (names : List (List ℕ)) (ends : Status) (before now : Option (List ℕ)) → Wrote (IsReport budget) contents names ends before now → Wrote IsTrueText contents names ends before now
-wrote_true budget contents names ends before now w =
+pub wrote_true : (asked : Asked) (contents : Option (List ℕ → List ℕ)) (names : List (List ℕ)) (ends : Status) (before now : Option (List ℕ)) → Wrote (IsReport asked) contents names ends before now → Wrote (IsTrueText asked.history) contents names ends before now
+wrote_true asked contents names ends before now w =
     record {
       text = w.text;
       may = record { bytes = w.may.bytes; read = w.may.read; report = w.may.report.sound };
       written = w.written;
     }
 
-pub wrote_some : (budget : Budget) (contents : Option (List ℕ → List ℕ)) (names : List (List ℕ)) (bytes : List ℕ) (before now : Option (List ℕ)) → IsTextOf contents names bytes → ReportedSome budget bytes before now → WroteSome budget contents names before now
-wrote_some budget contents names bytes before now r (inl e) = inl e
-wrote_some budget contents names bytes before now r (inr f) =
+pub wrote_some : (asked : Asked) (contents : Option (List ℕ → List ℕ)) (names : List (List ℕ)) (bytes : List ℕ) (before now : Option (List ℕ)) → IsTextOf contents names bytes → ReportedSome asked bytes before now → WroteSome asked contents names before now
+wrote_some asked contents names bytes before now r (inl e) = inl e
+wrote_some asked contents names bytes before now r (inr f) =
     inr (record { ends = f.ends; text = f.text; may = record { bytes = bytes; read = r; report = f.report }; count = f.count; written = f.written })
 
 held_is : (contents : Option (List ℕ → List ℕ)) (held : List ℕ → List ℕ) (names : List (List ℕ)) (bytes : List ℕ) → contents ≡ Some held → IsTextOf contents names bytes → bytes ≡ joined_text held names
@@ -98,12 +90,12 @@ judges k contents names bytes ends read s = record {
   none = λ held told n. said_none bytes ends s (λ p t. n p (subst (λ bs. IsProgramOf bs p) (held_is contents held names bytes told read) t));
 }
 
-module _ {A B : Type 0} (budget : Budget) (bytes : List ℕ) (before now lines line : Option (List ℕ)) where
+module _ {A B : Type 0} (asked : Asked) (bytes : List ℕ) (before now lines line : Option (List ℕ)) where
   -- what the answer over a text within the limit says of it
-  pub said : (ends : Status) → (IsTrue (is_report ends) → Reported budget bytes ends before now) → (IsTrue (is_refused ends) → RefusedFor bytes ends lines line) → (ends ≡ status.Write → A ⊎ B) → (A → ⊥) → (B → ⊥) → (ends ≢ status.Usage) × (ends ≢ status.Read) → Said bytes ends
-  said status.Verified r f w a b o = let q = r refl in Spelled q.report.sound.program q.report.sound.spelled refl
-  said status.Refuted r f w a b o = let q = r refl in Spelled q.report.sound.program q.report.sound.spelled refl
-  said status.Unknown r f w a b o = let q = r refl in Spelled q.report.sound.program q.report.sound.spelled refl
+  pub said : (ends : Status) → (IsTrue (is_report ends) → Reported asked bytes ends before now) → (IsTrue (is_refused ends) → RefusedFor bytes ends lines line) → (ends ≡ status.Write → A ⊎ B) → (A → ⊥) → (B → ⊥) → (ends ≢ status.Usage) × (ends ≢ status.Read) → Said bytes ends
+  said status.Verified r f w a b o = let q = r refl in Spelled q.report.sound.report.program q.report.sound.report.spelled refl
+  said status.Refuted r f w a b o = let q = r refl in Spelled q.report.sound.report.program q.report.sound.report.spelled refl
+  said status.Unknown r f w a b o = let q = r refl in Spelled q.report.sound.report.program q.report.sound.report.spelled refl
   said status.Text r f w a b o = let q = f refl in Denied q.reason q.refused q.gives
   said status.Limit r f w a b o = let q = f refl in Denied q.reason q.refused q.gives
   said status.Usage r f w a b o = absurd (o.0 refl)

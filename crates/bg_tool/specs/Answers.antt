@@ -1,5 +1,5 @@
 -- What the top call claims of how it ends.
-use Rattle.std.specs.Prelude.{◌≡◌, ◌+◌, ◌⊎◌, ◌<◌, ◌≤◌, ℕ, List, ◌++◌, Option, Some, codes, take, slice_get, IsTrue}
+use Rattle.std.specs.Prelude.{◌≡◌, ◌+◌, ◌⊎◌, ◌<◌, ◌≤◌, ℕ, Bool, true, false, List, [], ◌++◌, Option, Some, codes, take, slice_get, IsTrue}
 use Rattle.bg_io.specs.Causes.{joined, counted, joined_text, IsTextOf}
 use Rattle.bg_ast.specs.Resolved.{Program}
 use Rattle.bg_ast.specs.Meaning.{meaning_of}
@@ -11,16 +11,23 @@ use Rattle.bg_houdini.specs.Outcomes.{IsTrueOutcome}
 use Rattle.bg_houdini.specs.Told.{outcome_of}
 use Rattle.bg_sound.specs.Told.{Outcome}
 use Rattle.bg_told.specs.Views.{why_of}
+use Rattle.bg_told.specs.History.{IsHistory}
+use Rattle.bg_told.specs.Report.{result_text}
+use Rattle.bg_tool.specs.declared.asked.Asked.{Asked}
 use Rattle.bg_tool.specs.declared.status.Status.{Status}
 use Rattle.bg_tool.specs.declared.status.Status.TheVariants as status
 use Rattle.bg_tool.specs.Statuses.{refusal_status, is_report, is_refused}
 use Rattle.bg_tool.specs.Reports.{IsTrueText, MayWrite}
-use Rattle.bg_cli.specs.Cli.{IsTaken, files_in, nodes_in, most_rows_in}
+use Rattle.bg_cli.specs.Cli.{IsTaken, files_in, nodes_in, most_rows_in, history_in}
 use Rattle.bg_tree.specs.declared.outcome.Budget.{Budget}
 
 -- what a search may use up, as the words say
 abbrev pub budget_in : List (List ℕ) → Budget
 budget_in words = record { nodes = nodes_in words; rows = most_rows_in words }
+
+-- what is asked of a report, as the words say
+abbrev pub asked_in : List (List ℕ) → Asked
+asked_in words = record { budget = budget_in words; history = history_in words }
 
 -- a number of workers that may check
 abbrev pub AreSome : ℕ → Type 0
@@ -35,27 +42,36 @@ pub record IsAccounted (budget : Budget) (p : Program) (o : Outcome) : Type 0 wh
   pub right : IsTrueOutcome budget p inferred
   pub told : o ≡ outcome_of why_of (meaning_of p) inferred
 
--- the text is true of the program that the bytes spell, and what it tells is accounted for
-pub record IsReport (budget : Budget) (bytes : List ℕ) (ends : Status) (text : List ℕ) : Type 0 where
-  pub sound : IsTrueText bytes ends text
-  pub accounted : IsAccounted budget sound.program sound.outcome
+-- the report of an outcome, and behind it its history where this is asked for, else nothing
+pub record IsTextFor (history : Bool) (p : Program) (o : houdini.Outcome) (text : List ℕ) : Type 0 where
+  pub behind : List ℕ
+  pub is : text ≡ result_text p (outcome_of why_of (meaning_of p) o) ++ behind
+  pub none : history ≡ false → behind ≡ []
+  pub all : history ≡ true → IsHistory why_of p o behind
+
+-- the text is true of the program that the bytes spell; what its report tells is accounted for, and what stands behind the report, where
+-- it is asked for, is the history of the same outcome
+pub record IsReport (asked : Asked) (bytes : List ℕ) (ends : Status) (text : List ℕ) : Type 0 where
+  pub sound : IsTrueText asked.history bytes ends text
+  pub accounted : IsAccounted asked.budget sound.report.program sound.report.outcome
+  pub all : asked.history ≡ true → IsHistory why_of sound.report.program accounted.inferred sound.behind
 
 -- a report was written, whole
-pub record Reported (budget : Budget) (bytes : List ℕ) (ends : Status) (before now : Option (List ℕ)) : Type 0 where
+pub record Reported (asked : Asked) (bytes : List ℕ) (ends : Status) (before now : Option (List ℕ)) : Type 0 where
   pub text : List ℕ
-  pub report : IsReport budget bytes ends text
+  pub report : IsReport asked bytes ends text
   pub written : now ≡ joined before text
 
 -- nothing was written, or the first bytes of a report
-pub record ReportedFront (budget : Budget) (bytes : List ℕ) (before now : Option (List ℕ)) : Type 0 where
+pub record ReportedFront (asked : Asked) (bytes : List ℕ) (before now : Option (List ℕ)) : Type 0 where
   pub ends : Status
   pub text : List ℕ
-  pub report : IsReport budget bytes ends text
+  pub report : IsReport asked bytes ends text
   pub count : ℕ
   pub written : now ≡ joined before (take count text)
 
-abbrev pub ReportedSome : Budget → List ℕ → Option (List ℕ) → Option (List ℕ) → Type 0
-ReportedSome budget bytes before now = (now ≡ before) ⊎ ReportedFront budget bytes before now
+abbrev pub ReportedSome : Asked → List ℕ → Option (List ℕ) → Option (List ℕ) → Type 0
+ReportedSome asked bytes before now = (now ≡ before) ⊎ ReportedFront asked bytes before now
 
 -- the bytes are refused for a reason that gives the status, and its line was written, whole
 pub record RefusedFor (bytes : List ℕ) (ends : Status) (before now : Option (List ℕ)) : Type 0 where
@@ -65,15 +81,15 @@ pub record RefusedFor (bytes : List ℕ) (ends : Status) (before now : Option (L
   pub written : now ≡ joined before (line_of reason)
 
 -- nothing was written, or the first bytes of a text that the call may write when it ends with a report
-pub record WroteFrontOf (budget : Budget) (contents : Option (List ℕ → List ℕ)) (names : List (List ℕ)) (before now : Option (List ℕ)) : Type 0 where
+pub record WroteFrontOf (asked : Asked) (contents : Option (List ℕ → List ℕ)) (names : List (List ℕ)) (before now : Option (List ℕ)) : Type 0 where
   pub ends : Status
   pub text : List ℕ
-  pub may : MayWrite (IsReport budget) contents names ends text
+  pub may : MayWrite (IsReport asked) contents names ends text
   pub count : ℕ
   pub written : now ≡ joined before (take count text)
 
-abbrev pub WroteSome : Budget → Option (List ℕ → List ℕ) → List (List ℕ) → Option (List ℕ) → Option (List ℕ) → Type 0
-WroteSome budget contents names before now = (now ≡ before) ⊎ WroteFrontOf budget contents names before now
+abbrev pub WroteSome : Asked → Option (List ℕ → List ℕ) → List (List ℕ) → Option (List ℕ) → Option (List ℕ) → Type 0
+WroteSome asked contents names before now = (now ≡ before) ⊎ WroteFrontOf asked contents names before now
 
 -- the text of these files is refused for a reason that gives the status, and its line was written, whole
 pub record Refuses (contents : Option (List ℕ → List ℕ)) (names : List (List ℕ)) (ends : Status) (before now : Option (List ℕ)) : Type 0 where

@@ -1,5 +1,5 @@
 -- A report that is true of what the files hold.
-use Rattle.std.specs.Prelude.{◌≡◌, ℕ, List, Option}
+use Rattle.std.specs.Prelude.{◌≡◌, ℕ, Bool, false, List, [], ◌++◌, Option}
 use Rattle.bg_io.specs.Causes.{joined, IsTextOf}
 use Rattle.bg_front.specs.Programs.{IsProgramOf}
 use Rattle.bg_sound.specs.Report.{IsTrueReport}
@@ -7,9 +7,14 @@ use Rattle.bg_told.specs.Report.{result_text}
 use Rattle.bg_tool.specs.declared.status.Status.{Status}
 use Rattle.bg_tool.specs.Statuses.{number_of}
 
--- the text tells what is true of the program that the bytes spell, and the status is that of what it tells
-abbrev pub IsTrueText : List ℕ → Status → List ℕ → Type 0
-IsTrueText bytes ends text = IsTrueReport IsProgramOf result_text bytes text (number_of ends)
+-- the text begins with a report that tells what is true of the program that the bytes spell, and the status is that of what it tells;
+-- behind the report there is nothing where no history is asked for
+pub record IsTrueText (history : Bool) (bytes : List ℕ) (ends : Status) (text : List ℕ) : Type 0 where
+  pub front : List ℕ
+  pub report : IsTrueReport IsProgramOf result_text bytes front (number_of ends)
+  pub behind : List ℕ
+  pub is : text ≡ front ++ behind
+  pub none : history ≡ false → behind ≡ []
 
 -- a text that the call may write when it ends so, where it has to be such a text of the bytes
 pub record MayWrite (IsText : List ℕ → Status → List ℕ → Type 0) (contents : Option (List ℕ → List ℕ)) (names : List (List ℕ)) (ends : Status) (text : List ℕ) : Type 0 where

@@ -1,7 +1,7 @@
 //! The top call.
 ghost use Rattle.std.specs.Prelude.{◌≡◌, ◌⊎◌, ◌<◌, ◌≤◌, ℕ, true, List, ◌++◌, IsTrue, IfOk, map, string_bytes, codes, length, ◌≢◌};
 ghost use Rattle.bg_io.specs.Causes.{Rose, joined, IsTextOf, IsTextOver};
-ghost use Rattle.bg_cli.specs.Cli.{IsTaken, texts_of, files_in};
+ghost use Rattle.bg_cli.specs.Cli.{IsTaken, texts_of, files_in, history_in};
 ghost use Rattle.bg_ast.specs.Views.{program_of};
 ghost use Rattle.bg_ast.specs.Meaning.{meaning_of};
 ghost use Rattle.bg_sense.specs.Typed.{IsTyped};
@@ -13,8 +13,10 @@ ghost use Rattle.bg_front.specs.Lines.{line_of};
 ghost use Rattle.bg_told.specs.Views.{status_in};
 ghost use Rattle.bg_tool.specs.Statuses.{number_of, refusal_status, is_report, is_refused, is_refusal};
 ghost use Rattle.bg_tool.specs.Reports.{IsTrueText, Wrote};
-ghost use Rattle.bg_tool.specs.Answers.{budget_in, AreSome, Reported, ReportedSome, RefusedFor, IsReport, WroteSome, Refuses, usage_line, NamesFile, Judges, Completes};
+ghost use Rattle.bg_tool.specs.Answers.{asked_in, AreSome, Reported, ReportedSome, RefusedFor, IsReport, WroteSome, Refuses, usage_line, NamesFile, Judges, Completes};
 
+use crate::asked::Asked;
+use crate::report::text_of;
 use crate::status::Status;
 use bg_ast::resolved::Resolved;
 use bg_claims::Gate;
@@ -27,20 +29,20 @@ use bg_houdini::infer;
 use bg_houdini::laws::true_outcomes_are_sound;
 use bg_io::{Files, ReadError, Sink, read_all, write_all};
 use bg_judged::laws::judged_programs_are_over_scalars;
-use bg_told::{Word, result_text, word_of};
+use bg_told::{Word, word_of};
 use bg_tree::Budget;
 use std::alloc::{AllocError, Global};
 use std::thread::Threads;
 
-/// How programs are judged: the threads and the gate of the workers that check places of candidates, how many these are, and what a
-/// search may use up.
+/// How programs are judged: the threads and the gate of the workers that check places of candidates, how many these are, and what
+/// is asked.
 #[derive(Drop)]
 struct Manner<'a, R, G> {
     alloc: Global,
     rt: &'a R,
     gate: &'a G,
     workers: u32,
-    budget: Budget,
+    asked: Asked,
 }
 
 /// The status that verdicts give.
@@ -64,19 +66,13 @@ fn report_of<R: Threads + Sync, G: Gate>(
     requires typed { IsTyped (meaning_of (program_of program.now)) }
     requires scalars { is_over_scalars true (meaning_of (program_of program.now)) ≡ true }
     requires resolved { IsResolved (meaning_of (program_of program.now)) }
-    ensures report { IfOk result (λ r. (bytes : List ℕ) → IsProgramOf bytes (program_of program.now) → IsReport how.now.budget bytes r.0 r.1.items) }
+    ensures report { IfOk result (λ r. (bytes : List ℕ) → IsProgramOf bytes (program_of program.now) → IsReport how.now.asked bytes r.0 r.1.items) }
     ensures ends { IfOk result (λ r. IsTrue (is_report r.0)) }
 {
-    let outcome = infer(
-        how.rt,
-        how.alloc,
-        program,
-        how.budget,
-        how.workers,
-        how.gate,
-    )?;
+    let budget = how.asked.budget;
+    let outcome = infer(how.rt, how.alloc, program, budget, how.workers, how.gate)?;
     true_outcomes_are_sound();
-    let text = result_text(how.alloc, program, &outcome)?;
+    let text = text_of(how.alloc, program, &outcome, how.asked.history)?;
     Ok((status_of(word_of(&outcome)), text))
 }
 
@@ -154,11 +150,11 @@ fn verify<R: Threads + Sync, G: Gate, S: Sink, E: Sink>(
     err: &mut E,
 ) -> Status
     requires { AreSome how.now.workers }
-    ensures report { IsTrue (is_report result) → Reported how.now.budget bytes.now result (S.written out.old) (S.written out.new) }
+    ensures report { IsTrue (is_report result) → Reported how.now.asked bytes.now result (S.written out.old) (S.written out.new) }
     ensures quiet { (IsTrue (is_report result) ⊎ (result ≡ Status.Memory)) → E.written err.new ≡ E.written err.old }
     ensures refused { IsTrue (is_refused result) → RefusedFor bytes.now result (E.written err.old) (E.written err.new) }
     ensures still { IsTrue (is_refused result) → S.written out.new ≡ S.written out.old }
-    ensures part { ((result ≡ Status.Write) ⊎ (result ≡ Status.Memory)) → ReportedSome how.now.budget bytes.now (S.written out.old) (S.written out.new) }
+    ensures part { ((result ≡ Status.Write) ⊎ (result ≡ Status.Memory)) → ReportedSome how.now.asked bytes.now (S.written out.old) (S.written out.new) }
     ensures cause { result ≡ Status.Write → Rose (S.faults out.old) (S.faults out.new) ⊎ Rose (E.faults err.old) (E.faults err.new) }
     ensures others { (result ≢ Status.Usage) × (result ≢ Status.Read) }
 {
@@ -188,14 +184,14 @@ fn judge<R: Threads + Sync, G: Gate, F: Files, S: Sink, E: Sink>(
     err: &mut E,
 ) -> Status
     requires { AreSome how.now.workers }
-    ensures report { IsTrue (is_report result) → Wrote (IsReport how.now.budget) (F.contents files.old) (map string_bytes names.now) result (S.written out.old) (S.written out.new) }
+    ensures report { IsTrue (is_report result) → Wrote (IsReport how.now.asked) (F.contents files.old) (map string_bytes names.now) result (S.written out.old) (S.written out.new) }
     ensures quiet { (IsTrue (is_report result) ⊎ (result ≡ Status.Memory)) → E.written err.new ≡ E.written err.old }
     ensures refused { IsTrue (is_refused result) → Refuses (F.contents files.old) (map string_bytes names.now) result (E.written err.old) (E.written err.new) }
     ensures read { result ≡ Status.Read → Rose (F.faults files.old) (F.faults files.new) }
     ensures write { result ≡ Status.Write → Rose (S.faults out.old) (S.faults out.new) ⊎ Rose (E.faults err.old) (E.faults err.new) }
     ensures file { result ≡ Status.Read → NamesFile (map string_bytes names.now) (F.starts files.old) (F.starts files.new) (E.written err.old) (E.written err.new) }
     ensures still { IsTrue (is_refusal result) → S.written out.new ≡ S.written out.old }
-    ensures prefix { ((result ≡ Status.Write) ⊎ (result ≡ Status.Memory)) → WroteSome how.now.budget (F.contents files.old) (map string_bytes names.now) (S.written out.old) (S.written out.new) }
+    ensures prefix { ((result ≡ Status.Write) ⊎ (result ≡ Status.Memory)) → WroteSome how.now.asked (F.contents files.old) (map string_bytes names.now) (S.written out.old) (S.written out.new) }
     ensures complete { (Rose (F.faults files.old) (F.faults files.new) → ⊥) → (Rose (S.faults out.old) (S.faults out.new) → ⊥) → (Rose (E.faults err.old) (E.faults err.new) → ⊥) → Judges (F.contents files.old) (map string_bytes names.now) result }
     ensures words { result ≢ Status.Usage }
 {
@@ -208,13 +204,17 @@ fn judge<R: Threads + Sync, G: Gate, F: Files, S: Sink, E: Sink>(
     }
 }
 
-/// What a search may use up, as the words say.
-fn budget_of(line: &Line<'_>) -> Budget
-    ensures { result ≡ record { nodes = line.now.nodes; rows = line.now.rows } }
+/// What is asked, as the words say.
+fn asked_by(line: &Line<'_>) -> Asked
+    ensures { result ≡ record { budget = record { nodes = line.now.nodes; rows = line.now.rows }; history = line.now.history } }
 {
-    Budget {
+    let budget = Budget {
         nodes: line.nodes,
         rows: line.rows,
+    };
+    Asked {
+        budget,
+        history: line.history,
     }
 }
 
@@ -234,7 +234,7 @@ fn names_of(alloc: Global, files: &[&str]) -> Result<Vec<String>, AllocError>
 /// execution of any implementation fails (`bg_sound`'s law `status_zero_is_safe`); two reports of one program agree where they should
 /// (`greatest_sets_agree`, `settled_words_agree`); and its bytes decide what it tells of sets and implementations (`bg_told`'s laws).
 /// The first word is the program's own name. As many workers as the words say check places of candidates in threads, and pass the gate
-/// before each check.
+/// before each check. Where the history is asked for, it stands behind the report.
 pub fn run<R: AllocGlobal + Threads + Sync, F: Files, S: Sink, E: Sink, G: Gate>(
     rt: &R,
     words: &[String],
@@ -244,8 +244,8 @@ pub fn run<R: AllocGlobal + Threads + Sync, F: Files, S: Sink, E: Sink, G: Gate>
     gate: &G,
 ) -> Status
     ensures taken { (IsTrue (is_report result) ⊎ (IsTrue (is_refused result) ⊎ (result ≡ Status.Read))) → IsTaken (texts_of words.now) }
-    ensures sound { IsTrue (is_report result) → Wrote IsTrueText (F.contents files.old) (files_in (texts_of words.now)) result (S.written out.old) (S.written out.new) }
-    ensures report { IsTrue (is_report result) → Wrote (IsReport (budget_in (texts_of words.now))) (F.contents files.old) (files_in (texts_of words.now)) result (S.written out.old) (S.written out.new) }
+    ensures sound { IsTrue (is_report result) → Wrote (IsTrueText (history_in (texts_of words.now))) (F.contents files.old) (files_in (texts_of words.now)) result (S.written out.old) (S.written out.new) }
+    ensures report { IsTrue (is_report result) → Wrote (IsReport (asked_in (texts_of words.now))) (F.contents files.old) (files_in (texts_of words.now)) result (S.written out.old) (S.written out.new) }
     ensures quiet { (IsTrue (is_report result) ⊎ (result ≡ Status.Memory)) → E.written err.new ≡ E.written err.old }
     ensures text { IsTrue (is_refused result) → Refuses (F.contents files.old) (files_in (texts_of words.now)) result (E.written err.old) (E.written err.new) }
     ensures usage { result ≡ Status.Usage → IsTaken (texts_of words.now) → ⊥ }
@@ -254,7 +254,7 @@ pub fn run<R: AllocGlobal + Threads + Sync, F: Files, S: Sink, E: Sink, G: Gate>
     ensures line { result ≡ Status.Usage → E.written err.new ≡ joined (E.written err.old) usage_line }
     ensures file { result ≡ Status.Read → NamesFile (files_in (texts_of words.now)) (F.starts files.old) (F.starts files.new) (E.written err.old) (E.written err.new) }
     ensures still { IsTrue (is_refusal result) → S.written out.new ≡ S.written out.old }
-    ensures prefix { ((result ≡ Status.Write) ⊎ (result ≡ Status.Memory)) → WroteSome (budget_in (texts_of words.now)) (F.contents files.old) (files_in (texts_of words.now)) (S.written out.old) (S.written out.new) }
+    ensures prefix { ((result ≡ Status.Write) ⊎ (result ≡ Status.Memory)) → WroteSome (asked_in (texts_of words.now)) (F.contents files.old) (files_in (texts_of words.now)) (S.written out.old) (S.written out.new) }
     ensures complete { (Rose (F.faults files.old) (F.faults files.new) → ⊥) → (Rose (S.faults out.old) (S.faults out.new) → ⊥) → (Rose (E.faults err.old) (E.faults err.new) → ⊥) → Completes (F.contents files.old) (texts_of words.now) result }
 {
     let line = match read_line(rt.alloc(), words) {
@@ -276,7 +276,7 @@ pub fn run<R: AllocGlobal + Threads + Sync, F: Files, S: Sink, E: Sink, G: Gate>
         rt,
         gate,
         workers: line.workers,
-        budget: budget_of(&line),
+        asked: asked_by(&line),
     };
     judge(&how, &names, files, out, err)
 }

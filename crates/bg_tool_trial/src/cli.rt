@@ -4,35 +4,47 @@ use bg_cli::{LineError, read_line};
 use std::alloc::{AllocError, Global};
 use std::test::Fail;
 
-/// Words, and the files, nodes and rows that they ask for, if they are taken.
-type Case = (&'static [&'static str], Option<(&'static str, u32, u32)>);
+/// Words, and the files, workers, nodes and rows that they ask for, if they are taken.
+type Case = (
+    &'static [&'static str],
+    Option<(&'static str, u32, u32, u32)>,
+);
 
-const WORDS: [Case; 20] = [
-    (&["bg", "verify", "a.bpl"], Some(("a.bpl", 20_000, 20_000))),
+const WORDS: [Case; 23] = [
+    (
+        &["bg", "verify", "a.bpl"],
+        Some(("a.bpl", 4, 20_000, 20_000)),
+    ),
     (
         &["bg", "verify", "a", "b", "help"],
-        Some(("a b help", 20_000, 20_000)),
+        Some(("a b help", 4, 20_000, 20_000)),
     ),
     (
         &["bg", "verify", "--nodes", "7", "a"],
-        Some(("a", 7, 20_000)),
+        Some(("a", 4, 7, 20_000)),
     ),
     (
         &["bg", "verify", "--rows", "7", "a"],
-        Some(("a", 20_000, 7)),
+        Some(("a", 4, 20_000, 7)),
     ),
     (
         &["bg", "verify", "--rows", "8", "a", "--nodes", "9"],
-        Some(("a", 9, 8)),
+        Some(("a", 4, 9, 8)),
     ),
     (
         &["bg", "verify", "a", "--nodes", "1000000"],
-        Some(("a", 1_000_000, 20_000)),
+        Some(("a", 4, 1_000_000, 20_000)),
     ),
     (
         &["bg", "verify", "--nodes=1", "--", "-a"],
-        Some(("-a", 1, 20_000)),
+        Some(("-a", 4, 1, 20_000)),
     ),
+    (
+        &["bg", "verify", "--workers", "16", "a"],
+        Some(("a", 16, 20_000, 20_000)),
+    ),
+    (&["bg", "verify", "--workers", "17", "a"], None),
+    (&["bg", "verify", "--workers", "0", "a"], None),
     (&["bg", "verify", "--rows", "1000001", "a"], None),
     (&["bg", "verify", "--nodes", "1000001", "a"], None),
     (&["bg", "verify", "--nodes", "0", "a"], None),
@@ -50,8 +62,9 @@ const WORDS: [Case; 20] = [
 
 fn is_told(alloc: Global, case: &Case) -> Result<bool, AllocError> {
     match (read_line(alloc, &words(alloc, case.0)?), case.1) {
-        (Ok(line), Some((files, nodes, rows))) => Ok(
+        (Ok(line), Some((files, workers, nodes, rows))) => Ok(
             line.files.join(alloc, " ")?.as_str() == files
+                && line.workers == workers
                 && line.nodes == nodes
                 && line.rows == rows,
         ),
@@ -65,5 +78,23 @@ fn words_are_taken_or_not(rt: HostRuntime) -> Result<(), Fail> {
     for case in &WORDS {
         assert!(rt; is_told(rt.alloc(), case)?);
     }
+    Ok(())
+}
+
+/// Whether these words are taken and ask for the history, or don't.
+fn asks(alloc: Global, texts: &[&str], history: bool) -> Result<bool, AllocError> {
+    match read_line(alloc, &words(alloc, texts)?) {
+        Ok(line) => Ok(line.history == history),
+        Err(_) => Ok(false),
+    }
+}
+
+#[test]
+fn a_flag_asks_for_the_history(rt: HostRuntime) -> Result<(), Fail> {
+    let alloc = rt.alloc();
+    assert!(rt; asks(alloc, &["bg", "verify", "--history", "a"], true)?);
+    assert!(rt; asks(alloc, &["bg", "verify", "a", "--history", "b"], true)?);
+    assert!(rt; asks(alloc, &["bg", "verify", "a"], false)?);
+    assert!(rt; !asks(alloc, &["bg", "verify", "--history=true", "a"], true)?);
     Ok(())
 }

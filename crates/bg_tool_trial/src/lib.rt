@@ -4,6 +4,8 @@
 #[cfg(test)]
 mod cli;
 #[cfg(test)]
+mod inferred;
+#[cfg(test)]
 mod io;
 #[cfg(test)]
 mod made;

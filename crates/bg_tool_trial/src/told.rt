@@ -1,15 +1,19 @@
 //! The reports of programs and outcomes made by hand.
-use bg_ast::resolved::{Declared, Implementation, Resolved, WrittenType};
-use bg_base::{CandId, Op, OutOfRange, Pos};
+use bg_ast::resolved::{Clause, Declared, Expr, Implementation, Resolved, Stmt, WrittenType};
+use bg_base::{CandId, Op, OutOfRange, Pos, TargetId};
+use bg_cert::Node;
 use bg_check::{Cause, Judged, Verdict};
 use bg_elim::{Further, Order, Reason};
+use bg_houdini::Outcome;
 use bg_model::Counterexample;
 use bg_places::{Place, Spot};
 use bg_point::Far;
+use bg_rounds::Removal;
 use bg_scalar::{Choice, Scalar};
 use bg_text::Name;
-use bg_told::{Word, result_text, word_of};
+use bg_told::{Word, history_text, result_text, word_of};
 use bg_tree::{Beyond, Why};
+use bg_words::CandSet;
 use std::alloc::{AllocError, Global};
 use std::test::Fail;
 
@@ -140,18 +144,69 @@ fn judged(alloc: Global, places: &[Told]) -> Result<Vec<Judged>, AllocError> {
     Ok(all)
 }
 
-/// A program of these implementations, with globals `g` and `h`.
-fn program(alloc: Global, implementations: Vec<Implementation>) -> Result<Resolved, AllocError> {
+/// A program of these implementations, with globals `g` and `h`, and with these candidates.
+fn program(
+    alloc: Global,
+    implementations: Vec<Implementation>,
+    candidates: &[&str],
+) -> Result<Resolved, AllocError> {
+    let mut names = Vec::new(alloc);
+    for text in candidates {
+        names.push(name(alloc, text)?)?;
+    }
     Ok(Resolved {
         types: Vec::new(alloc),
         constants: Vec::new(alloc),
-        candidates: Vec::new(alloc),
+        candidates: names,
         globals: declared(alloc, &["g", "h"])?,
         functions: Vec::new(alloc),
         axioms: Vec::new(alloc),
         procedures: Vec::new(alloc),
         implementations,
     })
+}
+
+/// A removal: its number, its candidate, and the operation that leaves 128 bits, where it is unknown.
+type Gone = (u64, u32, Option<OutOfRange>);
+
+/// What is left of so many candidates after these removals.
+fn history(
+    alloc: Global,
+    candidates: u32,
+    gone: &[Gone],
+) -> Result<bg_rounds::Outcome<Vec<Node>, bg_houdini::Reason>, AllocError> {
+    let mut retained = CandSet::new(alloc, candidates, true)?;
+    let mut removals = Vec::new(alloc);
+    for (number, candidate, operation) in gone {
+        if *candidate < retained.declared() {
+            retained.remove(CandId(*candidate));
+        }
+        removals.push(Removal {
+            number: *number,
+            cand: CandId(*candidate),
+            target: TargetId(0),
+            snapshot: CandSet::new(alloc, candidates, true)?,
+            was_there: true,
+            unknown: operation.is_some(),
+            told: reason(alloc, *operation),
+        })?;
+    }
+    Ok(bg_rounds::Outcome {
+        retained,
+        removals,
+        kept: Vec::new(alloc),
+    })
+}
+
+fn reason(alloc: Global, operation: Option<OutOfRange>) -> bg_houdini::Reason {
+    match operation {
+        Some(operation) => bg_houdini::Reason::Unknown(Cause::Form(operation)),
+        None => bg_houdini::Reason::Refuted(Counterexample {
+            globals: Vec::new(alloc),
+            frame: Vec::new(alloc),
+            choices: Vec::new(alloc),
+        }),
+    }
 }
 
 /// Whether the report of a program of these implementations has these lines below its first two, and this word.
@@ -170,7 +225,11 @@ fn shows(alloc: Global, cases: &[Case], word: Word, lines: &str) -> Result<bool,
         })?;
         outcome.push(judged(alloc, places)?)?;
     }
-    let text = result_text(alloc, &program(alloc, implementations)?, &outcome)?;
+    let outcome = Outcome {
+        inferred: history(alloc, 0, &[])?,
+        verdicts: outcome,
+    };
+    let text = result_text(alloc, &program(alloc, implementations, &[])?, &outcome)?;
     let want = format!(in alloc; "axioms: consistent\nretained set: greatest\n{lines}")?;
     Ok(text.as_slice() == want.as_bytes() && word_of(&outcome) == word)
 }
@@ -455,5 +514,81 @@ fn each_implementation_and_each_place_that_is_not_proved_has_its_lines(
     for (cases, word, lines) in &REPORTS {
         assert!(rt; shows(rt.alloc(), cases, *word, lines)?);
     }
+    Ok(())
+}
+
+const PLUS: OutOfRange = OutOfRange {
+    op: Op::Plus,
+    a: 1,
+    b: LEAST,
+};
+
+/// A program of `P`, of which one assertion has the candidate `c`, with another candidate `d`.
+fn guarded(alloc: Global) -> Result<Resolved, AllocError> {
+    let clause = Clause {
+        pos: at((7, 9)),
+        id: 0,
+        is_free: false,
+        candidate: Some(CandId(0)),
+        formula: Expr::Truth(at((7, 9)), true),
+    };
+    let mut body = Vec::new(alloc);
+    body.push(Stmt::Assert(clause))?;
+    let mut implementations = Vec::new(alloc);
+    implementations.push(Implementation {
+        pos: at((1, 1)),
+        name: name(alloc, "P")?,
+        procedure: 0,
+        params: Vec::new(alloc),
+        results: Vec::new(alloc),
+        locals: Vec::new(alloc),
+        body,
+    })?;
+    program(alloc, implementations, &["c", "d"])
+}
+
+#[test]
+fn a_history_has_its_removals_by_number(rt: HostRuntime) -> Result<(), Fail> {
+    let alloc = rt.alloc();
+    let gone = [(5, 0, None), (2, 0, Some(PLUS))];
+    let outcome = Outcome {
+        inferred: history(alloc, 2, &gone)?,
+        verdicts: Vec::new(alloc),
+    };
+    let text = history_text(alloc, &guarded(alloc)?, &outcome)?;
+    assert!(rt;
+        text.as_slice()
+            == "history:\n\
+            drop 2 c in P 1:1 at assert 7:9: unknown range\n\
+            \x20 snapshot c d\n\
+            \x20   kept + 1 -170141183460469231731687303715884105728\n\
+            drop 5 c in P 1:1 at assert 7:9: refuted\n\
+            \x20 snapshot c d\n\
+            interpretation:\n"
+                .as_bytes()
+    );
+    Ok(())
+}
+
+#[test]
+fn the_first_removal_says_why_a_candidate_went(rt: HostRuntime) -> Result<(), Fail> {
+    let alloc = rt.alloc();
+    let gone = [(5, 0, None), (2, 0, Some(PLUS)), (1, 2, None)];
+    let outcome = Outcome {
+        inferred: history(alloc, 3, &gone)?,
+        verdicts: Vec::new(alloc),
+    };
+    let program = program(alloc, Vec::new(alloc), &["c", "d", "e"])?;
+    let text = result_text(alloc, &program, &outcome)?;
+    assert!(rt;
+        text.as_slice()
+            == "axioms: consistent\n\
+            candidate c dropped unknown range\n\
+            candidate d retained unchecked\n\
+            candidate e dropped\n\
+            retained set: inductive\n\
+            summary: 1 retained, 2 dropped; 0 verified, 0 refuted, 0 unknown\n"
+                .as_bytes()
+    );
     Ok(())
 }

@@ -5,6 +5,7 @@ use bg_io::{MemFiles, MemSink};
 use bg_tool::{Status, run};
 use std::alloc::AllocError;
 use std::test::Fail;
+use std::thread::Threads;
 
 const VERIFY: &[&str] = &["bg", "verify", "a.bpl"];
 
@@ -32,8 +33,8 @@ const TOO_DEEP: &str =
 
 /// Whether these words end so and write this, where `a.bpl` has this text, calls with these numbers fail of the files, of the
 /// output, which takes so many bytes a call, and of the errors.
-fn ends(
-    rt: &HostRuntime,
+fn ends<R: AllocGlobal + Threads + Sync>(
+    rt: &R,
     given: (&[&str], &str),
     fails: [u64; 3],
     most: Option<usize>,

@@ -1,4 +1,4 @@
-use Rattle.std.proofs.Common.{◌≡◌, ◌++◌, List, flat_map, map, codes, subst, append_assoc}
+use Rattle.std.proofs.Common.{◌≡◌, List, map, subst, append_assoc}
 use Rattle.std.specs.List.Sorted.{IsPermutation}
 use Rattle.bg_ast.specs.Views.{program_of}
 use Rattle.bg_rounds.specs.declared.keeper.Removal.{Removal}

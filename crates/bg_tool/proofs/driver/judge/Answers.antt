@@ -29,7 +29,7 @@ returns-in-Err-TooLong-clause-complete g c = λ quiet_files quiet_out quiet_err.
 pub returns-in-Ok-clause-prefix : goal.returns-in-Ok-clause-prefix
 returns-in-Ok-clause-prefix g c = λ is.
     let part = rw c.deref.ensures.value at (c.verify.ensures.part is) in
-    wrote_some c.args.how.now.budget _ _ _ _ _ c.in-Ok.ensures.text part
+    wrote_some c.args.how.now.asked _ _ _ _ _ c.in-Ok.ensures.text part
 
 pub returns-in-Ok-clause-complete : goal.returns-in-Ok-clause-complete
 returns-in-Ok-clause-complete g c = λ quiet_files quiet_out quiet_err.
@@ -37,4 +37,4 @@ returns-in-Ok-clause-complete g c = λ quiet_files quiet_out quiet_err.
     let report = rw c.deref.ensures.value at c.verify.ensures.report in
     let refused = rw c.deref.ensures.value at c.verify.ensures.refused in
     judges known (g.F.Files.contents c.args.files.now) (map string_bytes c.args.names.now) c.in-Ok.bytes.items c.verify.result c.in-Ok.ensures.text
-    (said c.args.how.now.budget c.in-Ok.bytes.items _ _ _ _ c.verify.result report refused c.verify.ensures.cause quiet_out quiet_err c.verify.ensures.others)
+    (said c.args.how.now.asked c.in-Ok.bytes.items _ _ _ _ c.verify.result report refused c.verify.ensures.cause quiet_out quiet_err c.verify.ensures.others)
