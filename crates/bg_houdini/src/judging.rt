@@ -1,5 +1,5 @@
 //! A program as a checker of the places of its candidates.
-ghost use Rattle.std.specs.Prelude.{◌≡◌, ◌<◌, Some, length, slice_get, IfOk};
+ghost use Rattle.std.specs.Prelude.{◌≡◌, ◌<◌, true, Some, length, slice_get, IfOk};
 ghost use Rattle.bg_ast.specs.Execution as run;
 ghost use Rattle.bg_words.specs.Sets.{has};
 ghost use Rattle.bg_check.specs.Verdicts.{IsRight};
@@ -36,7 +36,7 @@ pub struct Judging<'p> {
 #[derive(Drop)]
 pub struct Desk;
 
-/// What is known of a task under a set of candidates.
+/// What is known of a task under a set of candidates that has the task's own.
 fn verdict_on(
     alloc: Global,
     judging: &Judging<'_>,
@@ -45,6 +45,7 @@ fn verdict_on(
 ) -> Result<Verdict, AllocError>
     requires stands { IsJudging judging.now }
     requires target { t.0 < length (tasks_of (meaning_in judging.now)) }
+    requires inside { has set.now (candidate_of (meaning_in judging.now) t.0) ≡ true }
     ensures { IfOk result (λ verdict. (task : run.Place) → slice_get (tasks_of (meaning_in judging.now)) t.0 ≡ Some task → IsRight judging.now.budget (meaning_in judging.now) (has set.now) task verdict) }
 {
     placed_are_places();
