@@ -1,8 +1,12 @@
 -- The checker's tasks are those of its program.
-use Rattle.std.proofs.Common.{◌≡◌, ℕ, zero, suc, ◌<◌, List, [], ◌∷◌, length, map, Some, sym, ap, ◌∙◌, subst, arith}
+use Rattle.std.proofs.Common.{◌≡◌, ℕ, zero, suc, ◌<◌, List, [], ◌∷◌, length, map, Some, None, sym, ap, ◌∙◌, subst, arith}
 use Rattle.std.specs.Prelude.{slice_get}
 use Rattle.std.proofs.lemmas.List.{length-map}
+use Rattle.bg_base.specs.declared.ids.CandId.{CandId}
+use Rattle.bg_text.specs.Views.{option_of}
 use Rattle.bg_ast.specs.Resolved as r
+use Rattle.bg_ast.specs.Views as view
+use Rattle.bg_ast.specs.Syntax.{Prog}
 use Rattle.bg_ast.specs.Meaning.{meaning_of}
 use Rattle.bg_ast.specs.Execution as run
 use Rattle.bg_sense.specs.Places.{places}
@@ -11,11 +15,15 @@ use Rattle.bg_places.specs.Placed.{place_in, placed}
 use Rattle.bg_places.specs.Views.{placed_of, placed_in}
 use Rattle.bg_places.specs.declared.place.Place.{Place}
 use Rattle.bg_check.proofs.Numbered.{has}
-use Rattle.bg_houdini.specs.Tasks.{tasks_of}
-use Rattle.bg_houdini.proofs.Tasks.{get_below, task_place}
+use Rattle.bg_houdini.specs.Tasks.{tasks_of, number_or, candidate_of}
+use Rattle.bg_houdini.proofs.Tasks.{get_below, task_place, task_candidate}
 
 pub as_many : (ts : List Place) (us : List run.Place) → map place_in (placed_in ts) ≡ us → length ts ≡ length us
 as_many ts us e = sym (length-map ts placed_of) ∙ (sym (length-map (placed_in ts) place_in) ∙ ap length e)
+
+-- a task's number is that of a place kept
+pub low_task : (ts : List Place) (us : List run.Place) (k : ℕ) → map place_in (placed_in ts) ≡ us → k < length us → k < length ts
+low_task ts us k e l = let long = as_many ts us e in omega (arith, long, l)
 
 mapped : (ts : List Place) (k : ℕ) (x : Place) → slice_get ts k ≡ Some x → slice_get (map place_in (placed_in ts)) k ≡ Some (place_in (placed_of x))
 mapped [] k x e = absurd (let bad : ⊥ = cc in bad)
@@ -35,3 +43,16 @@ task_within p ts k x law e at =
     let low = get_below p.implementations h.index h.implementation h.there in
     let number = h.number in
     omega (arith, low, number)
+
+-- the candidate of a task that is kept
+view_at_task : (p : Prog) (ts : List Place) (k : ℕ) (x : Place) → map place_in (placed_in ts) ≡ tasks_of p → slice_get ts k ≡ Some x → option_of view.candidate_of x.candidate ≡ Some (candidate_of p k)
+view_at_task p ts k x e at =
+    task_candidate p k (place_in (placed_of x)) (ap (λ l. slice_get l k) (sym e) ∙ mapped ts k x at)
+
+pub task_has_one : (p : Prog) (ts : List Place) (k : ℕ) (x : Place) → map place_in (placed_in ts) ≡ tasks_of p → slice_get ts k ≡ Some x → x.candidate ≡ None → ⊥
+task_has_one p ts k x e at none =
+    let gone : None ≡ Some (candidate_of p k) = sym (ap (option_of view.candidate_of) none) ∙ view_at_task p ts k x e at in
+    let bad : ⊥ = cc in bad
+
+pub candidate_at_task : (p : Prog) (ts : List Place) (k : ℕ) (x : Place) (c : CandId) → map place_in (placed_in ts) ≡ tasks_of p → slice_get ts k ≡ Some x → x.candidate ≡ Some c → c.0 ≡ candidate_of p k
+candidate_at_task p ts k x c e at is = ap number_or (sym (ap (option_of view.candidate_of) is) ∙ view_at_task p ts k x e at)

@@ -36,7 +36,7 @@ pub struct Judging<'p> {
 #[derive(Drop)]
 pub struct Desk;
 
-/// What is known of a task under a set that has its candidate.
+/// What is known of a task under a set of candidates that has the task's own.
 fn verdict_on(
     alloc: Global,
     judging: &Judging<'_>,

@@ -11,10 +11,10 @@ use Rattle.bg_check.specs.Verdicts.{IsRight}
 use Rattle.bg_places.specs.Placed.{place_in}
 use Rattle.bg_places.specs.Views.{placed_of}
 use Rattle.bg_houdini.specs.Tasks.{tasks_of}
-use Rattle.bg_houdini.specs.Checkers.{meaning_in}
+use Rattle.bg_houdini.specs.Checkers.{program_in, meaning_in}
 use Rattle.bg_houdini.proofs.Once.{if_ok}
 use Rattle.bg_houdini.proofs.Tasks.{get_there, task_place, task_candidate}
-use Rattle.bg_houdini.proofs.Listed.{as_many, task_is}
+use Rattle.bg_houdini.proofs.Listed.{low_task, task_is, task_within}
 use Rattle.bg_houdini.proofs.judging.verdict_on.Goals as goal
 
 pub check_place-requires-clause-asked : goal.check_place-requires-clause-asked
@@ -22,9 +22,8 @@ check_place-requires-clause-asked c =
     let j = c.args.judging.now in
     let ts = j.tasks.items in
     let p = meaning_in j in
-    let long = as_many ts (tasks_of p) c.requires.stands.tasks_are in
-    let inside : c.args.t.0 < length ts = let l = c.requires.target in omega (arith, long, l) in
-    let at : slice_get ts c.args.t.0 ≡ Some c.index-place.result.now = slice_get_read ts (length ts) c.args.t.0 c.index-place.result.now refl inside c.index-place.ensures in
+    let low = low_task ts (tasks_of p) c.args.t.0 c.requires.stands.tasks_are c.requires.target in
+    let at : slice_get ts c.args.t.0 ≡ Some c.index-place.result.now = slice_get_read ts (length ts) c.args.t.0 c.index-place.result.now refl low c.index-place.ensures in
     let task = get_there (tasks_of p) c.args.t.0 c.requires.target in
     subst (λ (u : run.Place). IsAsked p (has c.deref.result.now) u) (sym (task_is ts (tasks_of p) c.args.t.0 c.index-place.result.now task.0 c.requires.stands.tasks_are at task.1))
     (subst (λ (s : List Bool). IsAsked p (has s) task.0) (sym (c.deref.ensures.value ∙ c.in_ok-truths.ensures))
@@ -34,13 +33,38 @@ check_place-requires-clause-asked c =
       kept = ap (is_kept (has c.args.set.now)) (task_candidate p c.args.t.0 task.0 task.1) ∙ c.requires.inside;
     }))
 
+pub index-prepared-requires : goal.index-prepared-requires
+index-prepared-requires c =
+    let j = c.args.judging.now in
+    let p = program_in j in
+    let ts = j.tasks.items in
+    let x = c.index-place.result.now in
+    let low = low_task ts (tasks_of (meaning_in j)) c.args.t.0 c.requires.stands.tasks_are c.requires.target in
+    let at : slice_get ts c.args.t.0 ≡ Some x = slice_get_read ts (length ts) c.args.t.0 x refl low c.index-place.ensures in
+    let there = task_within p ts c.args.t.0 x (c.placed_are_places.ensures p) c.requires.stands.tasks_are at in
+    let count = c.requires.stands.prepared.count_is in
+    let ok = j.prepared.ok.0 in
+    omega (arith, there, count, ok)
+
+pub check_place-requires-clause-prepared : goal.check_place-requires-clause-prepared
+check_place-requires-clause-prepared c =
+    let j = c.args.judging.now in
+    let p = program_in j in
+    let ts = j.tasks.items in
+    let ws = j.prepared.items in
+    let x = c.index-place.result.now in
+    let low = low_task ts (tasks_of (meaning_in j)) c.args.t.0 c.requires.stands.tasks_are c.requires.target in
+    let at : slice_get ts c.args.t.0 ≡ Some x = slice_get_read ts (length ts) c.args.t.0 x refl low c.index-place.ensures in
+    let there = task_within p ts c.args.t.0 x (c.placed_are_places.ensures p) c.requires.stands.tasks_are at in
+    let inside : x.implementation < length ws = let count = c.requires.stands.prepared.count_is in omega (arith, there, count) in
+    c.requires.stands.prepared.each x.implementation c.index-prepared.result.now (slice_get_read ws (length ws) x.implementation c.index-prepared.result.now refl inside c.index-prepared.ensures)
+
 pub returns : goal.returns
 returns c =
     let j = c.args.judging.now in
     let ts = j.tasks.items in
-    let long = as_many ts (tasks_of (meaning_in j)) c.requires.stands.tasks_are in
-    let inside : c.args.t.0 < length ts = let l = c.requires.target in omega (arith, long, l) in
-    let at : slice_get ts c.args.t.0 ≡ Some c.index-place.result.now = slice_get_read ts (length ts) c.args.t.0 c.index-place.result.now refl inside c.index-place.ensures in
+    let low = low_task ts (tasks_of (meaning_in j)) c.args.t.0 c.requires.stands.tasks_are c.requires.target in
+    let at : slice_get ts c.args.t.0 ≡ Some c.index-place.result.now = slice_get_read ts (length ts) c.args.t.0 c.index-place.result.now refl low c.index-place.ensures in
     if_ok c.check_place.result
     (λ verdict right task there.
     subst (λ (u : run.Place). IsRight j.budget (meaning_in j) (has c.args.set.now) u verdict) (task_is ts (tasks_of (meaning_in j)) c.args.t.0 c.index-place.result.now task c.requires.stands.tasks_are at there)
