@@ -19,7 +19,6 @@ use Rattle.bg_places.specs.Placed.{Placed, place_in, placed_impl, placed_from, p
 use Rattle.bg_check.specs.declared.prepared.Prepared.{Prepared}
 use Rattle.bg_check.specs.Prepared.{IsPrepared, ArePrepared}
 use Rattle.bg_check.specs.Asked.{IsAsked, AreAsked}
-use Rattle.bg_check.proofs.Prepares.{get_some}
 use Rattle.bg_check.proofs.Numbered.{OfNumber}
 use Rattle.bg_check.specs.Verdicts.{IsRight, placed_at, AreRightAt, AreRightOf, AreRightFrom}
 
@@ -102,23 +101,3 @@ from_more budget p set k (i ∷ ms) [] m js h g = absurd h
 from_more budget p set k (i ∷ ms) (o ∷ os) m js h g =
     let e : k + suc (length ms) ≡ suc k + length ms = omega arith in
     (h.0, from_more budget p set (suc k) ms os m js h.1 (subst (λ j. AreRightOf budget p set j m js) e g))
-
-take_next : (xs : List r.Impl) (n : ℕ) (x : r.Impl) → slice_get xs n ≡ Some x → take (n + 1) xs ≡ take n xs ++ (x ∷ [])
-take_next [] n x e = absurd (let bad : ⊥ = cc in bad)
-take_next (y ∷ xs) zero x e = ap (λ z. z ∷ []) (let same : y ≡ x = cc in same)
-take_next (y ∷ xs) (suc n) x e =
-    let s : suc n + 1 ≡ suc (n + 1) = omega arith in
-    ap (λ c. take c (y ∷ xs)) s ∙ ap (λ l. y ∷ l) (take_next xs n x e)
-
-take_long : (xs : List r.Impl) (n : ℕ) → n < length xs → length (take n xs) ≡ n
-take_long [] n l = absurd (omega arith)
-take_long (y ∷ xs) zero l = refl
-take_long (y ∷ xs) (suc n) l = ap (λ i. suc i) (take_long xs n (omega arith))
-
-pub program_more : (budget : Budget) (p : r.Program) (set : ℕ → Bool) (n : ℕ) (os : List (List Judged)) (js : List Judged) → n < length p.implementations → AreRightFrom budget p set 0 (take n p.implementations) os → ((m : r.Impl) → slice_get p.implementations n ≡ Some m → AreRightOf budget p set n m js) → AreRightFrom budget p set 0 (take (n + 1) p.implementations) (os ++ (js ∷ []))
-program_more budget p set n os js l h g =
-    let x = get_some p.implementations n l in
-    let t = take_long p.implementations n l in
-    let e : n ≡ 0 + length (take n p.implementations) = omega arith in
-    subst (λ ms. AreRightFrom budget p set 0 ms (os ++ (js ∷ []))) (sym (take_next p.implementations n x.0 x.1))
-    (from_more budget p set 0 (take n p.implementations) os x.0 js h (subst (λ k. AreRightOf budget p set k x.0 js) e (g x.0 x.1)))

@@ -70,7 +70,7 @@ pub record There (p : r.Program) (n : ℕ) : Type 0 where
   pub impl_there : slice_get p.implementations n ≡ Some implementation
   pub proc_there : slice_get p.procedures implementation.procedure ≡ Some procedure
 
-pub get_some : {A : Type 0} (xs : List A) (n : ℕ) → n < length xs → (x : A) × (slice_get xs n ≡ Some x)
+get_some : {A : Type 0} (xs : List A) (n : ℕ) → n < length xs → (x : A) × (slice_get xs n ≡ Some x)
 get_some [] n l = absurd (omega arith)
 get_some (x ∷ xs) zero l = (x, refl)
 get_some (x ∷ xs) (suc n) l = get_some xs n (omega arith)
