@@ -1,5 +1,5 @@
 -- The checker's tasks are those of its program.
-use Rattle.std.proofs.Common.{◌≡◌, ℕ, zero, suc, ◌<◌, List, [], ◌∷◌, length, map, Some, None, sym, ap, ◌∙◌, subst, arith}
+use Rattle.std.proofs.Common.{◌≡◌, ℕ, zero, suc, ◌<◌, Bool, true, List, [], ◌∷◌, length, map, Some, None, sym, ap, ◌∙◌, subst, arith}
 use Rattle.std.specs.Prelude.{slice_get}
 use Rattle.std.proofs.lemmas.List.{length-map}
 use Rattle.bg_base.specs.declared.ids.CandId.{CandId}
@@ -9,11 +9,14 @@ use Rattle.bg_ast.specs.Views as view
 use Rattle.bg_ast.specs.Syntax.{Prog}
 use Rattle.bg_ast.specs.Meaning.{meaning_of}
 use Rattle.bg_ast.specs.Execution as run
+use Rattle.bg_sense.specs.Clauses.{is_kept}
 use Rattle.bg_sense.specs.Places.{places}
-use Rattle.bg_sense.proofs.Members.{In}
+use Rattle.bg_sense.specs.Resolved.{IsResolved}
+use Rattle.bg_sense.proofs.Members.{In, contained}
 use Rattle.bg_places.specs.Placed.{place_in, placed}
 use Rattle.bg_places.specs.Views.{placed_of, placed_in}
 use Rattle.bg_places.specs.declared.place.Place.{Place}
+use Rattle.bg_check.specs.Asked.{IsAsked}
 use Rattle.bg_check.proofs.Numbered.{has}
 use Rattle.bg_houdini.specs.Tasks.{tasks_of, number_or, candidate_of}
 use Rattle.bg_houdini.proofs.Tasks.{get_below, task_place, task_candidate}
@@ -43,6 +46,17 @@ task_within p ts k x law e at =
     let low = get_below p.implementations h.index h.implementation h.there in
     let number = h.number in
     omega (arith, low, number)
+
+-- a task whose candidate is in the set is one that may be asked about
+pub task_asked : (p : Prog) (set : ℕ → Bool) (ts : List Place) (k : ℕ) (x : Place) → IsResolved p → map place_in (placed_in ts) ≡ tasks_of p → slice_get ts k ≡ Some x → set (candidate_of p k) ≡ true → IsAsked p set (place_in (placed_of x))
+task_asked p set ts k x h e at inside =
+    let t = place_in (placed_of x) in
+    let there : slice_get (tasks_of p) k ≡ Some t = ap (λ l. slice_get l k) (sym e) ∙ mapped ts k x at in
+    record {
+      resolved = h;
+      is_place = contained (places p) t (task_place p k t there);
+      kept = ap (is_kept set) (task_candidate p k t there) ∙ inside;
+    }
 
 -- the candidate of a task that is kept
 view_at_task : (p : Prog) (ts : List Place) (k : ℕ) (x : Place) → map place_in (placed_in ts) ≡ tasks_of p → slice_get ts k ≡ Some x → option_of view.candidate_of x.candidate ≡ Some (candidate_of p k)

@@ -1,37 +1,16 @@
-use Rattle.std.proofs.Common.{◌<◌, Bool, List, length, Some, refl, sym, ap, ◌∙◌, subst, arith}
+use Rattle.std.proofs.Common.{◌<◌, Bool, true, List, length, Some, refl, sym, ◌∙◌, subst, arith}
 use Rattle.std.specs.Prelude.{◌≡◌, slice_get}
 use Rattle.std.proofs.lemmas.Option.{slice_get_read}
 use Rattle.bg_ast.specs.Execution as run
-use Rattle.bg_sense.specs.Clauses.{is_kept}
-use Rattle.bg_sense.specs.Places.{places}
-use Rattle.bg_sense.proofs.Members.{contained}
 use Rattle.bg_words.specs.Sets.{has}
-use Rattle.bg_check.specs.Asked.{IsAsked}
 use Rattle.bg_check.specs.Verdicts.{IsRight}
 use Rattle.bg_places.specs.Placed.{place_in}
 use Rattle.bg_places.specs.Views.{placed_of}
-use Rattle.bg_houdini.specs.Tasks.{tasks_of}
+use Rattle.bg_houdini.specs.Tasks.{tasks_of, candidate_of}
 use Rattle.bg_houdini.specs.Checkers.{program_in, meaning_in}
 use Rattle.bg_houdini.proofs.Once.{if_ok}
-use Rattle.bg_houdini.proofs.Tasks.{get_there, task_place, task_candidate}
-use Rattle.bg_houdini.proofs.Listed.{low_task, task_is, task_within}
+use Rattle.bg_houdini.proofs.Listed.{low_task, task_is, task_within, task_asked}
 use Rattle.bg_houdini.proofs.judging.verdict_on.Goals as goal
-
-pub check_place-requires-clause-asked : goal.check_place-requires-clause-asked
-check_place-requires-clause-asked c =
-    let j = c.args.judging.now in
-    let ts = j.tasks.items in
-    let p = meaning_in j in
-    let low = low_task ts (tasks_of p) c.args.t.0 c.requires.stands.tasks_are c.requires.target in
-    let at : slice_get ts c.args.t.0 ≡ Some c.index-place.result.now = slice_get_read ts (length ts) c.args.t.0 c.index-place.result.now refl low c.index-place.ensures in
-    let task = get_there (tasks_of p) c.args.t.0 c.requires.target in
-    subst (λ (u : run.Place). IsAsked p (has c.deref.result.now) u) (sym (task_is ts (tasks_of p) c.args.t.0 c.index-place.result.now task.0 c.requires.stands.tasks_are at task.1))
-    (subst (λ (s : List Bool). IsAsked p (has s) task.0) (sym (c.deref.ensures.value ∙ c.in_ok-truths.ensures))
-    (record {
-      resolved = c.requires.stands.resolved;
-      is_place = contained (places p) task.0 (task_place p c.args.t.0 task.0 task.1);
-      kept = ap (is_kept (has c.args.set.now)) (task_candidate p c.args.t.0 task.0 task.1) ∙ c.requires.inside;
-    }))
 
 pub index-prepared-requires : goal.index-prepared-requires
 index-prepared-requires c =
@@ -58,6 +37,16 @@ check_place-requires-clause-prepared c =
     let there = task_within p ts c.args.t.0 x (c.placed_are_places.ensures p) c.requires.stands.tasks_are at in
     let inside : x.implementation < length ws = let count = c.requires.stands.prepared.count_is in omega (arith, there, count) in
     c.requires.stands.prepared.each x.implementation c.index-prepared.result.now (slice_get_read ws (length ws) x.implementation c.index-prepared.result.now refl inside c.index-prepared.ensures)
+
+pub check_place-requires-clause-asked : goal.check_place-requires-clause-asked
+check_place-requires-clause-asked c =
+    let j = c.args.judging.now in
+    let ts = j.tasks.items in
+    let low = low_task ts (tasks_of (meaning_in j)) c.args.t.0 c.requires.stands.tasks_are c.requires.target in
+    let at : slice_get ts c.args.t.0 ≡ Some c.index-place.result.now = slice_get_read ts (length ts) c.args.t.0 c.index-place.result.now refl low c.index-place.ensures in
+    let same : c.deref.result.now ≡ c.args.set.now = c.deref.ensures.value ∙ c.in_ok-truths.ensures in
+    task_asked (meaning_in j) (has c.deref.result.now) ts c.args.t.0 c.index-place.result.now c.requires.stands.resolved c.requires.stands.tasks_are at
+    (subst (λ (s : List Bool). has s (candidate_of (meaning_in j) c.args.t.0) ≡ true) (sym same) c.requires.inside)
 
 pub returns : goal.returns
 returns c =
