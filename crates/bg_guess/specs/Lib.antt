@@ -1,0 +1,6 @@
+pub mod Claims
+pub mod Lists
+pub mod Calls
+pub mod Loops
+pub mod Guessed
+pub mod Views

@@ -1,0 +1,7 @@
+-- How the code's survey is read.
+use Rattle.bg_guess.specs.Lists.{base_of}
+use Rattle.bg_guess.specs.Guessed.{Survey}
+use Rattle.bg_guess.specs.declared.survey.Survey as code
+
+abbrev pub survey_view : code.Survey → Survey
+survey_view v = record { base = base_of v.base; called = v.called.items; implemented = v.implemented.items }
