@@ -2,5 +2,15 @@ pub mod Forms
 pub mod There
 pub mod InFront
 pub mod Steps
+pub mod Every
+pub mod Saying
+pub mod Parts
+pub mod TypedBodies
+pub mod TypedWhole
+pub mod Times
+pub mod Rows
+pub mod Totals
+pub mod Fresh
+pub mod ResolvedWhole
 pub mod Sizes
 pub mod CallForms

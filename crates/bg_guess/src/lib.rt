@@ -5,6 +5,7 @@ mod calls;
 mod claim;
 mod counts;
 mod frame;
+pub mod laws;
 mod loops;
 mod numbers;
 mod procedures;

@@ -1,0 +1,18 @@
+//! What holds of a program holds of the program with its guesses.
+ghost use Rattle.std.specs.Prelude.{◌≡◌, true, length};
+ghost use Rattle.bg_ast.specs.Resolved.{Program};
+ghost use Rattle.bg_ast.specs.Meaning.{meaning_of};
+ghost use Rattle.bg_sense.specs.Typed.{IsTyped};
+ghost use Rattle.bg_sense.specs.Resolved.{IsResolved};
+ghost use Rattle.bg_fits.specs.Scalars.{is_over_scalars};
+ghost use Rattle.bg_guess.specs.Guessed.{guessed};
+
+/// A typed program with its guesses is typed.
+pub fn guesses_are_typed()
+    ensures { (p : Program) → IsTyped (meaning_of p) → IsResolved (meaning_of p) → IsTyped (meaning_of (guessed p)) }
+{}
+
+/// A resolved program with its guesses is resolved: each guess has a candidate of the program, and its clause a number of its own.
+pub fn guesses_are_resolved()
+    ensures { (p : Program) → IsResolved (meaning_of p) → IsResolved (meaning_of (guessed p)) }
+{}
