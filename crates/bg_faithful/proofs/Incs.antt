@@ -8,7 +8,7 @@ use Rattle.bg_flow.specs.Blocks.{Block}
 use Rattle.bg_passive.specs.Incarnations.{Env, pass_all, entry_env, ty_of, targets_of}
 use Rattle.bg_passive.specs.Arrivals.{all_begin, tails, merge_types, globals_in, frames_in, arrive_at, arrive_types, Ways, ways_here, ways_on, ways_to, cmd_types, cmds_types, arrive}
 use Rattle.bg_faithful.proofs.Scalars.{AreScalars, IsScalar, scalars_append, scalars_map, vars_scalar}
-use Rattle.bg_faithful.proofs.Free.{FreeCmd, FreeCmds, FreeBlocks}
+use Rattle.bg_faithful.proofs.Guards.{FitCmd, FitCmds, FitBlocks}
 
 merged_scalars : (js : List ℕ) (os : List (List ℕ)) (ts : List Ty) → AreScalars ts → AreScalars (merge_types js os ts)
 merged_scalars [] os ts h = tt
@@ -31,7 +31,7 @@ module _ (p : Prog) (ds : List Decl) (gs : AreScalars (types_of p.globals)) (fs 
   each_var : (x : Var) → IsScalar (tys x)
   each_var = vars_scalar p ds gs fs
 
-  cmd_scalars : (k : Cmd) → FreeCmd k → AreScalars (cmd_types tys k)
+  cmd_scalars : (k : Cmd) → FitCmd p.candidates k → AreScalars (cmd_types tys k)
   cmd_scalars (Check xs) h = tt
   cmd_scalars (Suppose xs) h = tt
   cmd_scalars (Forget xs) h = scalars_map tys each_var xs
@@ -40,11 +40,11 @@ module _ (p : Prog) (ds : List Decl) (gs : AreScalars (types_of p.globals)) (fs 
       scalars_append (types_of k.params) _ h.1.1.0 (scalars_append (map tys k.modifies) (types_of k.results) (scalars_map tys each_var k.modifies) h.1.1.1)
   cmd_scalars Finish h = tt
 
-  cmds_scalars : (ks : List Cmd) → FreeCmds ks → AreScalars (cmds_types tys ks)
+  cmds_scalars : (ks : List Cmd) → FitCmds p.candidates ks → AreScalars (cmds_types tys ks)
   cmds_scalars [] h = tt
   cmds_scalars (k ∷ ks) h = scalars_append (cmd_types tys k) _ (cmd_scalars k h.0) (cmds_scalars ks h.1)
 
-  pub made_scalars : (bs : List Block) (ways : Ways) (n : ℕ) → FreeBlocks bs → AreScalars (arrive p ds bs ways n).made
+  pub made_scalars : (bs : List Block) (ways : Ways) (n : ℕ) → FitBlocks p.candidates bs → AreScalars (arrive p ds bs ways n).made
   made_scalars [] ways n h = tt
   made_scalars (x ∷ bs) ways n h =
       let at = arrive_at (entry_env p ds) (ways_here ways) n in

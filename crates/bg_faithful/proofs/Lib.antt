@@ -1,7 +1,7 @@
 pub mod Even
 pub mod Scalars
 pub mod Kinded
-pub mod Free
+pub mod Guards
 pub mod Incs
 pub mod Passes
 pub mod Sorting

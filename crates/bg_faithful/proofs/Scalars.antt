@@ -1,6 +1,6 @@
 -- Types of scalars, and what a program over scalars declares.
-use Rattle.std.proofs.Common.{◌≡◌, ℕ, zero, suc, Bool, true, List, [], ◌∷◌, ◌++◌, map, Option, Some, None, refl, subst}
-use Rattle.std.specs.Prelude.{slice_get, is_none}
+use Rattle.std.proofs.Common.{◌≡◌, ℕ, zero, suc, Bool, true, List, [], ◌∷◌, ◌++◌, map, Option, Some, refl, subst}
+use Rattle.std.specs.Prelude.{slice_get}
 use Rattle.std.specs.List.{list_all}
 use Rattle.bg_ast.specs.Values.{Ty}
 use Rattle.bg_ast.specs.Syntax.{Var, Global, Local, Clause, Decl, Proc, Prog}
@@ -8,7 +8,7 @@ use Rattle.bg_sense.specs.Types.{types_of}
 use Rattle.bg_sense.specs.Variables.{type_in}
 use Rattle.bg_sense.proofs.Bools.{and_left, and_right}
 use Rattle.bg_passive.specs.Incarnations.{ty_of}
-use Rattle.bg_fits.specs.Scalars.{is_empty, clause_passes, decl_passes, decls_pass, proc_passes, is_scalar_type, is_scalar}
+use Rattle.bg_fits.specs.Scalars.{is_declared, is_empty, clause_passes, decl_passes, decls_pass, proc_passes, is_scalar_type, is_scalar}
 
 abbrev pub IsScalar : Ty → Type 0
 IsScalar t = is_scalar_type true t ≡ true
@@ -41,43 +41,44 @@ pub vars_scalar : (p : Prog) (ds : List Decl) → AreScalars (types_of p.globals
 vars_scalar p ds g h (Global x) = decl_scalar p.globals x g
 vars_scalar p ds g h (Local x) = decl_scalar ds x h
 
--- ---- clauses without candidates
+-- ---- clauses that candidates guard
 
-none_of : (o : Option ℕ) → is_none o ≡ true → o ≡ None
-none_of None e = refl
-none_of (Some b) e = absurd (let bad : ⊥ = cc in bad)
+-- there is no candidate, or it is one of the first n
+abbrev pub IsDeclared : ℕ → Option ℕ → Type 0
+IsDeclared n b = is_declared n b ≡ true
 
--- no candidate guards any of these clauses
-abbrev pub FreeClauses : List Clause → Type 0
-FreeClauses [] = Unit {0}
-FreeClauses (k ∷ ks) = (k.candidate ≡ None) × FreeClauses ks
+-- each candidate that guards one of these clauses is one of the first n
+abbrev pub FitClauses : ℕ → List Clause → Type 0
+FitClauses n [] = Unit {0}
+FitClauses n (k ∷ ks) = IsDeclared n k.candidate × FitClauses n ks
 
-pub free_clause : (k : Clause) → clause_passes (is_scalar true) k ≡ true → k.candidate ≡ None
-free_clause k h = none_of k.candidate (and_left (is_none k.candidate) (is_scalar true k.says) h)
+module _ (n : ℕ) where
+  pub fit_clause : (k : Clause) → clause_passes n (is_scalar true) k ≡ true → IsDeclared n k.candidate
+  fit_clause k h = and_left (is_declared n k.candidate) (is_scalar true k.says) h
 
-pub free_clauses : (ks : List Clause) → list_all (clause_passes (is_scalar true)) ks ≡ true → FreeClauses ks
-free_clauses [] h = tt
-free_clauses (k ∷ ks) h =
-    (free_clause k (and_left (clause_passes (is_scalar true) k) (list_all (clause_passes (is_scalar true)) ks) h), free_clauses ks (and_right (clause_passes (is_scalar true) k) (list_all (clause_passes (is_scalar true)) ks) h))
+  pub fit_clauses : (ks : List Clause) → list_all (clause_passes n (is_scalar true)) ks ≡ true → FitClauses n ks
+  fit_clauses [] h = tt
+  fit_clauses (k ∷ ks) h =
+      (fit_clause k (and_left (clause_passes n (is_scalar true) k) (list_all (clause_passes n (is_scalar true)) ks) h), fit_clauses ks (and_right (clause_passes n (is_scalar true) k) (list_all (clause_passes n (is_scalar true)) ks) h))
 
 -- ---- procedures
 
--- parameters and results are scalars, and no candidate guards a clause of the specification
-pub record ScalarProc (q : Proc) : Type 0 where
+-- parameters and results are scalars, and each candidate that guards a clause of the specification is one of the first n
+pub record ScalarProc (n : ℕ) (q : Proc) : Type 0 where
   pub params : AreScalars (types_of q.params)
   pub results : AreScalars (types_of q.results)
-  pub requires_ : FreeClauses q.requires_
-  pub ensures_ : FreeClauses q.ensures_
+  pub requires_ : FitClauses n q.requires_
+  pub ensures_ : FitClauses n q.ensures_
 
-pub scalar_proc : (q : Proc) → proc_passes (is_scalar_type true) (is_scalar true) q ≡ true → ScalarProc q
-scalar_proc q h =
+pub scalar_proc : (n : ℕ) (q : Proc) → proc_passes n (is_scalar_type true) (is_scalar true) q ≡ true → ScalarProc n q
+scalar_proc n q h =
     let h1 = and_right (decls_pass (is_scalar_type true) (is_scalar true) q.params) _ h in
     let h2 = and_right (decls_pass (is_scalar_type true) (is_scalar true) q.results) _ h1 in
     record {
       params = decls_scalar q.params (and_left (decls_pass (is_scalar_type true) (is_scalar true) q.params) _ h);
       results = decls_scalar q.results (and_left (decls_pass (is_scalar_type true) (is_scalar true) q.results) _ h1);
-      requires_ = free_clauses q.requires_ (and_left (list_all (clause_passes (is_scalar true)) q.requires_) _ h2);
-      ensures_ = free_clauses q.ensures_ (and_right (list_all (clause_passes (is_scalar true)) q.requires_) _ h2);
+      requires_ = fit_clauses n q.requires_ (and_left (list_all (clause_passes n (is_scalar true)) q.requires_) _ h2);
+      ensures_ = fit_clauses n q.ensures_ (and_right (list_all (clause_passes n (is_scalar true)) q.requires_) _ h2);
     }
 
 -- each of a list passes

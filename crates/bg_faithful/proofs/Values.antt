@@ -3,7 +3,6 @@ use Rattle.std.proofs.Common.{◌≡◌, ℕ, ℤ, suc, Bool, true, false, List,
 use Rattle.bg_ast.specs.Values.{Ty, IntTy, BoolTy, UserTy, MapTy, Val, Num, Truth, Element, Default, Entry, number_of, truth_of}
 use Rattle.bg_sense.specs.Types.{are_of}
 use Rattle.bg_sense.specs.Eval.{value_at}
-use Rattle.bg_linear.specs.declared.scalar.Sort.TheVariants as sort
 use Rattle.bg_linear.specs.Sorts.{scalar_values}
 use Rattle.bg_sorts.specs.Sorts.{sort_of_type}
 use Rattle.bg_faithful.proofs.Scalars.{AreScalars}

@@ -1,6 +1,6 @@
 -- What an implementation of a program over scalars has.
 use Rattle.std.proofs.Common.{◌≡◌, ℕ, ◌+◌, Bool, true, List, [], ◌∷◌, ◌++◌, length, Some, ap, ◌∙◌, subst}
-use Rattle.std.specs.Prelude.{◌&&◌, ◌==◌, slice_get}
+use Rattle.std.specs.Prelude.{◌&&◌, slice_get}
 use Rattle.std.specs.List.{list_all}
 use Rattle.bg_ast.specs.Values.{Ty}
 use Rattle.bg_ast.specs.Syntax.{Decl, Proc, Impl, Prog}
@@ -16,9 +16,9 @@ use Rattle.bg_block_types.specs.Typed.{sig_over, TypedBlocks, blocks_in, arrival
 use Rattle.bg_faithful.specs.Sorted.{sorts_in}
 use Rattle.bg_faithful.proofs.Scalars.{AreScalars, scalars_append, decls_scalar, ScalarProc, scalar_proc, passes_at, none_there}
 use Rattle.bg_faithful.proofs.Kinded.{sig_bare}
-use Rattle.bg_faithful.proofs.Free.{FreeBlocks, free_demands, free_sayings, free_plain, routine_free}
+use Rattle.bg_faithful.proofs.Guards.{FitBlocks, fit_demands, fit_sayings, fit_plain, routine_fits}
 use Rattle.bg_faithful.proofs.Incs.{made_scalars}
-use Rattle.bg_faithful.proofs.Passes.{passives_free}
+use Rattle.bg_faithful.proofs.Passes.{passives_fit}
 use Rattle.bg_faithful.proofs.Sorting.{blocks_all}
 
 module _ (p : Prog) (o : is_over_scalars true p ≡ true) where
@@ -26,22 +26,22 @@ module _ (p : Prog) (o : is_over_scalars true p ≡ true) where
   globals_pass = decls_pass (is_scalar_type true) (is_scalar true) p.globals
 
   abbrev procs_pass : Bool
-  procs_pass = list_all (proc_passes (is_scalar_type true) (is_scalar true)) p.procedures
+  procs_pass = list_all (proc_passes p.candidates (is_scalar_type true) (is_scalar true)) p.procedures
 
   abbrev impls_pass : Bool
-  impls_pass = list_all (impl_passes (is_scalar_type true) (is_scalar true)) p.implementations
+  impls_pass = list_all (impl_passes p.candidates (is_scalar_type true) (is_scalar true)) p.implementations
 
-  behind_globals : (is_empty p.constants && (is_empty p.functions && (is_empty p.axioms && (p.candidates == 0 && (procs_pass && impls_pass))))) ≡ true
+  behind_globals : (is_empty p.constants && (is_empty p.functions && (is_empty p.axioms && (procs_pass && impls_pass)))) ≡ true
   behind_globals = and_right globals_pass _ o
 
-  behind_constants : (is_empty p.functions && (is_empty p.axioms && (p.candidates == 0 && (procs_pass && impls_pass)))) ≡ true
+  behind_constants : (is_empty p.functions && (is_empty p.axioms && (procs_pass && impls_pass))) ≡ true
   behind_constants = and_right (is_empty p.constants) _ behind_globals
 
-  behind_functions : (is_empty p.axioms && (p.candidates == 0 && (procs_pass && impls_pass))) ≡ true
+  behind_functions : (is_empty p.axioms && (procs_pass && impls_pass)) ≡ true
   behind_functions = and_right (is_empty p.functions) _ behind_constants
 
   parts : (procs_pass && impls_pass) ≡ true
-  parts = and_right (p.candidates == 0) _ (and_right (is_empty p.axioms) _ behind_functions)
+  parts = and_right (is_empty p.axioms) _ behind_functions
 
   pub no_constants : p.constants ≡ []
   no_constants = none_there p.constants (and_left (is_empty p.constants) _ behind_globals)
@@ -55,9 +55,9 @@ module _ (p : Prog) (o : is_over_scalars true p ≡ true) where
   globals_scalar : AreScalars (types_of p.globals)
   globals_scalar = decls_scalar p.globals (and_left globals_pass _ o)
 
-  procs : (j : ℕ) (c : Proc) → slice_get p.procedures j ≡ Some c → ScalarProc c
+  procs : (j : ℕ) (c : Proc) → slice_get p.procedures j ≡ Some c → ScalarProc p.candidates c
   procs j c e =
-      scalar_proc c (passes_at (proc_passes (is_scalar_type true) (is_scalar true)) p.procedures j c (and_left procs_pass _ parts) e)
+      scalar_proc p.candidates c (passes_at (proc_passes p.candidates (is_scalar_type true) (is_scalar true)) p.procedures j c (and_left procs_pass _ parts) e)
 
   sig_same : (incs : List Ty) → sig_over p incs ≡ sig_bare incs
   sig_same incs =
@@ -68,16 +68,16 @@ module _ (p : Prog) (o : is_over_scalars true p ≡ true) where
     abbrev ds : List Decl
     ds = frame_decls m q
 
-    here : impl_passes (is_scalar_type true) (is_scalar true) m ≡ true
+    here : impl_passes p.candidates (is_scalar_type true) (is_scalar true) m ≡ true
     here =
-        passes_at (impl_passes (is_scalar_type true) (is_scalar true)) p.implementations k m (and_right procs_pass _ parts) im
+        passes_at (impl_passes p.candidates (is_scalar_type true) (is_scalar true)) p.implementations k m (and_right procs_pass _ parts) im
 
-    its : ScalarProc q
+    its : ScalarProc p.candidates q
     its = procs m.procedure q pr
 
     locals_scalar : AreScalars (types_of m.locals)
     locals_scalar =
-        decls_scalar m.locals (and_left (decls_pass (is_scalar_type true) (is_scalar true) m.locals) (st_passes (is_scalar true) m.body) here)
+        decls_scalar m.locals (and_left (decls_pass (is_scalar_type true) (is_scalar true) m.locals) (st_passes p.candidates (is_scalar true) m.body) here)
 
     frame_scalar : AreScalars (types_of ds)
     frame_scalar = types_both q.params (q.results ++ m.locals) its.params (types_both q.results m.locals its.results locals_scalar)
@@ -86,18 +86,18 @@ module _ (p : Prog) (o : is_over_scalars true p ≡ true) where
         types_both [] es h k = k
         types_both (d ∷ ds) es h k = (h.0, types_both ds es h.1 k)
 
-    free : FreeBlocks (blocks_in p k m q)
-    free =
-        routine_free p ds procs m.body (plain (wheres_of (p.globals ++ ds)) (sayings each_one q.requires_)) (demands (AtReturn k) q.ensures_) (and_right (decls_pass (is_scalar_type true) (is_scalar true) m.locals) (st_passes (is_scalar true) m.body) here)
-        (free_plain (wheres_of (p.globals ++ ds)) (sayings each_one q.requires_) (free_sayings each_one q.requires_ its.requires_))
-        (free_demands (AtReturn k) q.ensures_ its.ensures_)
+    fits : FitBlocks p.candidates (blocks_in p k m q)
+    fits =
+        routine_fits p ds procs m.body (plain (wheres_of (p.globals ++ ds)) (sayings each_one q.requires_)) (demands (AtReturn k) q.ensures_) (and_right (decls_pass (is_scalar_type true) (is_scalar true) m.locals) (st_passes p.candidates (is_scalar true) m.body) here)
+        (fit_plain p.candidates (wheres_of (p.globals ++ ds)) (sayings each_one q.requires_) (fit_sayings p.candidates each_one q.requires_ its.requires_))
+        (fit_demands p.candidates (AtReturn k) q.ensures_ its.ensures_)
 
     pub scalars : AreScalars (incarnations_in p k m q)
     scalars =
         scalars_append (types_of p.globals) _ globals_scalar
-        (scalars_append (types_of ds) _ frame_scalar (made_scalars p ds globals_scalar frame_scalar (blocks_in p k m q) [] (length p.globals + length ds) free))
+        (scalars_append (types_of ds) _ frame_scalar (made_scalars p ds globals_scalar frame_scalar (blocks_in p k m q) [] (length p.globals + length ds) fits))
 
     pub sorted : TypedBlocks (sig_over p (incarnations_in p k m q)) (passives_in p k m q) → blocks_sorted (sorts_in p k m q) p.candidates (passives_in p k m q) ≡ true
     sorted h =
         let t = subst (λ g. TypedBlocks g (passives_in p k m q)) (sig_same (incarnations_in p k m q)) h in
-        blocks_all (incarnations_in p k m q) scalars p.candidates (passives_in p k m q) t (passives_free (arrivals_in p k m q).arrivals (blocks_in p k m q) free)
+        blocks_all (incarnations_in p k m q) scalars p.candidates (passives_in p k m q) t (passives_fit p.candidates (arrivals_in p k m q).arrivals (blocks_in p k m q) fits)

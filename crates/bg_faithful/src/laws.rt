@@ -37,7 +37,7 @@ pub fn blocks_over_scalars_are_even()
     blocks_are_typed()
 }
 
-/// Each command of the passive blocks says a truth over incarnations that are truth values or numbers, and no candidate guards it.
+/// Each command of the passive blocks says a truth over incarnations that are truth values or numbers, and a candidate that guards it is declared.
 pub fn passive_blocks_have_sorts()
     ensures { (p : Prog) (k : ℕ) (m : Impl) (q : Proc) → IsTyped p → is_over_scalars true p ≡ true →
         slice_get p.implementations k ≡ Some m → procedure_of p m.procedure ≡ Some q →

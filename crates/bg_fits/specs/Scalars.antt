@@ -1,5 +1,5 @@
 -- Programs over truth values and whole numbers, and nothing else: what passes a test of types and one of expressions.
-use Rattle.std.specs.Prelude.{Bool, true, false, ◌&&◌, List, [], ◌∷◌, is_none, ◌==◌}
+use Rattle.std.specs.Prelude.{ℕ, nat_lt, Bool, true, false, ◌&&◌, List, [], ◌∷◌, Option, Some, None}
 use Rattle.std.specs.List.{list_all}
 use Rattle.bg_ast.specs.Values.{Ty, IntTy, BoolTy}
 use Rattle.bg_ast.specs.Syntax.{Ex, Number, Fact, Read, Not, Negative, Binary, Old, Exs, NoMore, More, Clause, Guard, Star, Test, St, Skip, Then, Label, Assert, Assume, Havoc, Assign, Invoke, If, While, Break, Goto, Return, Decl, Proc, Impl, Prog}
@@ -8,14 +8,19 @@ abbrev pub is_empty : {A : Type 0} → List A → Bool
 is_empty [] = true
 is_empty (x ∷ xs) = false
 
+-- there is no candidate, or it is one of the first n
+abbrev pub is_declared : ℕ → Option ℕ → Bool
+is_declared n None = true
+is_declared n (Some b) = nat_lt b n
+
 -- each of a list passes
 abbrev pub exs_pass : (Ex → Bool) → Exs → Bool
 exs_pass ex NoMore = true
 exs_pass ex (More e es) = ex e && exs_pass ex es
 
--- no candidate guards the clause, and what it says passes
-abbrev pub clause_passes : (Ex → Bool) → Clause → Bool
-clause_passes ex k = is_none k.candidate && ex k.says
+-- a candidate that guards the clause is one of the first n, and what the clause says passes
+abbrev pub clause_passes : ℕ → (Ex → Bool) → Clause → Bool
+clause_passes n ex k = is_declared n k.candidate && ex k.says
 
 -- a free choice, or a test that passes
 abbrev pub guard_passes : (Ex → Bool) → Guard → Bool
@@ -23,21 +28,21 @@ guard_passes ex Star = true
 guard_passes ex (Test e) = ex e
 
 -- each expression of the statement passes, and each of its clauses
-abbrev pub st_passes : (Ex → Bool) → St → Bool
-st_passes ex Skip = true
-st_passes ex (Then a b) = st_passes ex a && st_passes ex b
-st_passes ex (Label l) = true
-st_passes ex (Assert k) = clause_passes ex k
-st_passes ex (Assume e) = ex e
-st_passes ex (Havoc xs) = true
-st_passes ex (Assign xs es) = exs_pass ex es
-st_passes ex (Invoke k) = exs_pass ex k.args
-st_passes ex (If n g a b) = guard_passes ex g && (st_passes ex a && st_passes ex b)
-st_passes ex (While n g invariants a) =
-    guard_passes ex g && (list_all (clause_passes ex) invariants && st_passes ex a)
-st_passes ex (Break n) = true
-st_passes ex (Goto ls) = true
-st_passes ex Return = true
+abbrev pub st_passes : ℕ → (Ex → Bool) → St → Bool
+st_passes n ex Skip = true
+st_passes n ex (Then a b) = st_passes n ex a && st_passes n ex b
+st_passes n ex (Label l) = true
+st_passes n ex (Assert k) = clause_passes n ex k
+st_passes n ex (Assume e) = ex e
+st_passes n ex (Havoc xs) = true
+st_passes n ex (Assign xs es) = exs_pass ex es
+st_passes n ex (Invoke k) = exs_pass ex k.args
+st_passes n ex (If t g a b) = guard_passes ex g && (st_passes n ex a && st_passes n ex b)
+st_passes n ex (While t g invariants a) =
+    guard_passes ex g && (list_all (clause_passes n ex) invariants && st_passes n ex a)
+st_passes n ex (Break t) = true
+st_passes n ex (Goto ls) = true
+st_passes n ex Return = true
 
 -- a variable of a type that passes, and what its `where` clauses say
 abbrev pub decl_passes : (Ty → Bool) → (Ex → Bool) → Decl → Bool
@@ -46,19 +51,19 @@ decl_passes ty ex d = ty d.ty && list_all ex d.wheres
 abbrev pub decls_pass : (Ty → Bool) → (Ex → Bool) → List Decl → Bool
 decls_pass ty ex ds = list_all (decl_passes ty ex) ds
 
-abbrev pub proc_passes : (Ty → Bool) → (Ex → Bool) → Proc → Bool
-proc_passes ty ex q =
+abbrev pub proc_passes : ℕ → (Ty → Bool) → (Ex → Bool) → Proc → Bool
+proc_passes n ty ex q =
     decls_pass ty ex q.params
-    && (decls_pass ty ex q.results && (list_all (clause_passes ex) q.requires_ && list_all (clause_passes ex) q.ensures_))
+    && (decls_pass ty ex q.results && (list_all (clause_passes n ex) q.requires_ && list_all (clause_passes n ex) q.ensures_))
 
-abbrev pub impl_passes : (Ty → Bool) → (Ex → Bool) → Impl → Bool
-impl_passes ty ex m = decls_pass ty ex m.locals && st_passes ex m.body
+abbrev pub impl_passes : ℕ → (Ty → Bool) → (Ex → Bool) → Impl → Bool
+impl_passes n ty ex m = decls_pass ty ex m.locals && st_passes n ex m.body
 
--- variables, procedures and implementations that pass, and nothing else
+-- variables, procedures and implementations that pass, candidates, and nothing else
 abbrev pub passes : (Ty → Bool) → (Ex → Bool) → Prog → Bool
 passes ty ex p =
     decls_pass ty ex p.globals
-    && (is_empty p.constants && (is_empty p.functions && (is_empty p.axioms && (p.candidates == 0 && (list_all (proc_passes ty ex) p.procedures && list_all (impl_passes ty ex) p.implementations)))))
+    && (is_empty p.constants && (is_empty p.functions && (is_empty p.axioms && (list_all (proc_passes p.candidates ty ex) p.procedures && list_all (impl_passes p.candidates ty ex) p.implementations))))
 
 -- `bool`, and `int` where numbers may stand
 abbrev pub is_scalar_type : (numbers : Bool) → Ty → Bool

@@ -8,7 +8,7 @@ ghost use Rattle.bg_sense.specs.Run.{Answer, BadChoice, induction_run};
 ghost use Rattle.bg_sense.specs.Claims.{Meets, Safe, Fails};
 ghost use Rattle.bg_fits.specs.Scalars.{is_over_scalars};
 ghost use Rattle.bg_sound.specs.Told.{Consistent, Outcome, retained, word_of, are_settled, status_of};
-ghost use Rattle.bg_sound.specs.Sound.{AreAxioms, IsRetained, IsSound};
+ghost use Rattle.bg_sound.specs.Sound.{AreAxioms, IsSound};
 
 /// Two reports of one program that both call the retained set greatest retain the same candidates.
 pub fn greatest_sets_agree()
@@ -33,9 +33,9 @@ pub fn shorter_runs_lack_a_choice_or_fail()
         Fails p set t i s (front ++ (last ∷ [])) → (induction_run p set i t.implementation s front ≡ BadChoice) ⊎ Fails p set t i s front }
 {}
 
-/// A program over truth values and whole numbers alone has consistent axioms, and the empty set is its greatest.
-pub fn programs_over_scalars_are_plain()
-    ensures { (p : Prog) (numbers : Bool) → is_over_scalars numbers p ≡ true → AreAxioms p Consistent × IsRetained p (λ b. false) true }
+/// A program over truth values and whole numbers alone has consistent axioms.
+pub fn programs_over_scalars_are_consistent()
+    ensures { (p : Prog) (numbers : Bool) → is_over_scalars numbers p ≡ true → AreAxioms p Consistent }
 {}
 
 /// Status 0 says that some interpretation meets the program, and that no execution of any implementation fails, of any number of steps,
