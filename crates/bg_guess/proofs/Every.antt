@@ -1,9 +1,11 @@
 -- What holds of each guess of a list.
-use Rattle.std.proofs.Common.{ℕ, suc, List, [], ◌∷◌, ◌++◌, map}
+use Rattle.std.proofs.Common.{ℕ, suc, List, [], ◌∷◌, ◌++◌, map, subst, sym}
+use Rattle.std.proofs.lemmas.List.{map-append}
 use Rattle.std.specs.Prelude.{All}
 use Rattle.std.proofs.lemmas.List.Elements.{All-nil, All-cons, All-head, All-tail, All-append, All-push, All-map, All-weaker}
 use Rattle.bg_base.specs.declared.pos.Pos.{Pos}
 use Rattle.bg_ast.specs.declared.resolved.Variable.{Variable}
+use Rattle.bg_ast.specs.Resolved as r
 use Rattle.bg_ast.specs.Syntax as s
 use Rattle.bg_ast.specs.Meaning.{ex_of, clause_of}
 use Rattle.bg_guess.specs.declared.claim.Claim.{Claim}
@@ -34,3 +36,9 @@ guesses_all Q above p b [] h = All-nil (λ (k : s.Clause). Q k.says)
 guesses_all Q above p b (c ∷ cs) h =
     All-cons (λ (k : s.Clause). Q k.says) (clause_of (guess above p b c)) (map clause_of (guesses above p (suc b) cs)) (All-head (λ d. Q (ex_of (says p d))) c cs h)
     (guesses_all Q above p (suc b) cs (All-tail (λ d. Q (ex_of (says p d))) c cs h))
+
+-- clauses, and guesses behind them
+pub behind : (P : s.Ex → Type 0) (above : ℕ) (p : Pos) (b : ℕ) (l : Subjects) (ks : List r.Clause) → All (λ (k : s.Clause). P k.says) (map clause_of ks) → All (λ c. P (ex_of (says p c))) (claims l) → All (λ (k : s.Clause). P k.says) (map clause_of (ks ++ guesses above p b (claims l)))
+behind P above p b l ks h k =
+    subst (All (λ (k : s.Clause). P k.says)) (sym (map-append clause_of ks (guesses above p b (claims l))))
+    (All-append (λ (k : s.Clause). P k.says) (map clause_of ks) (map clause_of (guesses above p b (claims l))) h (guesses_all P above p b (claims l) k))

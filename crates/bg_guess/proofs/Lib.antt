@@ -12,5 +12,6 @@ pub mod Rows
 pub mod Totals
 pub mod Fresh
 pub mod ResolvedWhole
+pub mod Passing
 pub mod Sizes
 pub mod CallForms

@@ -18,7 +18,7 @@ use Rattle.bg_guess.specs.Claims.{Subjects, claims, says, nothing}
 use Rattle.bg_guess.specs.Lists.{subjects}
 use Rattle.bg_guess.specs.Loops.{size, guesses}
 use Rattle.bg_guess.specs.Guessed.{Survey, survey_of, requires_sight, ensures_sight, loop_sight, required, ensured, invariant, impl_count, next_proc, guessed_proc, guessed_procs, guessed_body, guessed_impl, guessed_impls, add_at, loop_counts, loop_starts, above_all, guessed}
-use Rattle.bg_guess.proofs.Every.{guesses_all}
+use Rattle.bg_guess.proofs.Every.{behind}
 use Rattle.bg_guess.proofs.Saying.{Speaks, formulas, without_old, speaks, end_append, risen}
 use Rattle.bg_guess.proofs.TypedBodies.{Carries, typed_sts}
 
@@ -37,12 +37,6 @@ spoken g false l h = (λ k d lt. absurd (omega arith), λ k d lt. absurd (omega 
 none_kept : (b : Bool) (l : Subjects) → l.kept ≡ [] → (if b then l else nothing).kept ≡ []
 none_kept true l h = h
 none_kept false l h = refl
-
--- clauses, and guesses behind them
-behind : (P : s.Ex → Type 0) (above : ℕ) (p : Pos) (b : ℕ) (l : Subjects) (ks : List r.Clause) → All (λ (k : s.Clause). P k.says) (map clause_of ks) → All (λ c. P (ex_of (says p c))) (claims l) → All (λ (k : s.Clause). P k.says) (map clause_of (ks ++ guesses above p b (claims l)))
-behind P above p b l ks h k =
-    subst (All (λ (k : s.Clause). P k.says)) (sym (map-append clause_of ks (guesses above p b (claims l))))
-    (All-append (λ (k : s.Clause). P k.says) (map clause_of ks) (map clause_of (guesses above p b (claims l))) h (guesses_all P above p b (claims l) k))
 
 -- what procedures modify is there
 pub modifies_there : (p : r.Program) → IsResolved (meaning_of p) → (j : ℕ) (o : r.Proc) → slice_get p.procedures j ≡ Some o → All (λ x. x < length (meaning_of p).globals) o.modifies
