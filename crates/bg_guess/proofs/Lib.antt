@@ -13,5 +13,6 @@ pub mod Totals
 pub mod Fresh
 pub mod ResolvedWhole
 pub mod Passing
+pub mod Erasing
 pub mod Sizes
 pub mod CallForms

@@ -1,15 +1,14 @@
 -- A program over truth values and whole numbers stays one.
 use Rattle.std.proofs.Common.{◌≡◌, ℕ, suc, ◌+◌, Bool, true, ◌&&◌, List, [], ◌∷◌, ◌++◌, map, length, Option, Some, None, refl, arith, inl, inr}
 use Rattle.std.proofs.lemmas.Bool.Decides.{nat_tests}
-use Rattle.std.specs.Prelude.{All, Contains, slice_get, slice_index_or, get_or, nat_lt}
+use Rattle.std.specs.Prelude.{All, Contains, slice_get, slice_index_or, get_or}
 use Rattle.std.specs.List.{list_all}
-use Rattle.std.proofs.lemmas.List.{map-append}
 use Rattle.std.proofs.lemmas.List.Elements.{All-nil, All-cons, All-head, All-tail}
 use Rattle.bg_base.specs.declared.pos.Pos.{Pos}
 use Rattle.bg_ast.specs.Values.{Ty}
 use Rattle.bg_ast.specs.Resolved as r
 use Rattle.bg_ast.specs.Syntax as s
-use Rattle.bg_ast.specs.Meaning.{ex_of, clause_of, guard_of, decl_of, proc_of, impl_of, named_of, st_of, sts_of, arms_of, meaning_of}
+use Rattle.bg_ast.specs.Meaning.{ex_of, clause_of, guard_of, proc_of, impl_of, named_of, st_of, sts_of, arms_of, meaning_of}
 use Rattle.bg_sense.specs.Resolved.{clauses_in, specified, in_bodies, clauses_of, HasCandidate, IsResolved}
 use Rattle.bg_sense.proofs.Members.{In, contained}
 use Rattle.bg_sense.proofs.Bools.{and_left, and_right, both}
@@ -23,7 +22,7 @@ use Rattle.bg_guess.proofs.Every.{behind}
 use Rattle.bg_guess.proofs.ResolvedWhole.{resolved}
 
 -- the candidate of a clause is there
-abbrev Declared : ℕ → s.Clause → Type 0
+abbrev pub Declared : ℕ → s.Clause → Type 0
 Declared n k = is_declared n k.candidate ≡ true
 
 -- what a clause says is over truth values and whole numbers
@@ -33,11 +32,11 @@ Plain k = is_scalar true k.says ≡ true
 abbrev passes_in : ℕ → s.Clause → Bool
 passes_in n = clause_passes n (is_scalar true)
 
-all_left : {A : Type 0} (P : A → Type 0) (xs ys : List A) → All P (xs ++ ys) → All P xs
+pub all_left : {A : Type 0} (P : A → Type 0) (xs ys : List A) → All P (xs ++ ys) → All P xs
 all_left P [] ys h = All-nil P
 all_left P (x ∷ xs) ys h = All-cons P x xs (All-head P x (xs ++ ys) h) (all_left P xs ys (All-tail P x (xs ++ ys) h))
 
-all_right : {A : Type 0} (P : A → Type 0) (xs ys : List A) → All P (xs ++ ys) → All P ys
+pub all_right : {A : Type 0} (P : A → Type 0) (xs ys : List A) → All P (xs ++ ys) → All P ys
 all_right P [] ys h = h
 all_right P (x ∷ xs) ys h = all_right P xs ys (All-tail P x (xs ++ ys) h)
 
@@ -203,7 +202,7 @@ there : (n : ℕ) (o : Option ℕ) (k : s.Clause) → HasCandidate n o k → is_
 there n None k h = refl
 there n (Some b) k h = let lt = h.0 in grind (arith, nat_tests)
 
-all_declared : (n : ℕ) (ks : List s.Clause) → ((k : s.Clause) → Contains ks k → HasCandidate n k.candidate k) → All (Declared n) ks
+pub all_declared : (n : ℕ) (ks : List s.Clause) → ((k : s.Clause) → Contains ks k → HasCandidate n k.candidate k) → All (Declared n) ks
 all_declared n ks h = each ks (λ k i. h k (contained ks k i))
   where
     each : (ls : List s.Clause) → ((k : s.Clause) → In ls k → HasCandidate n k.candidate k) → All (Declared n) ls

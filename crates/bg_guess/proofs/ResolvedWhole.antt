@@ -20,7 +20,7 @@ procs_long : (named : ℕ → Ty) (v : Survey) (loops : List ℕ) (above b k : �
 procs_long named v loops above b k [] = refl
 procs_long named v loops above b k (q ∷ qs) = ap suc (procs_long named v loops above (next_proc v loops b k q) (suc k) qs)
 
-starts_long : (v : Survey) (loops : List ℕ) (b k : ℕ) (qs : List r.Proc) → length (loop_starts v loops b k qs) ≡ length qs
+pub starts_long : (v : Survey) (loops : List ℕ) (b k : ℕ) (qs : List r.Proc) → length (loop_starts v loops b k qs) ≡ length qs
 starts_long v loops b k [] = refl
 starts_long v loops b k (q ∷ qs) = ap suc (starts_long v loops (next_proc v loops b k q) (suc k) qs)
 

@@ -2,21 +2,19 @@
 use Rattle.std.proofs.Common.{◌≡◌, ℕ, zero, suc, ◌+◌, ◌<◌, List, [], ◌∷◌, ◌++◌, map, length, Some, if◌then◌else◌, refl, ap, ◌∙◌, sym, subst, arith, true, false, Bool}
 use Rattle.std.specs.Prelude.{All, slice_get, slice_index_or, get_or, option_map}
 use Rattle.std.proofs.lemmas.Option.{slice_get-map, slice_get-get_or}
-use Rattle.std.proofs.lemmas.List.{map-append}
-use Rattle.std.proofs.lemmas.List.Elements.{All-nil, All-cons, All-head, All-tail, All-append, All-weaker}
-use Rattle.bg_base.specs.declared.pos.Pos.{Pos}
+use Rattle.std.proofs.lemmas.List.Elements.{All-nil, All-cons, All-head, All-tail, All-weaker}
 use Rattle.bg_ast.specs.Values.{Ty}
 use Rattle.bg_ast.specs.Resolved as r
 use Rattle.bg_ast.specs.Syntax as s
-use Rattle.bg_ast.specs.Meaning.{ex_of, clause_of, decl_of, proc_of, impl_of, named_of, sts_of, meaning_of}
+use Rattle.bg_ast.specs.Meaning.{clause_of, decl_of, proc_of, impl_of, named_of, sts_of, meaning_of}
 use Rattle.bg_sense.specs.Variables.{modified, type_in}
 use Rattle.bg_sense.specs.Types.{types_of}
 use Rattle.bg_sense.specs.Typing.{Sig, sig_in, HaveTypes, types_in}
 use Rattle.bg_sense.specs.Resolved.{IsResolved}
 use Rattle.bg_sense.specs.Typed.{AreLinear, AreApart, AreTypedDecls, IsFormula, HasNoOld, Around, MayChange, sig_around, around, IsTypedCall, IsTypedStatement, IsTypedProc, IsTypedImpl, IsTyped}
-use Rattle.bg_guess.specs.Claims.{Subjects, claims, says, nothing}
+use Rattle.bg_guess.specs.Claims.{Subjects, nothing}
 use Rattle.bg_guess.specs.Lists.{subjects}
-use Rattle.bg_guess.specs.Loops.{size, guesses}
+use Rattle.bg_guess.specs.Loops.{size}
 use Rattle.bg_guess.specs.Guessed.{Survey, survey_of, requires_sight, ensures_sight, loop_sight, required, ensured, invariant, impl_count, next_proc, guessed_proc, guessed_procs, guessed_body, guessed_impl, guessed_impls, add_at, loop_counts, loop_starts, above_all, guessed}
 use Rattle.bg_guess.proofs.Every.{behind}
 use Rattle.bg_guess.proofs.Saying.{Speaks, formulas, without_old, speaks, end_append, risen}

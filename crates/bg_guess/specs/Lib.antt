@@ -3,4 +3,5 @@ pub mod Lists
 pub mod Calls
 pub mod Loops
 pub mod Guessed
+pub mod Erased
 pub mod Views

@@ -6,6 +6,7 @@ ghost use Rattle.bg_sense.specs.Typed.{IsTyped};
 ghost use Rattle.bg_sense.specs.Resolved.{IsResolved};
 ghost use Rattle.bg_fits.specs.Scalars.{is_over_scalars};
 ghost use Rattle.bg_guess.specs.Guessed.{guessed};
+ghost use Rattle.bg_guess.specs.Erased.{erased};
 
 /// A typed program with its guesses is typed.
 pub fn guesses_are_typed()
@@ -20,4 +21,9 @@ pub fn guesses_are_resolved()
 /// A resolved program over truth values and whole numbers stays one with its guesses.
 pub fn guesses_are_over_scalars()
     ensures { (p : Program) → IsResolved (meaning_of p) → is_over_scalars true (meaning_of p) ≡ true → is_over_scalars true (meaning_of (guessed p)) ≡ true }
+{}
+
+/// Without the candidates that it has behind its own, and their clauses, a resolved program with its guesses is what it was.
+pub fn erased_guesses_leave_the_program()
+    ensures { (p : Program) → IsResolved (meaning_of p) → erased (length p.candidates) (guessed p) ≡ p }
 {}
