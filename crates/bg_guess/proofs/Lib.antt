@@ -16,3 +16,4 @@ pub mod Passing
 pub mod Erasing
 pub mod Sizes
 pub mod CallForms
+pub mod Marks

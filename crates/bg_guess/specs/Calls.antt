@@ -1,6 +1,28 @@
 -- Which procedures are called from elsewhere, which have an implementation, and which numbers clauses have.
-use Rattle.std.specs.Prelude.{ℕ, suc, max, Bool, true, if◌then◌else◌, ◌==◌, List, [], ◌∷◌, slice_set}
+use Rattle.std.specs.Prelude.{ℕ, zero, suc, max, Bool, true, not, if◌then◌else◌, ◌==◌, List, [], ◌∷◌, ◌++◌, filter, slice_set}
+use Rattle.std.specs.List.{list_any}
 use Rattle.bg_ast.specs.Resolved as r
+use Rattle.bg_ast.specs.Meaning.{sts_of}
+use Rattle.bg_sense.specs.Resolved.{called_in}
+
+-- the procedures among these that are another one
+abbrev pub others : ℕ → List ℕ → List ℕ
+others own ks = filter (λ k. not (k == own)) ks
+
+-- the procedures that an implementation of another one calls
+abbrev pub called : List r.Impl → List ℕ
+called [] = []
+called (m ∷ ms) = others m.procedure (called_in (sts_of m.body)) ++ called ms
+
+-- the procedures that have an implementation
+abbrev pub implemented : List r.Impl → List ℕ
+implemented [] = []
+implemented (m ∷ ms) = m.procedure ∷ implemented ms
+
+-- for each of n numbers from k on, whether it is one of these
+abbrev pub marks : (k n : ℕ) → List ℕ → List Bool
+marks k zero ks = []
+marks k (suc n) ks = list_any (λ j. j == k) ks ∷ marks (suc k) n ks
 
 -- a mark at this number
 abbrev pub marked : ℕ → List Bool → List Bool

@@ -5,7 +5,7 @@ use Rattle.bg_text.specs.Trees.{Id}
 use Rattle.bg_ast.specs.Resolved as r
 use Rattle.bg_guess.specs.Claims.{Subjects, nothing, claims}
 use Rattle.bg_guess.specs.Lists.{Base, Sight, number_globals, subjects}
-use Rattle.bg_guess.specs.Calls.{mark_called, mark_implemented, above_procs, above_impls}
+use Rattle.bg_guess.specs.Calls.{called, implemented, marks, above_procs, above_impls}
 use Rattle.bg_guess.specs.Loops.{guesses, size, sts_guesses, guessed_sts}
 
 -- what lists are made of: the globals, a mark for each procedure that an implementation of another one calls, and one for each that
@@ -15,15 +15,12 @@ pub record Survey : Type 0 where
   pub called : List Bool
   pub implemented : List Bool
 
-abbrev pub no_marks : List r.Proc → List Bool
-no_marks qs = replicate (length qs) false
-
 abbrev pub survey : List r.TypeName → List r.Declared → List r.Proc → List r.Impl → Survey
 survey ts gs qs ms =
     record {
       base = record { types = ts; globals = gs; numbers = number_globals ts gs };
-      called = mark_called ms (no_marks qs);
-      implemented = mark_implemented ms (no_marks qs);
+      called = marks 0 (length qs) (called ms);
+      implemented = marks 0 (length qs) (implemented ms);
     }
 
 -- preconditions see parameters, postconditions see results too, and what their procedure modifies may have changed

@@ -1,5 +1,5 @@
 //! Which procedures are called from elsewhere, and which numbers clauses have.
-ghost use Rattle.std.specs.Prelude.{◌≡◌, length, map, replicate, false, IfOk};
+ghost use Rattle.std.specs.Prelude.{◌≡◌, length, map, IfOk};
 ghost use Rattle.bg_ast.specs.Views.{clause_of, st_of, sts_in, arms_from, arm_view, proc_of, impl_of};
 ghost use Rattle.bg_guess.specs.Calls as s;
 
@@ -110,8 +110,8 @@ pub fn search_all(
     procedures: &[Procedure],
     implementations: &[Implementation],
 ) -> Result<Found, AllocError>
-    ensures called { IfOk result (λ f. f.called.items ≡ s.mark_called (map impl_of implementations.now) (replicate (length procedures.now) false)) }
-    ensures implemented { IfOk result (λ f. f.implemented.items ≡ s.mark_implemented (map impl_of implementations.now) (replicate (length procedures.now) false)) }
+    ensures called { IfOk result (λ f. f.called.items ≡ s.marks 0 (length procedures.now) (s.called (map impl_of implementations.now))) }
+    ensures implemented { IfOk result (λ f. f.implemented.items ≡ s.marks 0 (length procedures.now) (s.implemented (map impl_of implementations.now))) }
     ensures above { IfOk result (λ f. f.above ≡ s.above_impls (s.above_procs 0 (map proc_of procedures.now)) (map impl_of implementations.now)) }
 {
     let mut called = vec![in alloc; false; procedures.len()]?;
