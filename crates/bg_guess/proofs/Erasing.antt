@@ -162,7 +162,7 @@ impls_back n named v qs above ns (m ∷ ms) lt i h =
     (impls_back n named v qs above later ms (All-set (λ k. n ≤ k) ns p (b + c) (omega (arith, least)) lt)
     (subst (λ k. All (λ (z : s.Impl). z.procedure < k) (map (impl_of named) ms)) (sym long) (All-tail I (impl_of named m) (map (impl_of named) ms) i)) (all_right (Declared n) own rest h))
 
-starts_above : (n : ℕ) (v : Survey) (loops : List ℕ) (b k : ℕ) (qs : List r.Proc) → n ≤ b → All (λ j. n ≤ j) (loop_starts v loops b k qs)
+pub starts_above : (n : ℕ) (v : Survey) (loops : List ℕ) (b k : ℕ) (qs : List r.Proc) → n ≤ b → All (λ j. n ≤ j) (loop_starts v loops b k qs)
 starts_above n v loops b k [] lt = All-nil (λ j. n ≤ j)
 starts_above n v loops b k (q ∷ qs) lt =
     All-cons (λ j. n ≤ j) (b + proc_count v k q) (loop_starts v loops (next_proc v loops b k q) (suc k) qs) (omega (arith, lt)) (starts_above n v loops (next_proc v loops b k q) (suc k) qs (omega (arith, lt)))

@@ -14,6 +14,7 @@ pub mod Fresh
 pub mod ResolvedWhole
 pub mod Passing
 pub mod Erasing
+pub mod Ordering
 pub mod Sizes
 pub mod CallForms
 pub mod Marks

@@ -67,7 +67,7 @@ impls_hold P named v qs above ns (m ∷ ms) h =
     (subst (P m.procedure) (sym same.3) (All-head Q (impl_of named m) (map (impl_of named) ms) h))
     (impls_hold P named v qs above later ms (All-tail Q (impl_of named m) (map (impl_of named) ms) h))
 
-unmapped : (P : ℕ → Type 0) (named : ℕ → Ty) (ms : List r.Impl) → All (λ (m : s.Impl). P m.procedure) (map (impl_of named) ms) → All (λ (m : r.Impl). P m.procedure) ms
+pub unmapped : (P : ℕ → Type 0) (named : ℕ → Ty) (ms : List r.Impl) → All (λ (m : s.Impl). P m.procedure) (map (impl_of named) ms) → All (λ (m : r.Impl). P m.procedure) ms
 unmapped P named [] h = All-nil (λ (m : r.Impl). P m.procedure)
 unmapped P named (m ∷ ms) h =
     All-cons (λ (k : r.Impl). P k.procedure) m ms (All-head (λ (k : s.Impl). P k.procedure) (impl_of named m) (map (impl_of named) ms) h)

@@ -70,7 +70,7 @@ impls_rows v qs above x ns cs (m ∷ ms) e h =
     let two = ap (λ l. impls_within v qs above l ms x) (ends_grown c p ns cs e lt) in
     omega (arith, rest, one, two)
 
-impls_sum : (v : Survey) (qs : List r.Proc) (cs : List ℕ) (ms : List r.Impl) → All (λ (m : r.Impl). m.procedure < length cs) ms → sum (with_loops v qs ms cs) ≡ sum cs + impls_count v qs ms
+pub impls_sum : (v : Survey) (qs : List r.Proc) (cs : List ℕ) (ms : List r.Impl) → All (λ (m : r.Impl). m.procedure < length cs) ms → sum (with_loops v qs ms cs) ≡ sum cs + impls_count v qs ms
 impls_sum v qs cs [] h = omega arith
 impls_sum v qs cs (m ∷ ms) h =
     let c = impl_count v qs m in
@@ -93,17 +93,17 @@ rows_empty : (above x : ℕ) (ns : List ℕ) → rows_within above ns (replicate
 rows_empty above x [] = refl
 rows_empty above x (n ∷ ns) = let h = within_none (above + n) x in let k = rows_empty above x ns in omega (arith, h, k)
 
-sum_empty : (n : ℕ) → sum (replicate n 0) ≡ 0
+pub sum_empty : (n : ℕ) → sum (replicate n 0) ≡ 0
 sum_empty zero = refl
 sum_empty (suc n) = let h = sum_empty n in omega (arith, h)
 
 -- how many numbers procedures have with the loops of their implementations
-abbrev total : Survey → ℕ → List r.Proc → List ℕ → ℕ
+abbrev pub total : Survey → ℕ → List r.Proc → List ℕ → ℕ
 total v k [] cs = 0
 total v k (q ∷ qs) [] = 0
 total v k (q ∷ qs) (c ∷ cs) = proc_count v k q + (c + total v (suc k) qs cs)
 
-total_is : (v : Survey) (k : ℕ) (qs : List r.Proc) (cs : List ℕ) → length qs ≡ length cs → total v k qs cs ≡ procs_count v k qs + sum cs
+pub total_is : (v : Survey) (k : ℕ) (qs : List r.Proc) (cs : List ℕ) → length qs ≡ length cs → total v k qs cs ≡ procs_count v k qs + sum cs
 total_is v k [] [] e = refl
 total_is v k [] (c ∷ cs) e = absurd (omega (arith, e))
 total_is v k (q ∷ qs) [] e = absurd (omega (arith, e))

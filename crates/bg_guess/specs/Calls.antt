@@ -48,10 +48,12 @@ abbrev mutual
   mark_arms own r.NoArm marks = marks
   mark_arms own (r.Arm g body arms) marks = mark_arms own arms (mark_sts own body marks)
 
+-- and at what implementations call, in turn
 abbrev pub mark_called : List r.Impl → List Bool → List Bool
 mark_called [] marks = marks
 mark_called (m ∷ ms) marks = mark_called ms (mark_sts m.procedure m.body marks)
 
+-- marks at procedures that have an implementation
 abbrev pub mark_implemented : List r.Impl → List Bool → List Bool
 mark_implemented [] marks = marks
 mark_implemented (m ∷ ms) marks = mark_implemented ms (marked m.procedure marks)
@@ -62,6 +64,7 @@ above n [] = n
 above n (k ∷ ks) = above (max n (suc k.id)) ks
 
 abbrev mutual
+  -- and above those of a statement
   pub above_st : ℕ → r.St → ℕ
   above_st n (r.Assert k) = above n (k ∷ [])
   above_st n (r.If j arms otherwise) = above_sts (above_arms n arms) otherwise
@@ -76,10 +79,12 @@ abbrev mutual
   above_arms n r.NoArm = n
   above_arms n (r.Arm g body arms) = above_arms (above_sts n body) arms
 
+-- and above those of procedures
 abbrev pub above_procs : ℕ → List r.Proc → ℕ
 above_procs n [] = n
 above_procs n (q ∷ qs) = above_procs (above (above n q.requires_) q.ensures_) qs
 
+-- and above those of implementations
 abbrev pub above_impls : ℕ → List r.Impl → ℕ
 above_impls n [] = n
 above_impls n (m ∷ ms) = above_impls (above_sts n m.body) ms

@@ -16,9 +16,11 @@ pub record Subjects : Type 0 where
   pub numbers : List Variable
   pub kept : List ℕ
 
+-- the same of the code's list
 abbrev pub subjects_of : code.Subjects → Subjects
 subjects_of s = record { numbers = s.numbers.items; kept = s.kept.items }
 
+-- a list without guesses
 abbrev pub nothing : Subjects
 nothing = record { numbers = []; kept = [] }
 
@@ -35,6 +37,7 @@ pairs front (v ∷ back) = (bounds v front ++ bounds v back) ++ pairs (front ++ 
 abbrev pub claims : Subjects → List Claim
 claims s = map NotNegative s.numbers ++ (pairs [] s.numbers ++ map Unchanged s.kept)
 
+-- a variable in relation to an expression
 abbrev pub relation : Pos → Variable → InfixSign → r.Ex → r.Ex
 relation p v g e = r.Chain (r.Read p (var_of v)) (r.Link p g e r.NoLink)
 

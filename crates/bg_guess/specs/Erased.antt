@@ -43,6 +43,7 @@ erased_proc n q =
       ensures_ = filter (is_own n) q.ensures_;
     }
 
+-- an implementation, with the invariants alone that are its own
 abbrev pub erased_impl : ℕ → r.Impl → r.Impl
 erased_impl n m =
     record {

@@ -15,6 +15,7 @@ pub record Survey : Type 0 where
   pub called : List Bool
   pub implemented : List Bool
 
+-- that of these types, globals, procedures and implementations
 abbrev pub survey : List r.TypeName → List r.Declared → List r.Proc → List r.Impl → Survey
 survey ts gs qs ms =
     record {
@@ -65,6 +66,7 @@ invariant v q m = subjects v.base (loop_sight q m)
 abbrev pub proc_count : Survey → ℕ → r.Proc → ℕ
 proc_count v k q = size (required v k q) + size (ensured v k q)
 
+-- and those of procedures, from number k on
 abbrev pub procs_count : Survey → ℕ → List r.Proc → ℕ
 procs_count v k [] = 0
 procs_count v k (q ∷ qs) = proc_count v k q + procs_count v (suc k) qs
@@ -74,9 +76,11 @@ abbrev pub count_of : Survey → r.Impl → Option r.Proc → ℕ
 count_of v m None = 0
 count_of v m (Some q) = sts_guesses (size (invariant v q m)) m.body
 
+-- the same, where its procedure is found by its number
 abbrev pub impl_count : Survey → List r.Proc → r.Impl → ℕ
 impl_count v qs m = count_of v m (slice_get qs m.procedure)
 
+-- and those of implementations
 abbrev pub impls_count : Survey → List r.Proc → List r.Impl → ℕ
 impls_count v qs [] = 0
 impls_count v qs (m ∷ ms) = impl_count v qs m + impls_count v qs ms
@@ -85,6 +89,7 @@ impls_count v qs (m ∷ ms) = impl_count v qs m + impls_count v qs ms
 abbrev pub whole_count : Survey → List r.Proc → List r.Impl → ℕ
 whole_count v qs ms = procs_count v 0 qs + impls_count v qs ms
 
+-- that of a program, and how many guesses it has
 abbrev pub survey_of : r.Program → Survey
 survey_of p = survey p.types p.globals p.procedures p.implementations
 
@@ -100,6 +105,7 @@ abbrev pub with_loops : Survey → List r.Proc → List r.Impl → List ℕ → 
 with_loops v qs [] ns = ns
 with_loops v qs (m ∷ ms) ns = with_loops v qs ms (add_at m.procedure (impl_count v qs m) ns)
 
+-- those of all, by procedure
 abbrev pub loop_counts : Survey → List r.Proc → List r.Impl → List ℕ
 loop_counts v qs ms = with_loops v qs ms (replicate (length qs) 0)
 
@@ -125,6 +131,7 @@ guessed_proc v above b k q =
       ensures_ = q.ensures_ ++ guesses above q.pos (b + size (required v k q)) (claims (ensured v k q));
     }
 
+-- procedures in turn, from number k on
 abbrev pub guessed_procs : Survey → List ℕ → (above b k : ℕ) → List r.Proc → List r.Proc
 guessed_procs v loops above b k [] = []
 guessed_procs v loops above b k (q ∷ qs) =
@@ -135,6 +142,7 @@ abbrev pub guessed_body : Survey → (above b : ℕ) → r.Impl → Option r.Pro
 guessed_body v above b m None = m.body
 guessed_body v above b m (Some q) = guessed_sts above (invariant v q m) b m.body
 
+-- the same, where its procedure is found by its number
 abbrev pub guessed_impl : Survey → List r.Proc → (above b : ℕ) → r.Impl → r.Impl
 guessed_impl v qs above b m =
     record {

@@ -4,4 +4,5 @@ pub mod Calls
 pub mod Loops
 pub mod Guessed
 pub mod Erased
+pub mod Order
 pub mod Views

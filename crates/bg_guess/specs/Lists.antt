@@ -27,9 +27,11 @@ pub record Sight : Type 0 where
   pub types : Frame
   pub modifies : List ℕ
 
+-- the same of the code's frame
 abbrev pub frame_of : frame.Frame → Frame
 frame_of f = record { params = map declared_of f.params.now; results = map declared_of f.results.now; locals = map declared_of f.locals.now }
 
+-- the same of the code's
 abbrev pub sight_of : sight.Sight → Sight
 sight_of s = record { names = frame_of s.names; types = frame_of s.types; modifies = s.modifies.now }
 
@@ -37,9 +39,11 @@ sight_of s = record { names = frame_of s.names; types = frame_of s.types; modifi
 abbrev pub has_name : List ℕ → List r.Declared → Bool
 has_name x ds = list_any (λ d. bytes_eq d.name.text x) ds
 
+-- whether a name of the frame hides this one
 abbrev pub is_hidden : Frame → List ℕ → Bool
 is_hidden f x = has_name x f.params || (has_name x f.results || has_name x f.locals)
 
+-- the same of a global that may be there
 abbrev pub is_seen_as : Frame → Option r.Declared → Bool
 is_seen_as f None = false
 is_seen_as f (Some d) = not (is_hidden f d.name.text)
@@ -52,6 +56,7 @@ is_seen globals f g = is_seen_as f (slice_get globals g)
 abbrev pub held : List r.TypeName → List r.Declared → List Holding
 held types ds = holdings_of (map (decl_of (named_of types)) ds)
 
+-- the same of all variables of a frame
 abbrev pub held_in : List r.TypeName → Frame → List Holding
 held_in types f = held types f.params ++ (held types f.results ++ held types f.locals)
 
@@ -72,6 +77,7 @@ pub record Base : Type 0 where
   pub globals : List r.Declared
   pub numbers : List ℕ
 
+-- the same of the code's
 abbrev pub base_of : code.Base → Base
 base_of g = record { types = map type_name_of g.types.now; globals = map declared_of g.globals.now; numbers = g.numbers.now }
 

@@ -14,6 +14,7 @@ pub struct Found {
     pub above: usize,
 }
 
+/// Marks a number, where there is such a one.
 fn mark(marks: &mut [bool], k: usize)
     ensures { marks.new ≡ s.marked k marks.old }
 {
@@ -22,6 +23,7 @@ fn mark(marks: &mut [bool], k: usize)
     }
 }
 
+/// Marks what is called, where another one calls it.
 fn mark_call(marks: &mut [bool], caller: u32, callee: u32)
     ensures { marks.new ≡ s.marked_call caller callee marks.old }
 {

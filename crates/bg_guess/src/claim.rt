@@ -24,6 +24,7 @@ pub struct Subjects {
     pub kept: Vec<u32>,
 }
 
+/// A variable in relation to an operand.
 fn relation(
     alloc: Global,
     pos: Pos,

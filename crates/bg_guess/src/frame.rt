@@ -36,6 +36,7 @@ pub struct Base<'a> {
     pub numbers: &'a [u32],
 }
 
+/// Whether one of these has the name.
 fn has_name(name: &[u8], declared: &[Declared]) -> bool
     ensures { result ≡ lists.has_name name.now (map declared_of declared.now) }
 {
@@ -47,6 +48,7 @@ fn has_name(name: &[u8], declared: &[Declared]) -> bool
     false
 }
 
+/// Whether a name of the frame hides this one.
 fn is_hidden(f: &Frame<'_>, name: &[u8]) -> bool
     ensures { result ≡ lists.is_hidden (lists.frame_of f.now) name.now }
 {

@@ -20,6 +20,7 @@ pub struct Survey<'a> {
     pub implemented: Vec<bool>,
 }
 
+/// Whether there is a mark at this number.
 fn mark_at(marks: &[bool], k: usize) -> bool
     ensures { result ≡ get_or marks.now k false }
 {
@@ -29,6 +30,7 @@ fn mark_at(marks: &[bool], k: usize) -> bool
     }
 }
 
+/// A list without guesses.
 fn nothing(alloc: Global) -> Subjects
     ensures { subjects_of result ≡ nothing }
 {
@@ -38,6 +40,7 @@ fn nothing(alloc: Global) -> Subjects
     }
 }
 
+/// Preconditions see parameters.
 fn requires_sight<'q>(q: &'q Procedure) -> Sight<'q>
     ensures { sight_of result ≡ s.requires_sight (proc_of q.now) }
 {
@@ -53,6 +56,7 @@ fn requires_sight<'q>(q: &'q Procedure) -> Sight<'q>
     }
 }
 
+/// Postconditions see results too, and what their procedure modifies may have changed.
 fn ensures_sight<'q>(q: &'q Procedure) -> Sight<'q>
     ensures { sight_of result ≡ s.ensures_sight (proc_of q.now) }
 {
@@ -68,6 +72,7 @@ fn ensures_sight<'q>(q: &'q Procedure) -> Sight<'q>
     }
 }
 
+/// Invariants see locals too; the names of the frame are the implementation's own.
 fn loop_sight<'q>(q: &'q Procedure, m: &'q Implementation) -> Sight<'q>
     ensures { sight_of result ≡ s.loop_sight (proc_of q.now) (impl_of m.now) }
 {
