@@ -18,3 +18,4 @@ pub mod Ordering
 pub mod Sizes
 pub mod CallForms
 pub mod Marks
+pub mod Made
