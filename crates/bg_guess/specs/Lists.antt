@@ -1,0 +1,92 @@
+-- Of which variables the guesses of a list speak.
+use Rattle.std.specs.Prelude.{ℕ, suc, Bool, false, not, ◌||◌, List, [], ◌∷◌, ◌++◌, map, filter, Option, Some, None, slice_get}
+use Rattle.std.specs.List.{list_any}
+use Rattle.std.specs.Str.{bytes_eq}
+use Rattle.bg_ast.specs.declared.resolved.Variable.TheVariants as variable
+use Rattle.bg_ast.specs.Resolved as r
+use Rattle.bg_ast.specs.Views.{declared_of, type_name_of}
+use Rattle.bg_ast.specs.Meaning.{named_of, decl_of}
+use Rattle.bg_fits.specs.declared.types.Holding.{Holding}
+use Rattle.bg_fits.specs.declared.types.Holding.TheVariants.{Truths, Numbers, Others}
+use Rattle.bg_fits.specs.Holdings.{holdings_of}
+use Rattle.bg_guess.specs.Claims.{Subjects}
+use Rattle.bg_guess.specs.declared.frame.Frame as frame
+use Rattle.bg_guess.specs.declared.frame.Sight as sight
+use Rattle.bg_guess.specs.declared.frame.Base as code
+
+-- parameters, results and locals, as far as they are seen
+pub record Frame : Type 0 where
+  pub params : List r.Declared
+  pub results : List r.Declared
+  pub locals : List r.Declared
+
+-- what the clauses of a list see besides globals: the names of the frame and the types of its variables, which a procedure and its
+-- implementation declare each for itself; and what may change
+pub record Sight : Type 0 where
+  pub names : Frame
+  pub types : Frame
+  pub modifies : List ℕ
+
+-- the same of the code's frame
+abbrev pub frame_of : frame.Frame → Frame
+frame_of f = record { params = map declared_of f.params.now; results = map declared_of f.results.now; locals = map declared_of f.locals.now }
+
+-- the same of the code's
+abbrev pub sight_of : sight.Sight → Sight
+sight_of s = record { names = frame_of s.names; types = frame_of s.types; modifies = s.modifies.now }
+
+-- whether one of these has the name
+abbrev pub has_name : List ℕ → List r.Declared → Bool
+has_name x ds = list_any (λ d. bytes_eq d.name.text x) ds
+
+-- whether a name of the frame hides this one
+abbrev pub is_hidden : Frame → List ℕ → Bool
+is_hidden f x = has_name x f.params || (has_name x f.results || has_name x f.locals)
+
+-- the same of a global that may be there
+abbrev pub is_seen_as : Frame → Option r.Declared → Bool
+is_seen_as f None = false
+is_seen_as f (Some d) = not (is_hidden f d.name.text)
+
+-- a global that is there, and that no name of the frame hides
+abbrev pub is_seen : List r.Declared → Frame → ℕ → Bool
+is_seen globals f g = is_seen_as f (slice_get globals g)
+
+-- what variables hold, by what their types stand for
+abbrev pub held : List r.TypeName → List r.Declared → List Holding
+held types ds = holdings_of (map (decl_of (named_of types)) ds)
+
+-- the same of all variables of a frame
+abbrev pub held_in : List r.TypeName → Frame → List Holding
+held_in types f = held types f.params ++ (held types f.results ++ held types f.locals)
+
+-- the places of whole numbers, from k on
+abbrev pub places_of_numbers : ℕ → List Holding → List ℕ
+places_of_numbers k [] = []
+places_of_numbers k (Numbers ∷ hs) = k ∷ places_of_numbers (suc k) hs
+places_of_numbers k (Truths ∷ hs) = places_of_numbers (suc k) hs
+places_of_numbers k (Others ∷ hs) = places_of_numbers (suc k) hs
+
+-- the globals of type int
+abbrev pub number_globals : List r.TypeName → List r.Declared → List ℕ
+number_globals types globals = places_of_numbers 0 (held types globals)
+
+-- what all lists share: the types and globals of a program, and which globals are of type int
+pub record Base : Type 0 where
+  pub types : List r.TypeName
+  pub globals : List r.Declared
+  pub numbers : List ℕ
+
+-- the same of the code's
+abbrev pub base_of : code.Base → Base
+base_of g = record { types = map type_name_of g.types.now; globals = map declared_of g.globals.now; numbers = g.numbers.now }
+
+-- of what a list speaks: of the variables of type int, globals first, and of the globals that may change and aren't hidden
+abbrev pub subjects : Base → Sight → Subjects
+subjects g s =
+    record {
+      numbers =
+          map variable.Global (filter (is_seen g.globals s.names) g.numbers)
+          ++ map variable.Local (places_of_numbers 0 (held_in g.types s.types));
+      kept = filter (is_seen g.globals s.names) s.modifies;
+    }
