@@ -6,7 +6,7 @@ use denote.Struct.Tuple.{TupleAt}
 use denote.Struct.Field.{shr_ref_field, shr_slice_field, bool-field}
 use denote.Param.Send.{IsSync, sendable}
 use Rattle.std.proofs.Crossing as std
-use Rattle.core.proofs.option.Option.TheSendSync as option
+use Rattle.std.proofs.option.Option.TheSendSync as option
 use Rattle.std.proofs.vec.Vec.TheSendSync as vec
 use Rattle.std.specs.contracts.alloc.Global as heap
 use Rattle.std.proofs.alloc.Global.TheSendSync as global
