@@ -14,10 +14,10 @@ use Rattle.clap.specs.ValueTests.{accepts, is_numeral, fits_i64}
 use Rattle.clap.proofs.FaultLemmas.{stopped_fault}
 use Rattle.clap.proofs.OnLiterals.{clap_on_literals}
 use Rattle.std.proofs.lemmas.Bool.{le-leb}
-use Rattle.bg_cli.specs.Cli.{cli, workers, nodes, most_rows, files, verify, IsTaken, Plain, AllPlain, IsNumberTo, IsBudget, IsWorkers, rows_in, files_in, workers_in, nodes_in, most_rows_in, files_of, workers_of, as_workers, nodes_of, most_rows_of, history, history_of, history_in, number_or}
+use Rattle.bg_cli.specs.Cli.{cli, workers, nodes, most_rows, files, verify, IsTaken, Plain, AllPlain, IsNumberTo, IsBudget, IsWorkers, rows_in, files_in, workers_in, nodes_in, most_rows_in, files_of, workers_of, as_workers, nodes_of, most_rows_of, guess, history, guess_of, history_of, guess_in, history_in, number_or}
 
 abbrev rules : List Rule
-rules = filled_from 1 (workers ∷ nodes ∷ most_rows ∷ history ∷ files ∷ help_rule ∷ [])
+rules = filled_from 1 (workers ∷ nodes ∷ most_rows ∷ guess ∷ history ∷ files ∷ help_rule ∷ [])
 
 -- files are being read
 abbrev reading : List Row → List Text → Walk
@@ -141,6 +141,9 @@ plain_nodes own f fs h = ap nodes_of (plain_rows own f fs h)
 
 pub plain_workers : (own f : Text) (fs : List Text) → AllPlain (f ∷ fs) → workers_in (own ∷ codes "verify" ∷ f ∷ fs) ≡ 4
 plain_workers own f fs h = ap workers_of (plain_rows own f fs h)
+
+pub plain_guess : (own f : Text) (fs : List Text) → AllPlain (f ∷ fs) → guess_in (own ∷ codes "verify" ∷ f ∷ fs) ≡ false
+plain_guess own f fs h = ap guess_of (plain_rows own f fs h)
 
 pub plain_history : (own f : Text) (fs : List Text) → AllPlain (f ∷ fs) → history_in (own ∷ codes "verify" ∷ f ∷ fs) ≡ false
 plain_history own f fs h = ap history_of (plain_rows own f fs h)
@@ -300,9 +303,16 @@ nodes_rows_number own n f fs k h = ap most_rows_of (option_rows Nodes own n f fs
 pub nodes_workers : (own n f : Text) (fs : List Text) → IsBudget n → AllPlain (f ∷ fs) → workers_in (own ∷ codes "verify" ∷ asks Nodes n (f ∷ fs)) ≡ 4
 nodes_workers own n f fs k h = ap workers_of (option_rows Nodes own n f fs k h)
 
+no_guess : (a : Asked) (n f : Text) (fs : List Text) → guess_of (finished rules (reading (number_row a n) (f ∷ fs)).held) ≡ false
+no_guess Nodes n f fs = refl
+no_guess Workers n f fs = refl
+
 no_history : (a : Asked) (n f : Text) (fs : List Text) → history_of (finished rules (reading (number_row a n) (f ∷ fs)).held) ≡ false
 no_history Nodes n f fs = refl
 no_history Workers n f fs = refl
+
+pub option_guess : (a : Asked) (own n f : Text) (fs : List Text) → IsNumberTo (most_of a) n → AllPlain (f ∷ fs) → guess_in (own ∷ codes "verify" ∷ asks a n (f ∷ fs)) ≡ false
+option_guess a own n f fs k h = ap guess_of (option_rows a own n f fs k h) ∙ no_guess a n f fs
 
 pub option_history : (a : Asked) (own n f : Text) (fs : List Text) → IsNumberTo (most_of a) n → AllPlain (f ∷ fs) → history_in (own ∷ codes "verify" ∷ asks a n (f ∷ fs)) ≡ false
 option_history a own n f fs k h = ap history_of (option_rows a own n f fs k h) ∙ no_history a n f fs
@@ -424,6 +434,9 @@ both_rows_number own n m f fs k l h =
 
 pub both_workers : (own n m f : Text) (fs : List Text) → IsBudget n → IsBudget m → AllPlain (f ∷ fs) → workers_in (own ∷ codes "verify" ∷ asks_both n m (f ∷ fs)) ≡ 4
 both_workers own n m f fs k l h = ap workers_of (both_rows own n m f fs k l h)
+
+pub both_guess : (own n m f : Text) (fs : List Text) → IsBudget n → IsBudget m → AllPlain (f ∷ fs) → guess_in (own ∷ codes "verify" ∷ asks_both n m (f ∷ fs)) ≡ false
+both_guess own n m f fs k l h = ap guess_of (both_rows own n m f fs k l h)
 
 pub both_history : (own n m f : Text) (fs : List Text) → IsBudget n → IsBudget m → AllPlain (f ∷ fs) → history_in (own ∷ codes "verify" ∷ asks_both n m (f ∷ fs)) ≡ false
 both_history own n m f fs k l h = ap history_of (both_rows own n m f fs k l h)

@@ -39,9 +39,17 @@ workers =
       defaults = codes "4" ∷ [];
     }
 
+-- a flag
+abbrev pub flag : Text → Rule
+flag name = record (new_rule name) { long = Some name; action = Some SetTrue }
+
+-- `--guess`
+abbrev pub guess : Rule
+guess = flag (codes "guess")
+
 -- `--history`
 abbrev pub history : Rule
-history = record (new_rule (codes "history")) { long = Some (codes "history"); action = Some SetTrue }
+history = flag (codes "history")
 
 -- one file or more
 abbrev pub files : Rule
@@ -53,12 +61,12 @@ files =
     }
 
 abbrev pub verify : App
-verify = with_rule (with_rule (with_rule (with_rule (with_rule (new_app (codes "verify")) workers) nodes) most_rows) history) files
+verify = with_rule (with_rule (with_rule (with_rule (with_rule (with_rule (new_app (codes "verify")) workers) nodes) most_rows) guess) history) files
 
 abbrev pub required : App → App
 required a = record a { top = record a.top { subcommand_required = true } }
 
--- the command: `bg verify [--workers N] [--nodes N] [--rows N] [--history] FILE..`
+-- the command: `bg verify [--workers N] [--nodes N] [--rows N] [--guess] [--history] FILE..`
 unfoldable pub cli : App
 cli = with_subcommand (required (new_app (codes "bg"))) verify.top
 
@@ -115,9 +123,17 @@ abbrev pub is_set : Option Text → Bool
 is_set None = false
 is_set (Some text) = is_same text (codes "true")
 
+-- whether a flag is given
+abbrev pub flag_of : Text → List Row → Bool
+flag_of name rows = is_set (one_of name rows)
+
+-- whether guesses are asked for
+abbrev pub guess_of : List Row → Bool
+guess_of rows = flag_of (codes "guess") rows
+
 -- whether the history is asked for
 abbrev pub history_of : List Row → Bool
-history_of rows = is_set (one_of (codes "history") rows)
+history_of rows = flag_of (codes "history") rows
 
 abbrev pub files_in : List Text → List Text
 files_in words = files_of (rows_in words)
@@ -130,6 +146,9 @@ most_rows_in words = most_rows_of (rows_in words)
 
 abbrev pub workers_in : List Text → ℕ
 workers_in words = workers_of (rows_in words)
+
+abbrev pub guess_in : List Text → Bool
+guess_in words = guess_of (rows_in words)
 
 abbrev pub history_in : List Text → Bool
 history_in words = history_of (rows_in words)

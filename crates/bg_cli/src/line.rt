@@ -3,7 +3,7 @@ ghost use Rattle.std.specs.Prelude.{◌≡◌, ◌≢◌, ◌<◌, ◌≤◌, If
 ghost use Rattle.clap.specs.Walk.{rule_of};
 ghost use Rattle.clap.specs.Words.{app_of, found_of, kind_of, rows_of};
 ghost use Rattle.bg_cli.specs.declared.line.LineError.TheVariants.{Memory};
-ghost use Rattle.bg_cli.specs.Cli.{cli, workers, budget, files, texts_of, IsTaken, files_in, workers_in, nodes_in, most_rows_in, files_of, workers_of, as_workers, nodes_of, most_rows_of, history, history_of, history_in, rows_for};
+ghost use Rattle.bg_cli.specs.Cli.{cli, workers, budget, files, texts_of, IsTaken, files_in, workers_in, nodes_in, most_rows_in, files_of, workers_of, as_workers, nodes_of, most_rows_of, flag, flag_of, guess_of, history_of, guess_in, history_in, rows_for};
 
 use clap::error::ErrorKind;
 use clap::{Arg, ArgAction, ArgMatches, Command, Error, value_parser};
@@ -19,13 +19,15 @@ pub const ROWS: u32 = 20_000;
 pub const WORKERS: u32 = 4;
 
 /// What a command line asks: the files in order, how many workers check places of candidates, how many nodes of a certificate's tree
-/// may count, and the most rows that an elimination keeps; and whether the history of the candidates that went is asked for.
+/// may count, and the most rows that an elimination keeps; whether the program is judged with its guesses; and whether the history of
+/// the candidates that went is asked for.
 #[derive(Drop)]
 pub struct Line<'a> {
     pub files: Vec<&'a str>,
     pub workers: u32,
     pub nodes: u32,
     pub rows: u32,
+    pub guess: bool,
     pub history: bool,
 }
 
@@ -62,14 +64,12 @@ fn workers<'a>(alloc: Global) -> Arg<'a>
         .default_value("4")
 }
 
-/// The flag `--history`.
-fn history<'a>(alloc: Global) -> Arg<'a>
-    ensures rule { rule_of result ≡ history }
+/// A flag.
+fn flag<'a>(alloc: Global, name: &'a str) -> Arg<'a>
+    ensures rule { rule_of result ≡ flag name.now }
     ensures own { result.global ≡ false }
 {
-    Arg::new(alloc, "history")
-        .long("history")
-        .action(ArgAction::SetTrue)
+    Arg::new(alloc, name).long(name).action(ArgAction::SetTrue)
 }
 
 /// The files, of which there is one at least.
@@ -83,7 +83,7 @@ fn files<'a>(alloc: Global) -> Arg<'a>
         .action(ArgAction::Append)
 }
 
-/// The command `bg verify [--workers N] [--nodes N] [--rows N] [--history] FILE..`.
+/// The command `bg verify [--workers N] [--nodes N] [--rows N] [--guess] [--history] FILE..`.
 pub fn cli<'a>(alloc: Global) -> Result<Command<'a>, AllocError>
     ensures { IfOk result (λ c. app_of c ≡ cli) }
 {
@@ -91,7 +91,8 @@ pub fn cli<'a>(alloc: Global) -> Result<Command<'a>, AllocError>
         .arg(workers(alloc))?
         .arg(budget(alloc, "nodes"))?
         .arg(budget(alloc, "rows"))?
-        .arg(history(alloc))?
+        .arg(flag(alloc, "guess"))?
+        .arg(flag(alloc, "history"))?
         .arg(files(alloc))?;
     Command::new(alloc, "bg")
         .subcommand_required(true)
@@ -149,11 +150,11 @@ fn workers_of(verify: &ArgMatches<'_>) -> u32
     as_workers(verify.get_one::<u32>("workers").unwrap_or(WORKERS))
 }
 
-/// Whether the matches of `verify` ask for the history.
-fn history_of(verify: &ArgMatches<'_>) -> bool
-    ensures { result ≡ history_of (rows_of (found_of verify.now)) }
+/// Whether the matches of `verify` have a flag.
+fn flag_of(verify: &ArgMatches<'_>, name: &str) -> bool
+    ensures { result ≡ flag_of name.now (rows_of (found_of verify.now)) }
 {
-    verify.get_one::<bool>("history").unwrap_or(false)
+    verify.get_one::<bool>(name).unwrap_or(false)
 }
 
 /// What the matches ask.
@@ -163,6 +164,7 @@ fn line_of<'a>(alloc: Global, matches: &ArgMatches<'a>) -> Result<Line<'a>, Allo
     ensures some { IfOk result (λ line. (0 < line.workers) × (line.workers ≤ 16)) }
     ensures nodes { IfOk result (λ line. line.nodes ≡ nodes_of (rows_for matches.now)) }
     ensures rows { IfOk result (λ line. line.rows ≡ most_rows_of (rows_for matches.now)) }
+    ensures guess { IfOk result (λ line. line.guess ≡ guess_of (rows_for matches.now)) }
     ensures history { IfOk result (λ line. line.history ≡ history_of (rows_for matches.now)) }
 {
     let Some((_, verify)) = matches.subcommand() else {
@@ -171,6 +173,7 @@ fn line_of<'a>(alloc: Global, matches: &ArgMatches<'a>) -> Result<Line<'a>, Allo
             workers: WORKERS,
             nodes: NODES,
             rows: ROWS,
+            guess: false,
             history: false,
         });
     };
@@ -179,7 +182,8 @@ fn line_of<'a>(alloc: Global, matches: &ArgMatches<'a>) -> Result<Line<'a>, Allo
         workers: workers_of(verify),
         nodes: nodes_of(verify),
         rows: most_rows_of(verify),
-        history: history_of(verify),
+        guess: flag_of(verify, "guess"),
+        history: flag_of(verify, "history"),
     })
 }
 
@@ -194,6 +198,7 @@ pub fn read_line<'a>(alloc: Global, words: &'a [String]) -> Result<Line<'a>, Lin
     ensures some { IfOk result (λ line. (0 < line.workers) × (line.workers ≤ 16)) }
     ensures nodes { IfOk result (λ line. line.nodes ≡ nodes_in (texts_of words.now)) }
     ensures rows { IfOk result (λ line. line.rows ≡ most_rows_in (texts_of words.now)) }
+    ensures guess { IfOk result (λ line. line.guess ≡ guess_in (texts_of words.now)) }
     ensures history { IfOk result (λ line. line.history ≡ history_in (texts_of words.now)) }
     ensures refused { IsErrOf result LineError.Usage → IsTaken (texts_of words.now) → ⊥ }
 {

@@ -7,8 +7,10 @@ use Rattle.bg_typed.specs.Rules.{KeepsTypes}
 use Rattle.bg_front.specs.Later.{AreJudged}
 use Rattle.bg_front.specs.Others.{AreCandidates}
 use Rattle.bg_front.specs.Limits.{most_implementations, most_candidates}
-use Rattle.bg_front.specs.Refusals.{Refusal, TooLong, Bytes, Syntax, Nesting, Names, Types, Later, Implementations, Candidates, Places, Expanded}
-use Rattle.bg_front.specs.Programs.{IsMeaningOf, IsRefusedBy, size_limit, limit_of}
+use Rattle.bg_front.specs.Refusals.{Refusal, TooLong, Bytes, Syntax, Nesting, Names, Types, Later, Implementations, Candidates, Places, Expanded, refusal_of}
+use Rattle.bg_front.specs.declared.refusal.ReadError.{ReadError}
+use Rattle.bg_front.specs.declared.refusal.ReadError.TheVariants as errors
+use Rattle.bg_front.specs.Programs.{IsMeaningOf, IsRefusedBy, IsRefused, IsLimitOf, size_limit, candidate_count, or_else, too_many, too_large, limit_of, with_guesses}
 
 abbrev is_size : Refusal → Bool
 is_size (Implementations n) = true
@@ -28,30 +30,41 @@ size_of (Some n) b x e = same_size (Places n) x refl e
 size_of None true x e = same_size Expanded x refl e
 size_of None false x e = absurd (none_some x e)
 
-by_candidates : (c : Bool) (n : ℕ) (o : Option ℕ) (b : Bool) (x : Refusal) → (if c then Some (Candidates n) else size_limit o b) ≡ Some x → is_size x ≡ true
-by_candidates true n o b x e = same_size (Candidates n) x refl e
-by_candidates false n o b x e = size_of o b x e
+by_candidates : (c : Bool) (m : ℕ) (x : Refusal) → (if c then Some (Candidates m) else None) ≡ Some x → is_size x ≡ true
+by_candidates true m x e = same_size (Candidates m) x refl e
+by_candidates false m x e = absurd (none_some x e)
 
-by_count : (c d : Bool) (n m : ℕ) (o : Option ℕ) (b : Bool) (x : Refusal) → (if c then Some (Implementations n) else if d then Some (Candidates m) else size_limit o b) ≡ Some x → is_size x ≡ true
-by_count true d n m o b x e = same_size (Implementations n) x refl e
-by_count false d n m o b x e = by_candidates d m o b x e
+by_count : (c d : Bool) (n m : ℕ) (x : Refusal) → (if c then Some (Implementations n) else if d then Some (Candidates m) else None) ≡ Some x → is_size x ≡ true
+by_count true d n m x e = same_size (Implementations n) x refl e
+by_count false d n m x e = by_candidates d m x e
+
+either : (o u : Option Refusal) → ((x : Refusal) → o ≡ Some x → is_size x ≡ true) → ((x : Refusal) → u ≡ Some x → is_size x ≡ true) → (x : Refusal) → or_else o u ≡ Some x → is_size x ≡ true
+either (Some y) u a b x e = a x e
+either None u a b x e = b x e
 
 is_a_size : (p : r.Program) (x : Refusal) → limit_of p ≡ Some x → is_size x ≡ true
-is_a_size p x e =
-    by_count (nat_lt most_implementations (length p.implementations)) (nat_lt most_candidates (length p.candidates)) (length p.implementations) (length p.candidates) (first_above most_places (place_counts p)) (is_any_above most_expanded (expanded_counts p)) x e
+is_a_size p =
+    either (too_many p) (too_large p)
+    (by_count (nat_lt most_implementations (length p.implementations)) (nat_lt most_candidates (candidate_count p)) (length p.implementations) (candidate_count p))
+    (size_of (first_above most_places (place_counts p)) (is_any_above most_expanded (expanded_counts p)))
 
 no_size : {A : Type 0} → false ≡ true → A
 no_size e = absurd (let k : false ≡ true = e in cc)
 
-pub limit_refuses : (bytes : List ℕ) (ts : List Tok) (p : r.Program) (x : Refusal) → (m : IsMeaningOf bytes ts p) → KeepsTypes p → AreJudged ts → AreCandidates m.decls → limit_of p ≡ Some x → IsRefusedBy bytes x
-limit_refuses bytes ts p (Implementations n) m w j a e = (ts, p, m, w, j, a, e)
-limit_refuses bytes ts p (Candidates n) m w j a e = (ts, p, m, w, j, a, e)
-limit_refuses bytes ts p (Places n) m w j a e = (ts, p, m, w, j, a, e)
-limit_refuses bytes ts p Expanded m w j a e = (ts, p, m, w, j, a, e)
-limit_refuses bytes ts p TooLong m w j a e = no_size (is_a_size p TooLong e)
-limit_refuses bytes ts p (Bytes q f) m w j a e = no_size (is_a_size p (Bytes q f) e)
-limit_refuses bytes ts p (Syntax q) m w j a e = no_size (is_a_size p (Syntax q) e)
-limit_refuses bytes ts p Nesting m w j a e = no_size (is_a_size p Nesting e)
-limit_refuses bytes ts p (Names f) m w j a e = no_size (is_a_size p (Names f) e)
-limit_refuses bytes ts p (Types ds f) m w j a e = no_size (is_a_size p (Types ds f) e)
-limit_refuses bytes ts p (Later q word) m w j a e = no_size (is_a_size p (Later q word) e)
+limit_refuses : (guess : Bool) (bytes : List ℕ) (ts : List Tok) (p : r.Program) (x : Refusal) → (m : IsMeaningOf bytes ts p) → KeepsTypes p → AreJudged ts → AreCandidates m.decls → limit_of (with_guesses guess p) ≡ Some x → IsRefusedBy guess bytes x
+limit_refuses guess bytes ts p (Implementations n) m w j a e = (ts, p, m, w, j, a, e)
+limit_refuses guess bytes ts p (Candidates n) m w j a e = (ts, p, m, w, j, a, e)
+limit_refuses guess bytes ts p (Places n) m w j a e = (ts, p, m, w, j, a, e)
+limit_refuses guess bytes ts p Expanded m w j a e = (ts, p, m, w, j, a, e)
+limit_refuses guess bytes ts p TooLong m w j a e = no_size (is_a_size (with_guesses guess p) TooLong e)
+limit_refuses guess bytes ts p (Bytes q f) m w j a e = no_size (is_a_size (with_guesses guess p) (Bytes q f) e)
+limit_refuses guess bytes ts p (Syntax q) m w j a e = no_size (is_a_size (with_guesses guess p) (Syntax q) e)
+limit_refuses guess bytes ts p Nesting m w j a e = no_size (is_a_size (with_guesses guess p) Nesting e)
+limit_refuses guess bytes ts p (Names f) m w j a e = no_size (is_a_size (with_guesses guess p) (Names f) e)
+limit_refuses guess bytes ts p (Types ds f) m w j a e = no_size (is_a_size (with_guesses guess p) (Types ds f) e)
+limit_refuses guess bytes ts p (Later q word) m w j a e = no_size (is_a_size (with_guesses guess p) (Later q word) e)
+
+-- the same of an answer
+pub limit_is_refused : (guess : Bool) (bytes : List ℕ) (ts : List Tok) (p : r.Program) (e : ReadError) → (m : IsMeaningOf bytes ts p) → KeepsTypes p → AreJudged ts → AreCandidates m.decls → IsLimitOf (with_guesses guess p) e → IsRefused guess bytes e
+limit_is_refused guess bytes ts p (errors.Refused e) m w j a h = limit_refuses guess bytes ts p (refusal_of e) m w j a h
+limit_is_refused guess bytes ts p errors.Memory m w j a h = h

@@ -1,5 +1,6 @@
 pub mod Firsts
 pub mod FirstOthers
+pub mod Guessing
 pub mod Large
 pub mod Lengths
 pub mod Ones

@@ -1,5 +1,5 @@
 -- A text has one program, or one refusal.
-use Rattle.std.proofs.Common.{◌≡◌, ◌≤◌, ◌<◌, ℕ, List, length, Option, Some, None, refl, sym, ap, ◌∙◌, subst, inl, inr, arith}
+use Rattle.std.proofs.Common.{◌≡◌, ◌≤◌, ◌<◌, ℕ, Bool, List, length, Option, Some, None, refl, sym, ap, ◌∙◌, subst, inl, inr, arith}
 use Rattle.bg_base.specs.declared.pos.Pos.{Pos}
 use Rattle.bg_text.specs.Tokens.{Tok}
 use Rattle.bg_text.specs.Trees.{Decl}
@@ -16,7 +16,7 @@ use Rattle.bg_front.specs.Others.{AreCandidates}
 use Rattle.bg_front.specs.Limits.{most_bytes}
 use Rattle.bg_front.specs.Refusals.{Refusal, TooLong, Bytes, Syntax, Nesting, Names, Types, Later, Implementations, Candidates, Places, Expanded}
 use Rattle.bg_front.specs.Trees.{IsTreeOf, HasNoTree}
-use Rattle.bg_front.specs.Programs.{IsMeaningOf, IsProgramOf, IsLater, ExceedsLimit, IsRefusedBy, limit_of}
+use Rattle.bg_front.specs.Programs.{IsMeaningOf, IsProgramOf, IsLater, ExceedsLimit, IsRefusedBy, limit_of, with_guesses}
 use Rattle.bg_front.proofs.Firsts.{one_unjudged, judged_not_unjudged}
 use Rattle.bg_front.proofs.FirstOthers.{one_other, candidates_no_other}
 use Rattle.bg_front.proofs.Named.{AreNamed, are_named_in, is_named_in}
@@ -25,48 +25,49 @@ use Rattle.bg_front.proofs.Ones.{Known, one_tree, not_both, one_refusal}
 use Rattle.bg_front.proofs.TypeFaults.{typed_no_fault, one_fault}
 
 -- ---- what is said of a text that has a tree
-data Rest (ts : List Tok) (ds : List Decl) (x : Refusal) : Type 0 where
-  misnamed : (f : n.Fault) → IsToldFault ds f → x ≡ Names f → Rest ts ds x
-  mistyped : (f : t.Fault) → AreNamed ds → IsFault (named ds) f → x ≡ Types (named ds).types f → Rest ts ds x
-  unjudged : (p : Pos) (w : List ℕ) → AreNamed ds → IsWellTyped (named ds) → IsLater ts ds p w → x ≡ Later p w → Rest ts ds x
-  large : AreNamed ds → IsWellTyped (named ds) → AreJudged ts → AreCandidates ds → limit_of (named ds) ≡ Some x → Rest ts ds x
+data Rest (guess : Bool) (ts : List Tok) (ds : List Decl) (x : Refusal) : Type 0 where
+  misnamed : (f : n.Fault) → IsToldFault ds f → x ≡ Names f → Rest guess ts ds x
+  mistyped : (f : t.Fault) → AreNamed ds → IsFault (named ds) f → x ≡ Types (named ds).types f → Rest guess ts ds x
+  unjudged : (p : Pos) (w : List ℕ) → AreNamed ds → IsWellTyped (named ds) → IsLater ts ds p w → x ≡ Later p w → Rest guess ts ds x
+  large : AreNamed ds → IsWellTyped (named ds) → AreJudged ts → AreCandidates ds → limit_of (with_guesses guess (named ds)) ≡ Some x → Rest guess ts ds x
 
-data Why (bytes : List ℕ) (x : Refusal) : Type 0 where
-  long : most_bytes < length bytes → x ≡ TooLong → Why bytes x
-  none : length bytes ≤ most_bytes → HasNoTree bytes x → Why bytes x
-  some : length bytes ≤ most_bytes → (ts : List Tok) (ds : List Decl) → IsTreeOf bytes ts ds → Rest ts ds x → Why bytes x
+data Why (guess : Bool) (bytes : List ℕ) (x : Refusal) : Type 0 where
+  long : most_bytes < length bytes → x ≡ TooLong → Why guess bytes x
+  none : length bytes ≤ most_bytes → HasNoTree bytes x → Why guess bytes x
+  some : length bytes ≤ most_bytes → (ts : List Tok) (ds : List Decl) → IsTreeOf bytes ts ds → Rest guess ts ds x → Why guess bytes x
 
 -- what is known of types
 abbrev Fine : Type 0
 Fine = (p : r.Program) → KeepsTypes p → IsWellTyped p
 
-exceeded : Fine → (bytes : List ℕ) (x : Refusal) → ExceedsLimit bytes x → Why bytes x
-exceeded fine bytes x h =
+exceeded : (guess : Bool) → Fine → (bytes : List ℕ) (x : Refusal) → ExceedsLimit guess bytes x → Why guess bytes x
+exceeded guess fine bytes x h =
     let m : IsMeaningOf bytes h.0 h.1 = h.2 in
-    some m.short h.0 m.decls m.tree (large (are_named_in bytes h.0 h.1 m) (subst (λ (p : r.Program). IsWellTyped p) (is_named_in bytes h.0 h.1 m) (fine h.1 h.3)) h.4 h.5 (subst (λ (p : r.Program). limit_of p ≡ Some x) (is_named_in bytes h.0 h.1 m) h.6))
+    some m.short h.0 m.decls m.tree (large (are_named_in bytes h.0 h.1 m) (subst (λ (p : r.Program). IsWellTyped p) (is_named_in bytes h.0 h.1 m) (fine h.1 h.3)) h.4 h.5 (subst (λ (p : r.Program). limit_of (with_guesses guess p) ≡ Some x) (is_named_in bytes h.0 h.1 m) h.6))
 
-why : Fine → (bytes : List ℕ) (x : Refusal) → IsRefusedBy bytes x → Why bytes x
-why fine bytes TooLong h = long h refl
-why fine bytes (Bytes p f) h = none h.0 h.1
-why fine bytes (Syntax p) h = none h.0 h.1
-why fine bytes Nesting h = none h.0 h.1
-why fine bytes (Names f) h = some h.0 h.1 h.2 h.3 (misnamed f h.4 refl)
-why fine bytes (Types xs f) h =
+why : (guess : Bool) → Fine → (bytes : List ℕ) (x : Refusal) → IsRefusedBy guess bytes x → Why guess bytes x
+why guess fine bytes TooLong h = long h refl
+why guess fine bytes (Bytes p f) h = none h.0 h.1
+why guess fine bytes (Syntax p) h = none h.0 h.1
+why guess fine bytes Nesting h = none h.0 h.1
+why guess fine bytes (Names f) h = some h.0 h.1 h.2 h.3 (misnamed f h.4 refl)
+why guess fine bytes (Types xs f) h =
     let m : IsMeaningOf bytes h.0 h.1 = h.2 in
     some m.short h.0 m.decls m.tree (mistyped f (are_named_in bytes h.0 h.1 m) (subst (λ (p : r.Program). IsFault p f) (is_named_in bytes h.0 h.1 m) h.3) (ap (λ (l : List r.TypeName). Types l f) (h.4 ∙ ap (λ (p : r.Program). p.types) (is_named_in bytes h.0 h.1 m))))
-why fine bytes (Later q w) h =
+why guess fine bytes (Later q w) h =
     let m : IsMeaningOf bytes h.0 h.1 = h.2 in
     some m.short h.0 m.decls m.tree (unjudged q w (are_named_in bytes h.0 h.1 m) (subst (λ (p : r.Program). IsWellTyped p) (is_named_in bytes h.0 h.1 m) (fine h.1 h.3)) h.4 refl)
-why fine bytes (Implementations c) h = exceeded fine bytes (Implementations c) h
-why fine bytes (Candidates c) h = exceeded fine bytes (Candidates c) h
-why fine bytes (Places c) h = exceeded fine bytes (Places c) h
-why fine bytes Expanded h = exceeded fine bytes Expanded h
+why guess fine bytes (Implementations c) h = exceeded guess fine bytes (Implementations c) h
+why guess fine bytes (Candidates c) h = exceeded guess fine bytes (Candidates c) h
+why guess fine bytes (Places c) h = exceeded guess fine bytes (Places c) h
+why guess fine bytes Expanded h = exceeded guess fine bytes Expanded h
 
 -- ---- programs
-pub one_program : Known → (bytes : List ℕ) (p q : r.Program) → IsProgramOf bytes p → IsProgramOf bytes q → p ≡ q
-one_program k bytes p q a b =
+pub one_program : Known → (guess : Bool) (bytes : List ℕ) (p q : r.Program) → IsProgramOf guess bytes p → IsProgramOf guess bytes q → p ≡ q
+one_program k guess bytes p q a b =
     let e = one_tree k bytes a.tokens b.tokens a.spelled.decls b.spelled.decls a.spelled.tree b.spelled.tree in
-    is_named_in bytes a.tokens p a.spelled ∙ (ap named e.1 ∙ sym (is_named_in bytes b.tokens q b.spelled))
+    let same : a.written ≡ b.written = is_named_in bytes a.tokens a.written a.spelled ∙ (ap named e.1 ∙ sym (is_named_in bytes b.tokens b.written b.spelled)) in
+    a.is ∙ (ap (with_guesses guess) same ∙ sym b.is)
 
 no_limit : (o : Option Refusal) (x : Refusal) → o ≡ None → o ≡ Some x → ⊥
 no_limit o x h k = absurd (let e : None ≡ Some x = sym h ∙ k in cc)
@@ -76,28 +77,28 @@ none_later : (ts : List Tok) (ds : List Decl) (p : Pos) (w : List ℕ) → AreJu
 none_later ts ds p w j c (inl h) = judged_not_unjudged outside ts p w j h
 none_later ts ds p w j c (inr h) = candidates_no_other ds p c h.1.0
 
-few_rest : (ts : List Tok) (ds : List Decl) (x : Refusal) → AreNamed ds → IsWellTyped (named ds) → AreJudged ts → AreCandidates ds → limit_of (named ds) ≡ None → Rest ts ds x → ⊥
-few_rest ts ds x a b c m d (misnamed f h e) = named_no_fault ds f a h
-few_rest ts ds x a b c m d (mistyped f n h e) = typed_no_fault (named ds) f b h
-few_rest ts ds x a b c m d (unjudged p w n t h e) = none_later ts ds p w c m h
-few_rest ts ds x a b c m d (large n w j k h) = no_limit (limit_of (named ds)) x d h
+few_rest : (guess : Bool) (ts : List Tok) (ds : List Decl) (x : Refusal) → AreNamed ds → IsWellTyped (named ds) → AreJudged ts → AreCandidates ds → limit_of (with_guesses guess (named ds)) ≡ None → Rest guess ts ds x → ⊥
+few_rest guess ts ds x a b c m d (misnamed f h e) = named_no_fault ds f a h
+few_rest guess ts ds x a b c m d (mistyped f n h e) = typed_no_fault (named ds) f b h
+few_rest guess ts ds x a b c m d (unjudged p w n t h e) = none_later ts ds p w c m h
+few_rest guess ts ds x a b c m d (large n w j k h) = no_limit (limit_of (with_guesses guess (named ds))) x d h
 
-no_reason : Known → Fine → (bytes : List ℕ) (p : r.Program) (x : Refusal) → IsProgramOf bytes p → Why bytes x → ⊥
-no_reason k fine bytes p x a (long l e) = omega (arith, l, a.spelled.short)
-no_reason k fine bytes p x a (none l h) = not_both k bytes a.tokens a.spelled.decls x a.spelled.tree h
-no_reason k fine bytes p x a (some l ts ds tree h) =
+no_reason : Known → Fine → (guess : Bool) (bytes : List ℕ) (p : r.Program) (x : Refusal) → IsProgramOf guess bytes p → Why guess bytes x → ⊥
+no_reason k fine guess bytes p x a (long l e) = omega (arith, l, a.spelled.short)
+no_reason k fine guess bytes p x a (none l h) = not_both k bytes a.tokens a.spelled.decls x a.spelled.tree h
+no_reason k fine guess bytes p x a (some l ts ds tree h) =
     let e = one_tree k bytes ts a.tokens ds a.spelled.decls tree a.spelled.tree in
-    let meant : p ≡ named ds = is_named_in bytes a.tokens p a.spelled ∙ ap named (sym e.1) in
-    few_rest ts ds x
-    (subst (λ (d : List Decl). AreNamed d) (sym e.1) (are_named_in bytes a.tokens p a.spelled))
+    let meant : a.written ≡ named ds = is_named_in bytes a.tokens a.written a.spelled ∙ ap named (sym e.1) in
+    few_rest guess ts ds x
+    (subst (λ (d : List Decl). AreNamed d) (sym e.1) (are_named_in bytes a.tokens a.written a.spelled))
     (fine (named ds) (subst (λ (q : r.Program). KeepsTypes q) meant a.typed))
     (subst (λ (t : List Tok). AreJudged t) (sym e.0) a.judged)
     (subst (λ (d : List Decl). AreCandidates d) (sym e.1) a.candidates)
-    (subst (λ (q : r.Program). limit_of q ≡ None) meant a.within)
+    (subst (λ (q : r.Program). limit_of q ≡ None) (a.is ∙ ap (with_guesses guess) meant) a.within)
     h
 
-pub program_not_refused : Known → Fine → (bytes : List ℕ) (p : r.Program) (x : Refusal) → IsProgramOf bytes p → IsRefusedBy bytes x → ⊥
-program_not_refused k fine bytes p x a b = no_reason k fine bytes p x a (why fine bytes x b)
+pub program_not_refused : Known → Fine → (guess : Bool) (bytes : List ℕ) (p : r.Program) (x : Refusal) → IsProgramOf guess bytes p → IsRefusedBy guess bytes x → ⊥
+program_not_refused k fine guess bytes p x a b = no_reason k fine guess bytes p x a (why guess fine bytes x b)
 
 -- ---- refusals
 later_alike : (p q : Pos) (v w : List ℕ) → (p ≡ q) × (v ≡ w) → Later p v ≡ Later q w
@@ -116,38 +117,38 @@ one_limit o x y h k = let e : Some x ≡ Some y = sym h ∙ k in cc
 through : (x y u v : Refusal) → x ≡ u → y ≡ v → u ≡ v → x ≡ y
 through x y u v h k e = h ∙ (e ∙ sym k)
 
-rest_alike : (ts : List Tok) (ds : List Decl) (x y : Refusal) → Rest ts ds x → Rest ts ds y → x ≡ y
-rest_alike ts ds x y (misnamed f a e) (misnamed g b h) = through x y (Names f) (Names g) e h (ap Names (one_told ds f g a b))
-rest_alike ts ds x y (misnamed f a e) (mistyped g n b h) = absurd (named_no_fault ds f n a)
-rest_alike ts ds x y (misnamed f a e) (unjudged q w n t b h) = absurd (named_no_fault ds f n a)
-rest_alike ts ds x y (misnamed f a e) (large n t j z h) = absurd (named_no_fault ds f n a)
-rest_alike ts ds x y (mistyped f m a e) (misnamed g b h) = absurd (named_no_fault ds g m b)
-rest_alike ts ds x y (mistyped f m a e) (mistyped g n b h) =
+rest_alike : (guess : Bool) (ts : List Tok) (ds : List Decl) (x y : Refusal) → Rest guess ts ds x → Rest guess ts ds y → x ≡ y
+rest_alike guess ts ds x y (misnamed f a e) (misnamed g b h) = through x y (Names f) (Names g) e h (ap Names (one_told ds f g a b))
+rest_alike guess ts ds x y (misnamed f a e) (mistyped g n b h) = absurd (named_no_fault ds f n a)
+rest_alike guess ts ds x y (misnamed f a e) (unjudged q w n t b h) = absurd (named_no_fault ds f n a)
+rest_alike guess ts ds x y (misnamed f a e) (large n t j z h) = absurd (named_no_fault ds f n a)
+rest_alike guess ts ds x y (mistyped f m a e) (misnamed g b h) = absurd (named_no_fault ds g m b)
+rest_alike guess ts ds x y (mistyped f m a e) (mistyped g n b h) =
     through x y _ _ e h (ap (λ (z : t.Fault). Types (named ds).types z) (one_fault (named ds) f g a b))
-rest_alike ts ds x y (mistyped f m a e) (unjudged q w n t b h) = absurd (typed_no_fault (named ds) f t a)
-rest_alike ts ds x y (mistyped f m a e) (large n t j z h) = absurd (typed_no_fault (named ds) f t a)
-rest_alike ts ds x y (unjudged p v m s a e) (misnamed g b h) = absurd (named_no_fault ds g m b)
-rest_alike ts ds x y (unjudged p v m s a e) (mistyped g n b h) = absurd (typed_no_fault (named ds) g s b)
-rest_alike ts ds x y (unjudged p v m s a e) (unjudged q w n t b h) =
+rest_alike guess ts ds x y (mistyped f m a e) (unjudged q w n t b h) = absurd (typed_no_fault (named ds) f t a)
+rest_alike guess ts ds x y (mistyped f m a e) (large n t j z h) = absurd (typed_no_fault (named ds) f t a)
+rest_alike guess ts ds x y (unjudged p v m s a e) (misnamed g b h) = absurd (named_no_fault ds g m b)
+rest_alike guess ts ds x y (unjudged p v m s a e) (mistyped g n b h) = absurd (typed_no_fault (named ds) g s b)
+rest_alike guess ts ds x y (unjudged p v m s a e) (unjudged q w n t b h) =
     through x y (Later p v) (Later q w) e h (later_alike p q v w (one_later ts ds p q v w a b))
-rest_alike ts ds x y (unjudged p v m s a e) (large n t j z h) = absurd (none_later ts ds p v j z a)
-rest_alike ts ds x y (large m s i y0 e) (misnamed g b h) = absurd (named_no_fault ds g m b)
-rest_alike ts ds x y (large m s i y0 e) (mistyped g n b h) = absurd (typed_no_fault (named ds) g s b)
-rest_alike ts ds x y (large m s i y0 e) (unjudged q w n t b h) = absurd (none_later ts ds q w i y0 b)
-rest_alike ts ds x y (large m s i y0 e) (large n t j z h) = one_limit (limit_of (named ds)) x y e h
+rest_alike guess ts ds x y (unjudged p v m s a e) (large n t j z h) = absurd (none_later ts ds p v j z a)
+rest_alike guess ts ds x y (large m s i y0 e) (misnamed g b h) = absurd (named_no_fault ds g m b)
+rest_alike guess ts ds x y (large m s i y0 e) (mistyped g n b h) = absurd (typed_no_fault (named ds) g s b)
+rest_alike guess ts ds x y (large m s i y0 e) (unjudged q w n t b h) = absurd (none_later ts ds q w i y0 b)
+rest_alike guess ts ds x y (large m s i y0 e) (large n t j z h) = one_limit (limit_of (with_guesses guess (named ds))) x y e h
 
-alike : Known → (bytes : List ℕ) (x y : Refusal) → Why bytes x → Why bytes y → x ≡ y
-alike k bytes x y (long l e) (long m f) = e ∙ sym f
-alike k bytes x y (long l e) (none m h) = absurd (omega (arith, l, m))
-alike k bytes x y (long l e) (some m ts ds tree h) = absurd (omega (arith, l, m))
-alike k bytes x y (none l g) (long m f) = absurd (omega (arith, l, m))
-alike k bytes x y (none l g) (none m h) = one_refusal k bytes x y g h
-alike k bytes x y (none l g) (some m ts ds tree h) = absurd (not_both k bytes ts ds x tree g)
-alike k bytes x y (some l ts ds tree g) (long m f) = absurd (omega (arith, l, m))
-alike k bytes x y (some l ts ds tree g) (none m h) = absurd (not_both k bytes ts ds y tree h)
-alike k bytes x y (some l ts ds tree g) (some m us es other h) =
+alike : Known → (guess : Bool) (bytes : List ℕ) (x y : Refusal) → Why guess bytes x → Why guess bytes y → x ≡ y
+alike k guess bytes x y (long l e) (long m f) = e ∙ sym f
+alike k guess bytes x y (long l e) (none m h) = absurd (omega (arith, l, m))
+alike k guess bytes x y (long l e) (some m ts ds tree h) = absurd (omega (arith, l, m))
+alike k guess bytes x y (none l g) (long m f) = absurd (omega (arith, l, m))
+alike k guess bytes x y (none l g) (none m h) = one_refusal k bytes x y g h
+alike k guess bytes x y (none l g) (some m ts ds tree h) = absurd (not_both k bytes ts ds x tree g)
+alike k guess bytes x y (some l ts ds tree g) (long m f) = absurd (omega (arith, l, m))
+alike k guess bytes x y (some l ts ds tree g) (none m h) = absurd (not_both k bytes ts ds y tree h)
+alike k guess bytes x y (some l ts ds tree g) (some m us es other h) =
     let e = one_tree k bytes us ts es ds other tree in
-    rest_alike ts ds x y g (subst (λ (d : List Decl). Rest ts d y) e.1 (subst (λ (t : List Tok). Rest t es y) e.0 h))
+    rest_alike guess ts ds x y g (subst (λ (d : List Decl). Rest guess ts d y) e.1 (subst (λ (t : List Tok). Rest guess t es y) e.0 h))
 
-pub refused_alike : Known → Fine → (bytes : List ℕ) (x y : Refusal) → IsRefusedBy bytes x → IsRefusedBy bytes y → x ≡ y
-refused_alike k fine bytes x y a b = alike k bytes x y (why fine bytes x a) (why fine bytes y b)
+pub refused_alike : Known → Fine → (guess : Bool) (bytes : List ℕ) (x y : Refusal) → IsRefusedBy guess bytes x → IsRefusedBy guess bytes y → x ≡ y
+refused_alike k fine guess bytes x y a b = alike k guess bytes x y (why guess fine bytes x a) (why guess fine bytes y b)

@@ -1,5 +1,5 @@
 -- The program of a text, and why it has none.
-use Rattle.std.specs.Prelude.{◌≡◌, ◌≤◌, ◌<◌, ◌⊎◌, codes, ℕ, nat_lt, Bool, true, false, if◌then◌else◌, List, length, Option, Some, None}
+use Rattle.std.specs.Prelude.{◌≡◌, ◌≤◌, ◌<◌, ◌⊎◌, ◌-◌, ◌^◌, codes, ℕ, min, nat_lt, Bool, true, false, if◌then◌else◌, List, length, Option, Some, None}
 use Rattle.bg_base.specs.declared.pos.Pos.{Pos}
 use Rattle.bg_text.specs.Tokens.{Tok}
 use Rattle.bg_text.specs.Trees.{Decl}
@@ -9,6 +9,7 @@ use Rattle.bg_places.specs.Counts.{most_places, most_expanded, place_counts, exp
 use Rattle.bg_meant.specs.Declared.{MeansProgram}
 use Rattle.bg_types.specs.Verdicts.{IsFault}
 use Rattle.bg_typed.specs.Rules.{KeepsTypes}
+use Rattle.bg_guess.specs.Guessed.{guessed}
 use Rattle.bg_front.specs.Later.{AreJudged, IsUnjudged}
 use Rattle.bg_front.specs.Others.{AreCandidates, IsFirstOther}
 use Rattle.bg_front.specs.Limits.{most_bytes, most_implementations, most_candidates}
@@ -35,24 +36,47 @@ size_limit (Some places) large = Some (f.Places places)
 size_limit None true = Some f.Expanded
 size_limit None false = None
 
+-- the places and the expression nodes of the implementations of a program
+abbrev pub too_large : r.Program → Option f.Refusal
+too_large p = size_limit (first_above most_places (place_counts p)) (is_any_above most_expanded (expanded_counts p))
+
+-- too many implementations, or too many candidates
+abbrev pub count_limit : (implementations candidates : ℕ) → Option f.Refusal
+count_limit n m =
+    if nat_lt most_implementations n then Some (f.Implementations n) else if nat_lt most_candidates m then Some (f.Candidates m) else None
+
+-- how many candidates a program has, as far as 64 bits tell it
+abbrev pub candidate_count : r.Program → ℕ
+candidate_count p = min (2 ^ 64 - 1) (length p.candidates)
+
+-- those of a program
+abbrev pub too_many : r.Program → Option f.Refusal
+too_many p = count_limit (length p.implementations) (candidate_count p)
+
+abbrev pub or_else : Option f.Refusal → Option f.Refusal → Option f.Refusal
+or_else None y = y
+or_else (Some x) y = Some x
+
 -- the first limit that the program exceeds: of implementations, of candidates, of the places of an implementation, of the expression nodes
 -- of one
 abbrev pub limit_of : r.Program → Option f.Refusal
-limit_of p =
-    if nat_lt most_implementations (length p.implementations)
-    then Some (f.Implementations (length p.implementations))
-    else if nat_lt most_candidates (length p.candidates)
-    then Some (f.Candidates (length p.candidates))
-    else size_limit (first_above most_places (place_counts p)) (is_any_above most_expanded (expanded_counts p))
+limit_of p = or_else (too_many p) (too_large p)
 
--- the bytes spell the program: it keeps the rules of types, each of its tokens is judged, its constants are candidates, and it exceeds
--- no limit
-pub record IsProgramOf (bytes : List ℕ) (program : r.Program) : Type 0 where
+-- a program, with its guesses where these are asked for
+abbrev pub with_guesses : Bool → r.Program → r.Program
+with_guesses false p = p
+with_guesses true p = guessed p
+
+-- the bytes spell a program that keeps the rules of types, each of its tokens is judged, and its constants are candidates; this is the
+-- program, with its guesses where these are asked for, and it exceeds no limit
+pub record IsProgramOf (guess : Bool) (bytes : List ℕ) (program : r.Program) : Type 0 where
   pub tokens : List Tok
-  pub spelled : IsMeaningOf bytes tokens program
-  pub typed : KeepsTypes program
+  pub written : r.Program
+  pub spelled : IsMeaningOf bytes tokens written
+  pub typed : KeepsTypes written
   pub judged : AreJudged tokens
   pub candidates : AreCandidates spelled.decls
+  pub is : program ≡ with_guesses guess written
   pub within : limit_of program ≡ None
 
 -- what isn't judged yet: the first token that isn't, at this position and written so; or, where all tokens are, the word `const` of the
@@ -61,24 +85,29 @@ abbrev pub IsLater : List Tok → List Decl → Pos → List ℕ → Type 0
 IsLater ts ds pos word =
     IsUnjudged ts pos word ⊎ (AreJudged ts × (IsFirstOther ds pos × (word ≡ codes "const")))
 
--- the bytes spell a program that is typed and judged, and exceeds this limit first
-abbrev pub ExceedsLimit : List ℕ → f.Refusal → Type 0
-ExceedsLimit bytes limit =
-    (ts : List Tok) × (p : r.Program) × (m : IsMeaningOf bytes ts p) × KeepsTypes p × AreJudged ts × AreCandidates m.decls × (limit_of p ≡ Some limit)
+-- the bytes spell a program that is typed and judged, and exceeds this limit first, with its guesses where these are asked for
+abbrev pub ExceedsLimit : Bool → List ℕ → f.Refusal → Type 0
+ExceedsLimit guess bytes limit =
+    (ts : List Tok) × (p : r.Program) × (m : IsMeaningOf bytes ts p) × KeepsTypes p × AreJudged ts × AreCandidates m.decls × (limit_of (with_guesses guess p) ≡ Some limit)
 
--- why a text has no program; each reason stands only where none before it does
-abbrev pub IsRefusedBy : List ℕ → f.Refusal → Type 0
-IsRefusedBy bytes f.TooLong = most_bytes < length bytes
-IsRefusedBy bytes (f.Names fault) = (length bytes ≤ most_bytes) × (ts : List Tok) × (ds : List Decl) × IsTreeOf bytes ts ds × IsToldFault ds fault
-IsRefusedBy bytes (f.Types ds fault) = (ts : List Tok) × (p : r.Program) × IsMeaningOf bytes ts p × IsFault p fault × (ds ≡ p.types)
-IsRefusedBy bytes (f.Later pos word) = (ts : List Tok) × (p : r.Program) × (m : IsMeaningOf bytes ts p) × KeepsTypes p × IsLater ts m.decls pos word
-IsRefusedBy bytes (f.Implementations n) = ExceedsLimit bytes (f.Implementations n)
-IsRefusedBy bytes (f.Candidates n) = ExceedsLimit bytes (f.Candidates n)
-IsRefusedBy bytes (f.Places n) = ExceedsLimit bytes (f.Places n)
-IsRefusedBy bytes f.Expanded = ExceedsLimit bytes f.Expanded
-IsRefusedBy bytes reason = (length bytes ≤ most_bytes) × HasNoTree bytes reason
+-- why a text has no program; each reason stands only where none before it does, and limits alone look at guesses
+abbrev pub IsRefusedBy : Bool → List ℕ → f.Refusal → Type 0
+IsRefusedBy guess bytes f.TooLong = most_bytes < length bytes
+IsRefusedBy guess bytes (f.Names fault) = (length bytes ≤ most_bytes) × (ts : List Tok) × (ds : List Decl) × IsTreeOf bytes ts ds × IsToldFault ds fault
+IsRefusedBy guess bytes (f.Types ds fault) = (ts : List Tok) × (p : r.Program) × IsMeaningOf bytes ts p × IsFault p fault × (ds ≡ p.types)
+IsRefusedBy guess bytes (f.Later pos word) = (ts : List Tok) × (p : r.Program) × (m : IsMeaningOf bytes ts p) × KeepsTypes p × IsLater ts m.decls pos word
+IsRefusedBy guess bytes (f.Implementations n) = ExceedsLimit guess bytes (f.Implementations n)
+IsRefusedBy guess bytes (f.Candidates n) = ExceedsLimit guess bytes (f.Candidates n)
+IsRefusedBy guess bytes (f.Places n) = ExceedsLimit guess bytes (f.Places n)
+IsRefusedBy guess bytes f.Expanded = ExceedsLimit guess bytes f.Expanded
+IsRefusedBy guess bytes reason = (length bytes ≤ most_bytes) × HasNoTree bytes reason
 
 -- what is said of an answer, unless memory ran out
-abbrev pub IsRefused : List ℕ → ReadError → Type 0
-IsRefused bytes (errors.Refused e) = IsRefusedBy bytes (refusal_of e)
-IsRefused bytes errors.Memory = Unit {0}
+abbrev pub IsRefused : Bool → List ℕ → ReadError → Type 0
+IsRefused guess bytes (errors.Refused e) = IsRefusedBy guess bytes (refusal_of e)
+IsRefused guess bytes errors.Memory = Unit {0}
+
+-- the answer is the first limit that the program exceeds, unless memory ran out
+abbrev pub IsLimitOf : r.Program → ReadError → Type 0
+IsLimitOf p (errors.Refused e) = limit_of p ≡ Some (refusal_of e)
+IsLimitOf p errors.Memory = Unit {0}

@@ -1,5 +1,5 @@
 //! What holds of all texts.
-ghost use Rattle.std.specs.Prelude.{◌≡◌, ℕ, List};
+ghost use Rattle.std.specs.Prelude.{◌≡◌, ℕ, Bool, List};
 ghost use Rattle.bg_base.specs.declared.pos.Pos as place;
 ghost use Rattle.bg_text.specs.Tokens.{Tok};
 ghost use Rattle.bg_text.specs.Trees.{Decl};
@@ -33,11 +33,11 @@ pub fn a_text_has_one_tree_or_one_refusal()
     bg_parse::there_is_one_refusal();
 }
 
-/// A text has one program, or it is refused for one reason, and never both.
+/// A text has one program, with guesses and without, or it is refused for one reason, and never both.
 pub fn a_text_has_one_program_or_one_refusal()
-    ensures program { (bytes : List ℕ) (p q : Program) → IsProgramOf bytes p → IsProgramOf bytes q → p ≡ q }
-    ensures both { (bytes : List ℕ) (p : Program) (r : Refusal) → IsProgramOf bytes p → IsRefusedBy bytes r → ⊥ }
-    ensures refusal { (bytes : List ℕ) (r s : Refusal) → IsRefusedBy bytes r → IsRefusedBy bytes s → r ≡ s }
+    ensures program { (guess : Bool) (bytes : List ℕ) (p q : Program) → IsProgramOf guess bytes p → IsProgramOf guess bytes q → p ≡ q }
+    ensures both { (guess : Bool) (bytes : List ℕ) (p : Program) (r : Refusal) → IsProgramOf guess bytes p → IsRefusedBy guess bytes r → ⊥ }
+    ensures refusal { (guess : Bool) (bytes : List ℕ) (r s : Refusal) → IsRefusedBy guess bytes r → IsRefusedBy guess bytes s → r ≡ s }
 {
     bg_lex::laws::a_text_holds_one_list_of_tokens();
     bg_lex::laws::a_text_has_one_refusal();
@@ -50,13 +50,17 @@ pub fn a_text_has_one_program_or_one_refusal()
 
 /// The program of a text is typed in the sense of its meaning, and no function of it reaches itself.
 pub fn programs_are_typed()
-    ensures { (bytes : List ℕ) (p : Program) → IsProgramOf bytes p → IsTyped (meaning_of p) × HasNoRecursion (meaning_of p) }
-{}
+    ensures { (guess : Bool) (bytes : List ℕ) (p : Program) → IsProgramOf guess bytes p → IsTyped (meaning_of p) × HasNoRecursion (meaning_of p) }
+{
+    bg_meant::laws::programs_are_resolved();
+    bg_guess::laws::guesses_are_typed();
+}
 
 /// In the program of a text clauses, calls, loops, conditionals and labels have numbers of their own, and procedures and candidates that
 /// are named are there.
 pub fn programs_are_resolved()
-    ensures { (bytes : List ℕ) (p : Program) → IsProgramOf bytes p → IsResolved (meaning_of p) }
+    ensures { (guess : Bool) (bytes : List ℕ) (p : Program) → IsProgramOf guess bytes p → IsResolved (meaning_of p) }
 {
     bg_meant::laws::programs_are_resolved();
+    bg_guess::laws::guesses_are_resolved();
 }

@@ -1,5 +1,5 @@
 //! The program of a text.
-ghost use Rattle.std.specs.Prelude.{◌≤◌, length, IfOk, IfErr};
+ghost use Rattle.std.specs.Prelude.{◌≤◌, Bool, length, IfOk, IfErr};
 ghost use Rattle.bg_text.specs.Tokens.{views};
 ghost use Rattle.bg_text.specs.Views.{decls_of};
 ghost use Rattle.bg_ast.specs.Views.{program_of};
@@ -14,7 +14,7 @@ use crate::later::first_unjudged;
 use crate::limits::MOST_BYTES;
 use crate::others::first_other;
 use crate::refusal::{ReadError, Refusal};
-use crate::sizes::limit_of;
+use crate::sizes::within_limits;
 use crate::tree::{Read, tree_of};
 use bg_ast::resolved::Resolved;
 use bg_meant::laws::names_mean_a_program;
@@ -29,7 +29,7 @@ use std::alloc::Global;
 fn read<'a>(alloc: Global, bytes: &'a [u8]) -> Result<Read<'a>, ReadError<'a>>
     ensures short { IfOk result (λ _. length bytes.now ≤ most_bytes) }
     ensures read { IfOk result (λ r. IsTreeOf bytes.now (views r.tokens.items) (decls_of r.tree.decls.items)) }
-    ensures refused { IfErr result (λ e. IsRefused bytes.now e) }
+    ensures refused { IfErr result (λ e. (guess : Bool) → IsRefused guess bytes.now e) }
 {
     if bytes.len() as u64 > MOST_BYTES {
         return Err(ReadError::Refused(Refusal::TooLong));
@@ -47,7 +47,7 @@ fn meaning<'a>(
     requires short { length bytes.now ≤ most_bytes }
     requires tree { IsTreeOf bytes.now (views tokens.now) (decls_of decls.now) }
     ensures meant { IfOk result (λ p. IsMeaningFrom bytes.now (views tokens.now) (decls_of decls.now) (program_of p)) }
-    ensures refused { IfErr result (λ e. IsRefused bytes.now e) }
+    ensures refused { IfErr result (λ e. (guess : Bool) → IsRefused guess bytes.now e) }
 {
     names_mean_a_program();
     match resolve(alloc, decls) {
@@ -68,7 +68,7 @@ fn typed<'a>(
     requires meant { IsMeaningFrom bytes.now (views tokens.now) (decls_of decls.now) (program_of program) }
     ensures meant { IfOk result (λ t. IsMeaningFrom bytes.now (views tokens.now) (decls_of decls.now) (program_of t.program)) }
     ensures typed { IfOk result (λ t. KeepsTypes (program_of t.program)) }
-    ensures refused { IfErr result (λ e. IsRefused bytes.now e) }
+    ensures refused { IfErr result (λ e. (guess : Bool) → IsRefused guess bytes.now e) }
 {
     resolved_programs_are_named();
     faultless_programs_keep_the_rules();
@@ -79,26 +79,24 @@ fn typed<'a>(
     }
 }
 
-/// The same, where it exceeds no limit.
+/// The same with the guesses that are asked for, where this exceeds no limit.
 fn counted<'a>(
     alloc: Global,
     bytes: &'a [u8],
     tokens: &[Token<'a>],
     decls: &[Decl],
     typed: Typed,
+    guess: bool,
 ) -> Result<Typed, ReadError<'a>>
     requires meant { IsMeaningFrom bytes.now (views tokens.now) (decls_of decls.now) (program_of typed.program) }
     requires typed { KeepsTypes (program_of typed.program) }
     requires judged { AreJudged (views tokens.now) }
     requires candidates { AreCandidates (decls_of decls.now) }
-    ensures program { IfOk result (λ t. IsProgramOf bytes.now (program_of t.program)) }
-    ensures refused { IfErr result (λ e. IsRefused bytes.now e) }
+    ensures program { IfOk result (λ t. IsProgramOf guess bytes.now (program_of t.program)) }
+    ensures refused { IfErr result (λ e. IsRefused guess bytes.now e) }
 {
-    match limit_of(alloc, &typed.program) {
-        Ok(None) => Ok(typed),
-        Ok(Some(limit)) => Err(ReadError::Refused(limit)),
-        Err(_) => Err(ReadError::Memory),
-    }
+    let program = within_limits(alloc, typed.program, guess)?;
+    Ok(Typed { program })
 }
 
 /// The same, where each token is judged, and each constant a candidate.
@@ -108,35 +106,37 @@ fn judged<'a>(
     tokens: &[Token<'a>],
     decls: &[Decl],
     typed: Typed,
+    guess: bool,
 ) -> Result<Typed, ReadError<'a>>
     requires meant { IsMeaningFrom bytes.now (views tokens.now) (decls_of decls.now) (program_of typed.program) }
     requires typed { KeepsTypes (program_of typed.program) }
-    ensures program { IfOk result (λ t. IsProgramOf bytes.now (program_of t.program)) }
-    ensures refused { IfErr result (λ e. IsRefused bytes.now e) }
+    ensures program { IfOk result (λ t. IsProgramOf guess bytes.now (program_of t.program)) }
+    ensures refused { IfErr result (λ e. IsRefused guess bytes.now e) }
 {
     if let Some((pos, word)) = first_unjudged(tokens) {
         return Err(ReadError::Refused(Refusal::Later(pos, word)));
     }
     match first_other(decls) {
         Some(pos) => Err(ReadError::Refused(Refusal::Later(pos, b"const"))),
-        None => counted(alloc, bytes, tokens, decls, typed),
+        None => counted(alloc, bytes, tokens, decls, typed, guess),
     }
 }
 
-/// The program of a text.
+/// The program of a text, with its guesses where these are asked for.
 ///
 /// # Errors
 /// `Refused` with the first of these that holds: there are too many bytes (`TooLong`); the bytes hold no tokens (`Bytes`);
 /// the tokens spell no program (`Syntax`) or open a 201st bracket (`Nesting`), whichever comes first; a rule of names
 /// (`Names`) or of types (`Types`) is broken; a token isn't judged yet (`Later`), or else constants are no candidates (`Later` at
-/// their word `const`); there are too many implementations (`Implementations`) or candidates (`Candidates`), or an
-/// implementation has too many places (`Places`) or too many expression nodes (`Expanded`). `Memory` where memory ran out. Positions are lines and byte columns from 1.
-pub fn read_program<'a>(alloc: Global, bytes: &'a [u8]) -> Result<Typed, ReadError<'a>>
-    ensures program { IfOk result (λ t. IsProgramOf bytes.now (program_of t.program)) }
-    ensures refused { IfErr result (λ e. IsRefused bytes.now e) }
+/// their word `const`); there are too many implementations (`Implementations`) or candidates (`Candidates`), the guesses that
+/// are asked for among them and counted before they are made, or an implementation has with them too many places (`Places`)
+/// or too many expression nodes (`Expanded`). `Memory` where memory ran out. Positions are lines and byte columns from 1.
+pub fn read_program<'a>(alloc: Global, bytes: &'a [u8], guess: bool) -> Result<Typed, ReadError<'a>>
+    ensures program { IfOk result (λ t. IsProgramOf guess bytes.now (program_of t.program)) }
+    ensures refused { IfErr result (λ e. IsRefused guess bytes.now e) }
 {
     let read = read(alloc, bytes)?;
     let program = meaning(alloc, bytes, &read.tokens, &read.tree.decls)?;
     let typed = typed(alloc, bytes, &read.tokens, &read.tree.decls, program)?;
-    judged(alloc, bytes, &read.tokens, &read.tree.decls, typed)
+    judged(alloc, bytes, &read.tokens, &read.tree.decls, typed, guess)
 }

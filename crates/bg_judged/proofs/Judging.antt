@@ -6,11 +6,14 @@ use Rattle.bg_text.specs.declared.token.Kind.TheVariants as kinds
 use Rattle.bg_text.specs.Tokens.{Tok}
 use Rattle.bg_ast.specs.Resolved as r
 use Rattle.bg_ast.specs.Meaning.{meaning_of}
+use Rattle.bg_sense.specs.Resolved.{IsResolved}
 use Rattle.bg_typed.specs.Rules.{KeepsTypes}
 use Rattle.bg_front.specs.Later.{is_unjudged, outside, spot_from}
 use Rattle.bg_front.specs.Others.{AreCandidates}
-use Rattle.bg_front.specs.Programs.{IsMeaningOf, IsProgramOf}
+use Rattle.bg_front.specs.Programs.{IsMeaningOf, IsProgramOf, with_guesses}
 use Rattle.bg_front.proofs.Named.{are_named_in, is_named_in}
+use Rattle.bg_front.proofs.TypedPrograms.{AreResolved, written_resolved}
+use Rattle.bg_guess.specs.Guessed.{guessed}
 use Rattle.bg_fits.specs.Scalars.{passes, is_scalar_type, is_scalar, is_over_scalars}
 use Rattle.bg_judged.specs.Within.{is_beyond, AreWithin}
 use Rattle.bg_judged.proofs.Marks.{never}
@@ -89,7 +92,12 @@ within_scalars numbers bytes ts p h typed within are =
     let good = subst (λ q. passes (is_scalar_type numbers) (few numbers) (meaning_of q) ≡ true) (sym (is_named_in bytes ts p h)) (tokens_good numbers ts h.decls within are h.tree.1.spells.1 (are_named_in bytes ts p h).0) in
     program_turn numbers (few numbers) (is_scalar numbers) (scalar_turn numbers) (meaning_of p) typed.typed good
 
-pub judged_scalars : (bytes : List ℕ) (p : r.Program) → IsProgramOf bytes p → is_over_scalars true (meaning_of p) ≡ true
-judged_scalars bytes p h =
+scalars_with : ((p : r.Program) → IsResolved (meaning_of p) → is_over_scalars true (meaning_of p) ≡ true → is_over_scalars true (meaning_of (guessed p)) ≡ true) → (guess : Bool) (p : r.Program) → IsResolved (meaning_of p) → is_over_scalars true (meaning_of p) ≡ true → is_over_scalars true (meaning_of (with_guesses guess p)) ≡ true
+scalars_with stay false p h s = s
+scalars_with stay true p h s = stay p h s
+
+pub judged_scalars : AreResolved → ((p : r.Program) → IsResolved (meaning_of p) → is_over_scalars true (meaning_of p) ≡ true → is_over_scalars true (meaning_of (guessed p)) ≡ true) → (guess : Bool) (bytes : List ℕ) (p : r.Program) → IsProgramOf guess bytes p → is_over_scalars true (meaning_of p) ≡ true
+judged_scalars are_resolved stay guess bytes p h =
     let within : AreWithin true h.tokens = λ front t rest cut out. beyond_unjudged t.kind (judged_here (spot_from outside front).inside t.kind out (h.judged front t rest cut)) in
-    within_scalars true bytes h.tokens p h.spelled h.typed within h.candidates
+    let written = within_scalars true bytes h.tokens h.written h.spelled h.typed within h.candidates in
+    subst (λ q. is_over_scalars true (meaning_of q) ≡ true) (sym h.is) (scalars_with stay guess h.written (written_resolved are_resolved guess bytes p h) written)

@@ -16,7 +16,10 @@ pub fn tokens_of_scalars_spell_programs_over_scalars()
     ensures { (numbers : Bool) (bytes : List ℕ) (ts : List Tok) (p : Program) → (m : IsMeaningOf bytes ts p) → KeepsTypes p → AreWithin numbers ts → AreCandidates m.decls → is_over_scalars numbers (meaning_of p) ≡ true }
 {}
 
-/// What the reader lets through is a program over truth values and whole numbers.
+/// What the reader lets through, with guesses and without, is a program over truth values and whole numbers.
 pub fn judged_programs_are_over_scalars()
-    ensures { (bytes : List ℕ) (p : Program) → IsProgramOf bytes p → is_over_scalars true (meaning_of p) ≡ true }
-{}
+    ensures { (guess : Bool) (bytes : List ℕ) (p : Program) → IsProgramOf guess bytes p → is_over_scalars true (meaning_of p) ≡ true }
+{
+    bg_meant::laws::programs_are_resolved();
+    bg_guess::laws::guesses_are_over_scalars();
+}

@@ -31,11 +31,11 @@ status_refuses r = subst (λ s. IsTrue (is_refused s)) (sym (by_limit (is_limit 
 
 -- what is known of texts
 pub record Known : Type 0 where
-  pub both : (bytes : List ℕ) (p : Program) (r : Refusal) → IsProgramOf bytes p → IsRefusedBy bytes r → ⊥
-  pub refusal : (bytes : List ℕ) (r s : Refusal) → IsRefusedBy bytes r → IsRefusedBy bytes s → r ≡ s
+  pub both : (guess : Bool) (bytes : List ℕ) (p : Program) (r : Refusal) → IsProgramOf guess bytes p → IsRefusedBy guess bytes r → ⊥
+  pub refusal : (guess : Bool) (bytes : List ℕ) (r s : Refusal) → IsRefusedBy guess bytes r → IsRefusedBy guess bytes s → r ≡ s
 
-one_status : Known → (bytes : List ℕ) (r s : Refusal) → IsRefusedBy bytes r → IsRefusedBy bytes s → refusal_status r ≡ refusal_status s
-one_status k bytes r s a b = ap refusal_status (k.refusal bytes r s a b)
+one_status : Known → (guess : Bool) (bytes : List ℕ) (r s : Refusal) → IsRefusedBy guess bytes r → IsRefusedBy guess bytes s → refusal_status r ≡ refusal_status s
+one_status k guess bytes r s a b = ap refusal_status (k.refusal guess bytes r s a b)
 
 -- a text that is longer than n, where it is told; any one where it isn't
 pub long_text : (contents : Option (List ℕ → List ℕ)) (names : List (List ℕ)) (n : ℕ) → IsTextOver contents names n → (bytes : List ℕ) × (IsTextOf contents names bytes × (n < length bytes))
@@ -46,7 +46,7 @@ long_text None names n h =
 long_text (Some held) names n h = (joined_text held names, (refl, h))
 
 -- a report is true of the bytes
-pub wrote_true : (asked : Asked) (contents : Option (List ℕ → List ℕ)) (names : List (List ℕ)) (ends : Status) (before now : Option (List ℕ)) → Wrote (IsReport asked) contents names ends before now → Wrote (IsTrueText asked.history) contents names ends before now
+pub wrote_true : (asked : Asked) (contents : Option (List ℕ → List ℕ)) (names : List (List ℕ)) (ends : Status) (before now : Option (List ℕ)) → Wrote (IsReport asked) contents names ends before now → Wrote (IsTrueText asked.guess asked.history) contents names ends before now
 wrote_true asked contents names ends before now w =
     record {
       text = w.text;
@@ -63,36 +63,36 @@ held_is : (contents : Option (List ℕ → List ℕ)) (held : List ℕ → List 
 held_is contents held names bytes told r = subst (λ c. IsTextOf c names bytes) told r
 
 -- what an answer says of its text, where no fault was counted: it has a program, it is refused, or memory ran out
-pub data Said (bytes : List ℕ) (ends : Status) : Type 0 where
-  Spelled : (p : Program) → IsProgramOf bytes p → IsTrue (is_report ends) → Said bytes ends
-  Denied : (r : Refusal) → IsRefusedBy bytes r → ends ≡ refusal_status r → Said bytes ends
-  Short : ends ≡ status.Memory → Said bytes ends
+pub data Said (guess : Bool) (bytes : List ℕ) (ends : Status) : Type 0 where
+  Spelled : (p : Program) → IsProgramOf guess bytes p → IsTrue (is_report ends) → Said guess bytes ends
+  Denied : (r : Refusal) → IsRefusedBy guess bytes r → ends ≡ refusal_status r → Said guess bytes ends
+  Short : ends ≡ status.Memory → Said guess bytes ends
 
-said_program : Known → (bytes : List ℕ) (ends : Status) → Said bytes ends → (p : Program) → IsProgramOf bytes p → IsTrue (is_report ends) ⊎ (ends ≡ status.Memory)
-said_program k bytes ends (Spelled q s h) p t = inl h
-said_program k bytes ends (Denied r d e) p t = absurd (k.both bytes p r t d)
-said_program k bytes ends (Short e) p t = inr e
+said_program : Known → (guess : Bool) (bytes : List ℕ) (ends : Status) → Said guess bytes ends → (p : Program) → IsProgramOf guess bytes p → IsTrue (is_report ends) ⊎ (ends ≡ status.Memory)
+said_program k guess bytes ends (Spelled q s h) p t = inl h
+said_program k guess bytes ends (Denied r d e) p t = absurd (k.both guess bytes p r t d)
+said_program k guess bytes ends (Short e) p t = inr e
 
-said_refused : Known → (bytes : List ℕ) (ends : Status) → Said bytes ends → (r : Refusal) → IsRefusedBy bytes r → (ends ≡ refusal_status r) ⊎ (ends ≡ status.Memory)
-said_refused k bytes ends (Spelled q s h) r t = absurd (k.both bytes q r s t)
-said_refused k bytes ends (Denied d a e) r t = inl (e ∙ one_status k bytes d r a t)
-said_refused k bytes ends (Short e) r t = inr e
+said_refused : Known → (guess : Bool) (bytes : List ℕ) (ends : Status) → Said guess bytes ends → (r : Refusal) → IsRefusedBy guess bytes r → (ends ≡ refusal_status r) ⊎ (ends ≡ status.Memory)
+said_refused k guess bytes ends (Spelled q s h) r t = absurd (k.both guess bytes q r s t)
+said_refused k guess bytes ends (Denied d a e) r t = inl (e ∙ one_status k guess bytes d r a t)
+said_refused k guess bytes ends (Short e) r t = inr e
 
-said_none : (bytes : List ℕ) (ends : Status) → Said bytes ends → ((p : Program) → IsProgramOf bytes p → ⊥) → IsTrue (is_refused ends) ⊎ (ends ≡ status.Memory)
-said_none bytes ends (Spelled q s h) n = absurd (n q s)
-said_none bytes ends (Denied r d e) n = inl (subst (λ s. IsTrue (is_refused s)) (sym e) (status_refuses r))
-said_none bytes ends (Short e) n = inr e
+said_none : (guess : Bool) (bytes : List ℕ) (ends : Status) → Said guess bytes ends → ((p : Program) → IsProgramOf guess bytes p → ⊥) → IsTrue (is_refused ends) ⊎ (ends ≡ status.Memory)
+said_none guess bytes ends (Spelled q s h) n = absurd (n q s)
+said_none guess bytes ends (Denied r d e) n = inl (subst (λ s. IsTrue (is_refused s)) (sym e) (status_refuses r))
+said_none guess bytes ends (Short e) n = inr e
 
-pub judges : Known → (contents : Option (List ℕ → List ℕ)) (names : List (List ℕ)) (bytes : List ℕ) (ends : Status) → IsTextOf contents names bytes → Said bytes ends → Judges contents names ends
-judges k contents names bytes ends read s = record {
-  program = λ held p told t. said_program k bytes ends s p (subst (λ bs. IsProgramOf bs p) (sym (held_is contents held names bytes told read)) t);
-  refused = λ held r told t. said_refused k bytes ends s r (subst (λ bs. IsRefusedBy bs r) (sym (held_is contents held names bytes told read)) t);
-  none = λ held told n. said_none bytes ends s (λ p t. n p (subst (λ bs. IsProgramOf bs p) (held_is contents held names bytes told read) t));
+pub judges : Known → (guess : Bool) (contents : Option (List ℕ → List ℕ)) (names : List (List ℕ)) (bytes : List ℕ) (ends : Status) → IsTextOf contents names bytes → Said guess bytes ends → Judges guess contents names ends
+judges k guess contents names bytes ends read s = record {
+  program = λ held p told t. said_program k guess bytes ends s p (subst (λ bs. IsProgramOf guess bs p) (sym (held_is contents held names bytes told read)) t);
+  refused = λ held r told t. said_refused k guess bytes ends s r (subst (λ bs. IsRefusedBy guess bs r) (sym (held_is contents held names bytes told read)) t);
+  none = λ held told n. said_none guess bytes ends s (λ p t. n p (subst (λ bs. IsProgramOf guess bs p) (held_is contents held names bytes told read) t));
 }
 
 module _ {A B : Type 0} (asked : Asked) (bytes : List ℕ) (before now lines line : Option (List ℕ)) where
   -- what the answer over a text within the limit says of it
-  pub said : (ends : Status) → (IsTrue (is_report ends) → Reported asked bytes ends before now) → (IsTrue (is_refused ends) → RefusedFor bytes ends lines line) → (ends ≡ status.Write → A ⊎ B) → (A → ⊥) → (B → ⊥) → (ends ≢ status.Usage) × (ends ≢ status.Read) → Said bytes ends
+  pub said : (ends : Status) → (IsTrue (is_report ends) → Reported asked bytes ends before now) → (IsTrue (is_refused ends) → RefusedFor asked.guess bytes ends lines line) → (ends ≡ status.Write → A ⊎ B) → (A → ⊥) → (B → ⊥) → (ends ≢ status.Usage) × (ends ≢ status.Read) → Said asked.guess bytes ends
   said status.Verified r f w a b o = let q = r refl in Spelled q.report.sound.report.program q.report.sound.report.spelled refl
   said status.Refuted r f w a b o = let q = r refl in Spelled q.report.sound.report.program q.report.sound.report.spelled refl
   said status.Unknown r f w a b o = let q = r refl in Spelled q.report.sound.report.program q.report.sound.report.spelled refl
@@ -104,7 +104,7 @@ module _ {A B : Type 0} (asked : Asked) (bytes : List ℕ) (before now lines lin
   said status.Memory r f w a b o = Short refl
 
 -- the same of a text that is refused without being read
-pub said_refusal : {A : Type 0} (bytes : List ℕ) (ends : Status) (lines line : Option (List ℕ)) → (IsTrue (is_refused ends) → RefusedFor bytes ends lines line) → IsTrue (is_refused ends) ⊎ ((ends ≡ status.Write) ⊎ (ends ≡ status.Memory)) → (ends ≡ status.Write → A) → (A → ⊥) → Said bytes ends
-said_refusal bytes ends lines line f (inl h) w a = let q = f h in Denied q.reason q.refused q.gives
-said_refusal bytes ends lines line f (inr (inl e)) w a = absurd (a (w e))
-said_refusal bytes ends lines line f (inr (inr e)) w a = Short e
+pub said_refusal : {A : Type 0} (guess : Bool) (bytes : List ℕ) (ends : Status) (lines line : Option (List ℕ)) → (IsTrue (is_refused ends) → RefusedFor guess bytes ends lines line) → IsTrue (is_refused ends) ⊎ ((ends ≡ status.Write) ⊎ (ends ≡ status.Memory)) → (ends ≡ status.Write → A) → (A → ⊥) → Said guess bytes ends
+said_refusal guess bytes ends lines line f (inl h) w a = let q = f h in Denied q.reason q.refused q.gives
+said_refusal guess bytes ends lines line f (inr (inl e)) w a = absurd (a (w e))
+said_refusal guess bytes ends lines line f (inr (inr e)) w a = Short e

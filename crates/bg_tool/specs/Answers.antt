@@ -18,7 +18,7 @@ use Rattle.bg_tool.specs.declared.status.Status.{Status}
 use Rattle.bg_tool.specs.declared.status.Status.TheVariants as status
 use Rattle.bg_tool.specs.Statuses.{refusal_status, is_report, is_refused}
 use Rattle.bg_tool.specs.Reports.{IsTrueText, MayWrite}
-use Rattle.bg_cli.specs.Cli.{IsTaken, files_in, nodes_in, most_rows_in, history_in}
+use Rattle.bg_cli.specs.Cli.{IsTaken, files_in, nodes_in, most_rows_in, guess_in, history_in}
 use Rattle.bg_tree.specs.declared.outcome.Budget.{Budget}
 
 -- what a search may use up, as the words say
@@ -27,7 +27,7 @@ budget_in words = record { nodes = nodes_in words; rows = most_rows_in words }
 
 -- what is asked of a report, as the words say
 abbrev pub asked_in : List (List ℕ) → Asked
-asked_in words = record { budget = budget_in words; history = history_in words }
+asked_in words = record { budget = budget_in words; guess = guess_in words; history = history_in words }
 
 -- a number of workers that may check
 abbrev pub AreSome : ℕ → Type 0
@@ -49,10 +49,10 @@ pub record IsTextFor (history : Bool) (p : Program) (o : houdini.Outcome) (text 
   pub none : history ≡ false → behind ≡ []
   pub all : history ≡ true → IsHistory why_of p o behind
 
--- the text is true of the program that the bytes spell; what its report tells is accounted for, and what stands behind the report, where
+-- the text is true of the program that the bytes spell, with its guesses where these are asked for; what its report tells is accounted for, and what stands behind the report, where
 -- it is asked for, is the history of the same outcome
 pub record IsReport (asked : Asked) (bytes : List ℕ) (ends : Status) (text : List ℕ) : Type 0 where
-  pub sound : IsTrueText asked.history bytes ends text
+  pub sound : IsTrueText asked.guess asked.history bytes ends text
   pub accounted : IsAccounted asked.budget sound.report.program sound.report.outcome
   pub all : asked.history ≡ true → IsHistory why_of sound.report.program accounted.inferred sound.behind
 
@@ -74,9 +74,9 @@ abbrev pub ReportedSome : Asked → List ℕ → Option (List ℕ) → Option (L
 ReportedSome asked bytes before now = (now ≡ before) ⊎ ReportedFront asked bytes before now
 
 -- the bytes are refused for a reason that gives the status, and its line was written, whole
-pub record RefusedFor (bytes : List ℕ) (ends : Status) (before now : Option (List ℕ)) : Type 0 where
+pub record RefusedFor (guess : Bool) (bytes : List ℕ) (ends : Status) (before now : Option (List ℕ)) : Type 0 where
   pub reason : Refusal
-  pub refused : IsRefusedBy bytes reason
+  pub refused : IsRefusedBy guess bytes reason
   pub gives : ends ≡ refusal_status reason
   pub written : now ≡ joined before (line_of reason)
 
@@ -92,10 +92,10 @@ abbrev pub WroteSome : Asked → Option (List ℕ → List ℕ) → List (List �
 WroteSome asked contents names before now = (now ≡ before) ⊎ WroteFrontOf asked contents names before now
 
 -- the text of these files is refused for a reason that gives the status, and its line was written, whole
-pub record Refuses (contents : Option (List ℕ → List ℕ)) (names : List (List ℕ)) (ends : Status) (before now : Option (List ℕ)) : Type 0 where
+pub record Refuses (guess : Bool) (contents : Option (List ℕ → List ℕ)) (names : List (List ℕ)) (ends : Status) (before now : Option (List ℕ)) : Type 0 where
   pub bytes : List ℕ
   pub read : IsTextOf contents names bytes
-  pub refused : RefusedFor bytes ends before now
+  pub refused : RefusedFor guess bytes ends before now
 
 -- the line that says how the words go
 abbrev pub usage_line : List ℕ
@@ -111,12 +111,12 @@ pub record NamesFile (names : List (List ℕ)) (starts started : Option ℕ) (be
 
 -- where no fault was counted, a text that is told: one that spells a program gives a report, one that is refused the status of
 -- the reason, and one that spells no program a status of refusals; unless memory ran out
-pub record Judges (contents : Option (List ℕ → List ℕ)) (names : List (List ℕ)) (ends : Status) : Type 0 where
-  pub program : (held : List ℕ → List ℕ) (p : Program) → contents ≡ Some held → IsProgramOf (joined_text held names) p → IsTrue (is_report ends) ⊎ (ends ≡ status.Memory)
-  pub refused : (held : List ℕ → List ℕ) (r : Refusal) → contents ≡ Some held → IsRefusedBy (joined_text held names) r → (ends ≡ refusal_status r) ⊎ (ends ≡ status.Memory)
-  pub none : (held : List ℕ → List ℕ) → contents ≡ Some held → ((p : Program) → IsProgramOf (joined_text held names) p → ⊥) → IsTrue (is_refused ends) ⊎ (ends ≡ status.Memory)
+pub record Judges (guess : Bool) (contents : Option (List ℕ → List ℕ)) (names : List (List ℕ)) (ends : Status) : Type 0 where
+  pub program : (held : List ℕ → List ℕ) (p : Program) → contents ≡ Some held → IsProgramOf guess (joined_text held names) p → IsTrue (is_report ends) ⊎ (ends ≡ status.Memory)
+  pub refused : (held : List ℕ → List ℕ) (r : Refusal) → contents ≡ Some held → IsRefusedBy guess (joined_text held names) r → (ends ≡ refusal_status r) ⊎ (ends ≡ status.Memory)
+  pub none : (held : List ℕ → List ℕ) → contents ≡ Some held → ((p : Program) → IsProgramOf guess (joined_text held names) p → ⊥) → IsTrue (is_refused ends) ⊎ (ends ≡ status.Memory)
 
 -- the same of the files that taken words name; words that aren't taken are refused
 pub record Completes (contents : Option (List ℕ → List ℕ)) (words : List (List ℕ)) (ends : Status) : Type 0 where
-  pub taken : IsTaken words → Judges contents (files_in words) ends
+  pub taken : IsTaken words → Judges (guess_in words) contents (files_in words) ends
   pub usage : (IsTaken words → ⊥) → (ends ≡ status.Usage) ⊎ (ends ≡ status.Memory)

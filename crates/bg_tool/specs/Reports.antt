@@ -7,11 +7,11 @@ use Rattle.bg_told.specs.Report.{result_text}
 use Rattle.bg_tool.specs.declared.status.Status.{Status}
 use Rattle.bg_tool.specs.Statuses.{number_of}
 
--- the text begins with a report that tells what is true of the program that the bytes spell, and the status is that of what it tells;
--- behind the report there is nothing where no history is asked for
-pub record IsTrueText (history : Bool) (bytes : List ℕ) (ends : Status) (text : List ℕ) : Type 0 where
+-- the text begins with a report that tells what is true of the program that the bytes spell, with its guesses where these are asked for,
+-- and the status is that of what it tells; behind the report there is nothing where no history is asked for
+pub record IsTrueText (guess history : Bool) (bytes : List ℕ) (ends : Status) (text : List ℕ) : Type 0 where
   pub front : List ℕ
-  pub report : IsTrueReport IsProgramOf result_text bytes front (number_of ends)
+  pub report : IsTrueReport (IsProgramOf guess) result_text bytes front (number_of ends)
   pub behind : List ℕ
   pub is : text ≡ front ++ behind
   pub none : history ≡ false → behind ≡ []

@@ -1,7 +1,7 @@
 //! The top call.
-ghost use Rattle.std.specs.Prelude.{◌≡◌, ◌⊎◌, ◌<◌, ◌≤◌, ℕ, true, List, ◌++◌, IsTrue, IfOk, map, string_bytes, codes, length, ◌≢◌};
+ghost use Rattle.std.specs.Prelude.{◌≡◌, ◌⊎◌, ◌<◌, ◌≤◌, ℕ, Bool, true, List, ◌++◌, IsTrue, IfOk, map, string_bytes, codes, length, ◌≢◌};
 ghost use Rattle.bg_io.specs.Causes.{Rose, joined, IsTextOf, IsTextOver};
-ghost use Rattle.bg_cli.specs.Cli.{IsTaken, texts_of, files_in, history_in};
+ghost use Rattle.bg_cli.specs.Cli.{IsTaken, texts_of, files_in, guess_in, history_in};
 ghost use Rattle.bg_ast.specs.Views.{program_of};
 ghost use Rattle.bg_ast.specs.Meaning.{meaning_of};
 ghost use Rattle.bg_sense.specs.Typed.{IsTyped};
@@ -66,7 +66,7 @@ fn report_of<R: Threads + Sync, G: Gate>(
     requires typed { IsTyped (meaning_of (program_of program.now)) }
     requires scalars { is_over_scalars true (meaning_of (program_of program.now)) ≡ true }
     requires resolved { IsResolved (meaning_of (program_of program.now)) }
-    ensures report { IfOk result (λ r. (bytes : List ℕ) → IsProgramOf bytes (program_of program.now) → IsReport how.now.asked bytes r.0 r.1.items) }
+    ensures report { IfOk result (λ r. (bytes : List ℕ) → IsProgramOf how.now.asked.guess bytes (program_of program.now) → IsReport how.now.asked bytes r.0 r.1.items) }
     ensures ends { IfOk result (λ r. IsTrue (is_report r.0)) }
 {
     let budget = how.asked.budget;
@@ -134,7 +134,7 @@ fn refuse_text<E: Sink>(alloc: Global, refusal: &Refusal<'_>, err: &mut E) -> St
 
 /// Refuses a text.
 fn refuse_bytes<E: Sink>(alloc: Global, refusal: &Refusal<'_>, err: &mut E) -> Status
-    ensures refused { IsTrue (is_refused result) → (bytes : List ℕ) → IsRefusedBy bytes (refusal_of refusal.now) → RefusedFor bytes result (E.written err.old) (E.written err.new) }
+    ensures refused { IsTrue (is_refused result) → (guess : Bool) (bytes : List ℕ) → IsRefusedBy guess bytes (refusal_of refusal.now) → RefusedFor guess bytes result (E.written err.old) (E.written err.new) }
     ensures ends { IsTrue (is_refused result) ⊎ ((result ≡ Status.Write) ⊎ (result ≡ Status.Memory)) }
     ensures quiet { result ≡ Status.Memory → E.written err.new ≡ E.written err.old }
     ensures cause { result ≡ Status.Write → Rose (E.faults err.old) (E.faults err.new) }
@@ -152,13 +152,13 @@ fn verify<R: Threads + Sync, G: Gate, S: Sink, E: Sink>(
     requires { AreSome how.now.workers }
     ensures report { IsTrue (is_report result) → Reported how.now.asked bytes.now result (S.written out.old) (S.written out.new) }
     ensures quiet { (IsTrue (is_report result) ⊎ (result ≡ Status.Memory)) → E.written err.new ≡ E.written err.old }
-    ensures refused { IsTrue (is_refused result) → RefusedFor bytes.now result (E.written err.old) (E.written err.new) }
+    ensures refused { IsTrue (is_refused result) → RefusedFor how.now.asked.guess bytes.now result (E.written err.old) (E.written err.new) }
     ensures still { IsTrue (is_refused result) → S.written out.new ≡ S.written out.old }
     ensures part { ((result ≡ Status.Write) ⊎ (result ≡ Status.Memory)) → ReportedSome how.now.asked bytes.now (S.written out.old) (S.written out.new) }
     ensures cause { result ≡ Status.Write → Rose (S.faults out.old) (S.faults out.new) ⊎ Rose (E.faults err.old) (E.faults err.new) }
     ensures others { (result ≢ Status.Usage) × (result ≢ Status.Read) }
 {
-    let typed = match read_program(how.alloc, bytes) {
+    let typed = match read_program(how.alloc, bytes, how.asked.guess) {
         Ok(typed) => typed,
         Err(TextError::Memory) => return Status::Memory,
         Err(TextError::Refused(refusal)) => return refuse_bytes(how.alloc, &refusal, err),
@@ -186,13 +186,13 @@ fn judge<R: Threads + Sync, G: Gate, F: Files, S: Sink, E: Sink>(
     requires { AreSome how.now.workers }
     ensures report { IsTrue (is_report result) → Wrote (IsReport how.now.asked) (F.contents files.old) (map string_bytes names.now) result (S.written out.old) (S.written out.new) }
     ensures quiet { (IsTrue (is_report result) ⊎ (result ≡ Status.Memory)) → E.written err.new ≡ E.written err.old }
-    ensures refused { IsTrue (is_refused result) → Refuses (F.contents files.old) (map string_bytes names.now) result (E.written err.old) (E.written err.new) }
+    ensures refused { IsTrue (is_refused result) → Refuses how.now.asked.guess (F.contents files.old) (map string_bytes names.now) result (E.written err.old) (E.written err.new) }
     ensures read { result ≡ Status.Read → Rose (F.faults files.old) (F.faults files.new) }
     ensures write { result ≡ Status.Write → Rose (S.faults out.old) (S.faults out.new) ⊎ Rose (E.faults err.old) (E.faults err.new) }
     ensures file { result ≡ Status.Read → NamesFile (map string_bytes names.now) (F.starts files.old) (F.starts files.new) (E.written err.old) (E.written err.new) }
     ensures still { IsTrue (is_refusal result) → S.written out.new ≡ S.written out.old }
     ensures prefix { ((result ≡ Status.Write) ⊎ (result ≡ Status.Memory)) → WroteSome how.now.asked (F.contents files.old) (map string_bytes names.now) (S.written out.old) (S.written out.new) }
-    ensures complete { (Rose (F.faults files.old) (F.faults files.new) → ⊥) → (Rose (S.faults out.old) (S.faults out.new) → ⊥) → (Rose (E.faults err.old) (E.faults err.new) → ⊥) → Judges (F.contents files.old) (map string_bytes names.now) result }
+    ensures complete { (Rose (F.faults files.old) (F.faults files.new) → ⊥) → (Rose (S.faults out.old) (S.faults out.new) → ⊥) → (Rose (E.faults err.old) (E.faults err.new) → ⊥) → Judges how.now.asked.guess (F.contents files.old) (map string_bytes names.now) result }
     ensures words { result ≢ Status.Usage }
 {
     a_text_has_one_program_or_one_refusal();
@@ -206,7 +206,7 @@ fn judge<R: Threads + Sync, G: Gate, F: Files, S: Sink, E: Sink>(
 
 /// What is asked, as the words say.
 fn asked_by(line: &Line<'_>) -> Asked
-    ensures { result ≡ record { budget = record { nodes = line.now.nodes; rows = line.now.rows }; history = line.now.history } }
+    ensures { result ≡ record { budget = record { nodes = line.now.nodes; rows = line.now.rows }; guess = line.now.guess; history = line.now.history } }
 {
     let budget = Budget {
         nodes: line.nodes,
@@ -214,6 +214,7 @@ fn asked_by(line: &Line<'_>) -> Asked
     };
     Asked {
         budget,
+        guess: line.guess,
         history: line.history,
     }
 }
@@ -234,7 +235,7 @@ fn names_of(alloc: Global, files: &[&str]) -> Result<Vec<String>, AllocError>
 /// execution of any implementation fails (`bg_sound`'s law `status_zero_is_safe`); two reports of one program agree where they should
 /// (`greatest_sets_agree`, `settled_words_agree`); and its bytes decide what it tells of sets and implementations (`bg_told`'s laws).
 /// The first word is the program's own name. As many workers as the words say check places of candidates in threads, and pass the gate
-/// before each check. Where the history is asked for, it stands behind the report.
+/// before each check. Where guesses are asked for, the program is judged with them. Where the history is asked for, it stands behind the report.
 pub fn run<R: AllocGlobal + Threads + Sync, F: Files, S: Sink, E: Sink, G: Gate>(
     rt: &R,
     words: &[String],
@@ -244,10 +245,10 @@ pub fn run<R: AllocGlobal + Threads + Sync, F: Files, S: Sink, E: Sink, G: Gate>
     gate: &G,
 ) -> Status
     ensures taken { (IsTrue (is_report result) ⊎ (IsTrue (is_refused result) ⊎ (result ≡ Status.Read))) → IsTaken (texts_of words.now) }
-    ensures sound { IsTrue (is_report result) → Wrote (IsTrueText (history_in (texts_of words.now))) (F.contents files.old) (files_in (texts_of words.now)) result (S.written out.old) (S.written out.new) }
+    ensures sound { IsTrue (is_report result) → Wrote (IsTrueText (guess_in (texts_of words.now)) (history_in (texts_of words.now))) (F.contents files.old) (files_in (texts_of words.now)) result (S.written out.old) (S.written out.new) }
     ensures report { IsTrue (is_report result) → Wrote (IsReport (asked_in (texts_of words.now))) (F.contents files.old) (files_in (texts_of words.now)) result (S.written out.old) (S.written out.new) }
     ensures quiet { (IsTrue (is_report result) ⊎ (result ≡ Status.Memory)) → E.written err.new ≡ E.written err.old }
-    ensures text { IsTrue (is_refused result) → Refuses (F.contents files.old) (files_in (texts_of words.now)) result (E.written err.old) (E.written err.new) }
+    ensures text { IsTrue (is_refused result) → Refuses (guess_in (texts_of words.now)) (F.contents files.old) (files_in (texts_of words.now)) result (E.written err.old) (E.written err.new) }
     ensures usage { result ≡ Status.Usage → IsTaken (texts_of words.now) → ⊥ }
     ensures read { result ≡ Status.Read → Rose (F.faults files.old) (F.faults files.new) }
     ensures write { result ≡ Status.Write → Rose (S.faults out.old) (S.faults out.new) ⊎ Rose (E.faults err.old) (E.faults err.new) }

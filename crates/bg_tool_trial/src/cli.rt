@@ -10,7 +10,7 @@ type Case = (
     Option<(&'static str, u32, u32, u32)>,
 );
 
-const WORDS: [Case; 23] = [
+const WORDS: [Case; 25] = [
     (
         &["bg", "verify", "a.bpl"],
         Some(("a.bpl", 4, 20_000, 20_000)),
@@ -43,6 +43,11 @@ const WORDS: [Case; 23] = [
         &["bg", "verify", "--workers", "16", "a"],
         Some(("a", 16, 20_000, 20_000)),
     ),
+    (
+        &["bg", "verify", "--guess", "--history", "a"],
+        Some(("a", 4, 20_000, 20_000)),
+    ),
+    (&["bg", "verify", "--guess", "--guess", "a"], None),
     (&["bg", "verify", "--workers", "17", "a"], None),
     (&["bg", "verify", "--workers", "0", "a"], None),
     (&["bg", "verify", "--rows", "1000001", "a"], None),
@@ -81,20 +86,29 @@ fn words_are_taken_or_not(rt: HostRuntime) -> Result<(), Fail> {
     Ok(())
 }
 
-/// Whether these words are taken and ask for the history, or don't.
-fn asks(alloc: Global, texts: &[&str], history: bool) -> Result<bool, AllocError> {
+/// Whether these words are taken and ask for guesses and for the history, or don't.
+fn asks(alloc: Global, texts: &[&str], guess: bool, history: bool) -> Result<bool, AllocError> {
     match read_line(alloc, &words(alloc, texts)?) {
-        Ok(line) => Ok(line.history == history),
+        Ok(line) => Ok(line.guess == guess && line.history == history),
         Err(_) => Ok(false),
     }
 }
 
 #[test]
-fn a_flag_asks_for_the_history(rt: HostRuntime) -> Result<(), Fail> {
+fn flags_ask_for_guesses_and_for_the_history(rt: HostRuntime) -> Result<(), Fail> {
     let alloc = rt.alloc();
-    assert!(rt; asks(alloc, &["bg", "verify", "--history", "a"], true)?);
-    assert!(rt; asks(alloc, &["bg", "verify", "a", "--history", "b"], true)?);
-    assert!(rt; asks(alloc, &["bg", "verify", "a"], false)?);
-    assert!(rt; !asks(alloc, &["bg", "verify", "--history=true", "a"], true)?);
+    assert!(rt; asks(alloc, &["bg", "verify", "--history", "a"], false, true)?);
+    assert!(rt; asks(alloc, &["bg", "verify", "a", "--history", "b"], false, true)?);
+    assert!(rt; asks(alloc, &["bg", "verify", "a", "--guess"], true, false)?);
+    assert!(rt;
+        asks(
+            alloc,
+            &["bg", "verify", "--history", "--guess", "a"],
+            true,
+            true
+        )?
+    );
+    assert!(rt; asks(alloc, &["bg", "verify", "a"], false, false)?);
+    assert!(rt; !asks(alloc, &["bg", "verify", "--history=true", "a"], false, true)?);
     Ok(())
 }

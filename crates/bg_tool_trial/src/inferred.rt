@@ -66,7 +66,30 @@ retained set: greatest\n\
 implementation C 3:1 verified\n\
 summary: 1 retained, 0 dropped; 1 verified, 0 refuted, 0 unknown\n";
 
-/// What stands behind that report with `--history`.
+/// The same without candidates, and so without an invariant of its own.
+const BARE: &str = "procedure Count(n: int) returns (i: int)\n\
+\x20 requires 0 <= n;\n\
+\x20 ensures i == n;\n\
+{\n\
+\x20 i := 0;\n\
+\x20 while (i < n)\n\
+\x20 { i := i + 1; }\n\
+}\n";
+
+const BARE_REPORT: &str = "axioms: consistent\n\
+candidate guess:1 retained\n\
+candidate guess:2 retained\n\
+candidate guess:3 retained\n\
+candidate guess:4 retained\n\
+candidate guess:5 retained\n\
+candidate guess:6 retained\n\
+candidate guess:7 dropped\n\
+candidate guess:8 retained\n\
+retained set: greatest\n\
+implementation Count 1:1 verified\n\
+summary: 7 retained, 1 dropped; 1 verified, 0 refuted, 0 unknown\n";
+
+/// What stands behind the report of `COUNT` with `--history`.
 const COUNT_HISTORY: &str = "history:\n\
 drop 0 b1 in Count 4:1 at invariant entry 11:5: refuted\n\
 \x20 snapshot b0 b1 b2\n\
@@ -116,6 +139,15 @@ fn a_candidate_goes_for_a_budget_or_has_no_place(rt: HostRuntime) -> Result<(), 
     assert!(rt; tells(&rt, ["--nodes", "1"], ONE_NODE, &FreeGate, unknown)?);
     let verified = (Status::Verified, UNCHECKED_REPORT);
     assert!(rt; tells(&rt, ["--workers", "3"], UNCHECKED, &FreeGate, verified)?);
+    Ok(())
+}
+
+#[test]
+fn guesses_find_what_a_loop_keeps(rt: HostRuntime) -> Result<(), Fail> {
+    let verified = (Status::Verified, BARE_REPORT);
+    for workers in ["--workers=1", "--workers=3"] {
+        assert!(rt; tells(&rt, [workers, "--guess"], BARE, &FreeGate, verified)?);
+    }
     Ok(())
 }
 

@@ -21,7 +21,7 @@ pub fn judged_program(alloc: Global, text: &str) -> Option<Typed>
     programs_are_typed();
     programs_are_resolved();
     judged_programs_are_over_scalars();
-    match read_program(alloc, text.as_bytes()) {
+    match read_program(alloc, text.as_bytes(), false) {
         Ok(typed) => Some(typed),
         Err(_) => None,
     }

@@ -1,4 +1,5 @@
+use Rattle.bg_front.proofs.TypedPrograms.{program_typed}
 use Rattle.bg_front.proofs.laws.programs_are_typed.Goals as goal
 
 pub returns : goal.returns
-returns c bytes p h = (h.typed.typed, h.spelled.meant.no_recursion)
+returns c = program_typed c.programs_are_resolved.ensures c.guesses_are_typed.ensures

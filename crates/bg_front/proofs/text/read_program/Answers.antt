@@ -1,4 +1,4 @@
-use Rattle.std.proofs.Common.{sym, subst}
+use Rattle.std.proofs.Common.{rules, sym, subst}
 use Rattle.bg_text.specs.Tokens.{views}
 use Rattle.bg_text.specs.Views.{decls_of}
 use Rattle.bg_ast.specs.Views.{program_of}
@@ -25,3 +25,12 @@ judged-requires-clause-meant c =
     (subst (λ ds. IsMeaningFrom bytes (views c.in_ok-read.read.tokens.items) (decls_of ds) p) (sym c.deref-6.ensures.value)
     (subst (λ ts. IsMeaningFrom bytes (views ts) (decls_of c.in_ok-read.read.tree.decls.items) p) c.deref-3.ensures.value
     (subst (λ ds. IsMeaningFrom bytes (views c.deref-3.result.now) (decls_of ds) p) c.deref-4.ensures.value c.in_ok-typed.ensures.meant)))
+
+pub returns-in_err-read-clause-refused : goal.returns-in_err-read-clause-refused
+returns-in_err-read-clause-refused c = let why = c.in_err-read.ensures.refused c.args.guess in search (rules, why)
+
+pub returns-in_err-program-clause-refused : goal.returns-in_err-program-clause-refused
+returns-in_err-program-clause-refused c = let why = c.in_err-program.ensures.refused c.args.guess in search (rules, why)
+
+pub returns-in_err-typed-clause-refused : goal.returns-in_err-typed-clause-refused
+returns-in_err-typed-clause-refused c = let why = c.in_err-typed.ensures.refused c.args.guess in search (rules, why)

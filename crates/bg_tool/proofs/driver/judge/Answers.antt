@@ -14,7 +14,7 @@ returns-in-Err-TooLong-clause-refused g c = λ is.
     let names : List (List ℕ) = map string_bytes c.args.names.now in
     let over : IsTextOver contents names MOST_BYTES = subst (λ (e : ReadError). IfTooLong {T = Vec ℕ Global} (Err e) (λ _. IsTextOver contents names MOST_BYTES)) c.in-Err-TooLong.field-0-is c.in-Err-TooLong.ensures.longer in
     let long = long_text contents names MOST_BYTES over in
-    record { bytes = long.0; read = long.1.0; refused = c.refuse_bytes.ensures.refused is long.0 long.1.1 }
+    record { bytes = long.0; read = long.1.0; refused = c.refuse_bytes.ensures.refused is c.args.how.now.asked.guess long.0 long.1.1 }
 
 pub returns-in-Err-TooLong-clause-complete : goal.returns-in-Err-TooLong-clause-complete
 returns-in-Err-TooLong-clause-complete g c = λ quiet_files quiet_out quiet_err.
@@ -23,8 +23,8 @@ returns-in-Err-TooLong-clause-complete g c = λ quiet_files quiet_out quiet_err.
     let over : IsTextOver contents names MOST_BYTES = subst (λ (e : ReadError). IfTooLong {T = Vec ℕ Global} (Err e) (λ _. IsTextOver contents names MOST_BYTES)) c.in-Err-TooLong.field-0-is c.in-Err-TooLong.ensures.longer in
     let long = long_text contents names MOST_BYTES over in
     let known : Known = record { both = c.a_text_has_one_program_or_one_refusal.ensures.both; refusal = c.a_text_has_one_program_or_one_refusal.ensures.refusal } in
-    judges known contents names long.0 c.refuse_bytes.result long.1.0
-    (said_refusal long.0 c.refuse_bytes.result _ _ (λ is. c.refuse_bytes.ensures.refused is long.0 long.1.1) c.refuse_bytes.ensures.ends c.refuse_bytes.ensures.cause quiet_err)
+    judges known c.args.how.now.asked.guess contents names long.0 c.refuse_bytes.result long.1.0
+    (said_refusal c.args.how.now.asked.guess long.0 c.refuse_bytes.result _ _ (λ is. c.refuse_bytes.ensures.refused is c.args.how.now.asked.guess long.0 long.1.1) c.refuse_bytes.ensures.ends c.refuse_bytes.ensures.cause quiet_err)
 
 pub returns-in-Ok-clause-prefix : goal.returns-in-Ok-clause-prefix
 returns-in-Ok-clause-prefix g c = λ is.
@@ -36,5 +36,5 @@ returns-in-Ok-clause-complete g c = λ quiet_files quiet_out quiet_err.
     let known : Known = record { both = c.a_text_has_one_program_or_one_refusal.ensures.both; refusal = c.a_text_has_one_program_or_one_refusal.ensures.refusal } in
     let report = rw c.deref.ensures.value at c.verify.ensures.report in
     let refused = rw c.deref.ensures.value at c.verify.ensures.refused in
-    judges known (g.F.Files.contents c.args.files.now) (map string_bytes c.args.names.now) c.in-Ok.bytes.items c.verify.result c.in-Ok.ensures.text
+    judges known c.args.how.now.asked.guess (g.F.Files.contents c.args.files.now) (map string_bytes c.args.names.now) c.in-Ok.bytes.items c.verify.result c.in-Ok.ensures.text
     (said c.args.how.now.asked c.in-Ok.bytes.items _ _ _ _ c.verify.result report refused c.verify.ensures.cause quiet_out quiet_err c.verify.ensures.others)
