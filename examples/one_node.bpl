@@ -1,4 +1,5 @@
-// With --nodes 1 the candidate is dropped because its check ends unknown, and the retained set is called inductive.
+// --nodes 1
+// One node is too few for the first assertion, so its candidate is dropped unknown, and the retained set is called inductive.
 const {:existential true} c: bool;
 
 procedure P(a: bool, b: bool)

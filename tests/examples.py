@@ -3,8 +3,8 @@
 
 usage: examples.py --bg COMMAND
 
-A text that begins with `error: ` is expected on the error stream, with status 3; any other one on the output, with the status that
-its lines tell. The last line is `N passed, M failed`.
+A program's first line may name options: `// --guess` and the like. A text that begins with `error: ` is expected on the error stream,
+with status 3; any other one on the output, with the status that its lines tell. The last line is `N passed, M failed`.
 """
 import argparse
 import glob
@@ -25,6 +25,13 @@ def wanted(text):
     return text, b"", 1 if b"refuted" in said else 2 if b"unknown" in said else 0
 
 
+def words_of(source):
+    """Returns the options that the program's first line names."""
+    with open(source, encoding="latin-1") as file:
+        words = file.readline().split()
+    return words[1:] if words[:1] == ["//"] and all(word.startswith("--") or word.isdigit() for word in words[1:]) else []
+
+
 def main():
     parser = argparse.ArgumentParser(description=__doc__.split("\n", maxsplit=1)[0])
     parser.add_argument("--bg", required=True)
@@ -35,7 +42,7 @@ def main():
     for source in sorted(glob.glob(os.path.join(TOP, "examples", "*.bpl"))):
         with open(source[: -len("bpl")] + "expected", "rb") as file:
             out, err, status = wanted(file.read())
-        ran = subprocess.run([*shlex.split(args.bg), "verify", source], capture_output=True, timeout=600)
+        ran = subprocess.run([*shlex.split(args.bg), "verify", *words_of(source), source], capture_output=True, timeout=600)
         if (ran.stdout, ran.stderr, ran.returncode) == (out, err, status):
             passed += 1
             continue
