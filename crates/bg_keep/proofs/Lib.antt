@@ -1,0 +1,4 @@
+pub mod Rows
+pub mod Forms
+pub mod Turns
+pub mod Agree
