@@ -1,6 +1,6 @@
 -- Clauses without their first operands, at the lists that the code meets.
-use Rattle.std.proofs.Common.{◌≡◌, ℕ, zero, suc, ◌<◌, List, [], ◌∷◌, drop, length, map, refl, ap, sym, ◌∙◌, arith, Vec, Box, Global}
-use Rattle.std.specs.Prelude.{get_or, remove}
+use Rattle.std.proofs.Common.{◌≡◌, ℕ, zero, suc, ◌<◌, List, [], ◌∷◌, drop, length, map, refl, ap, sym, ◌∙◌, arith, Vec, Box, Global, Bool, false, Option, Some}
+use Rattle.std.specs.Prelude.{if◌then◌else◌, get_or, remove}
 use Rattle.bg_text.specs.declared.expr.TreeExpr.{TreeExpr}
 use Rattle.bg_text.specs.declared.expr.TreeExpr.TheVariants as expr
 use Rattle.bg_text.specs.declared.expr.TreeLink.{TreeLink}
@@ -21,7 +21,9 @@ use Rattle.bg_text.specs.declared.tree.TreeClause.{TreeClause}
 use Rattle.bg_text.specs.declared.tree.TreeGuard.{TreeGuard}
 use Rattle.bg_text.specs.declared.tree.TreeStmt.{TreeStmt}
 use Rattle.bg_text.specs.declared.tree.TreeStmt.TheVariants as stmt
-use Rattle.bg_words.specs.Sets.{Numbers}
+use Rattle.bg_base.specs.declared.ids.CandId.{CandId}
+use Rattle.bg_words.specs.Sets.{Numbers, has}
+use Rattle.bg_keep.specs.Kept.{saying}
 use Rattle.bg_ast.specs.Resolved as r
 use Rattle.bg_names.specs.Clauses.{chain_of}
 use Rattle.bg_names.proofs.Forms.{both}
@@ -29,12 +31,17 @@ use Rattle.bg_ast.specs.declared.resolved.Procedure.{Procedure}
 use Rattle.bg_ast.specs.declared.resolved.Implementation.{Implementation}
 use Rattle.bg_keep.proofs.Rows.{drop_map}
 use Rattle.bg_names.proofs.Firsts.{drop_item}
-use Rattle.bg_keep.specs.Told.{behind_first, first_body, first_requires, first_ensures, first_block, first_candidate, arms_in, block_in, invariants_in, told_st, told_sts, told_arms, told_clauses}
+use Rattle.bg_keep.specs.Told.{told_clause, right_side, behind_first, first_body, first_requires, first_ensures, first_block, first_candidate, arms_in, block_in, invariants_in, told_st, told_sts, told_arms, told_clauses}
 
 pub candidate_there : (cs : List Clause) (i : ℕ) (k : Clause) → i < length cs → k ≡ get_or cs i k → option_of u.candidate_of k.candidate ≡ first_candidate (drop i (map u.clause_of cs))
 candidate_there [] i k lt at = absurd (omega (arith, lt))
 candidate_there (c ∷ cs) zero k lt at = ap (λ (x : Clause). option_of u.candidate_of x.candidate) at
 candidate_there (c ∷ cs) (suc i) k lt at = candidate_there cs i k (omega (arith, lt)) at
+
+-- nothing is left of a clause whose candidate isn't in the set
+pub left_out : (set : Numbers) (o : Option CandId) (c : CandId) (b : Bool) (k : t.Clause) → o ≡ Some c → b ≡ has set c.0 → b ≡ false → [] ≡ told_clause set (option_of u.candidate_of o) k
+left_out set o c b k is h out =
+    sym (ap (λ x. told_clause set (option_of u.candidate_of x) k) is ∙ ap (λ x. if x then saying (right_side k.says) k ∷ [] else []) (sym h ∙ out))
 
 with_links : (x : t.Ex) (ls : List TreeLink) → 0 < length ls → t.Chain x (v.links_of (map v.link_view ls)) ≡ chain_of x (v.links_of (map v.link_view ls))
 with_links x [] some = absurd (omega (arith, some))

@@ -2,3 +2,4 @@ pub mod Rows
 pub mod Forms
 pub mod Turns
 pub mod Agree
+pub mod Gone

@@ -3,6 +3,7 @@
 #![tactic(auto)]
 
 mod clauses;
+pub mod laws;
 mod parts;
 mod program;
 mod stmts;
