@@ -6,6 +6,8 @@ mod expr;
 #[cfg(test)]
 mod front;
 #[cfg(test)]
+mod keep;
+#[cfg(test)]
 mod lex;
 #[cfg(test)]
 mod line;
