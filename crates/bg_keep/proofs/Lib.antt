@@ -1,0 +1,5 @@
+pub mod Rows
+pub mod Forms
+pub mod Turns
+pub mod Agree
+pub mod Gone
