@@ -8,6 +8,8 @@ mod front;
 #[cfg(test)]
 mod guesses;
 #[cfg(test)]
+mod keep;
+#[cfg(test)]
 mod lex;
 #[cfg(test)]
 mod line;
