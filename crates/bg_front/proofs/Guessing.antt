@@ -1,12 +1,13 @@
 -- A program with its guesses, where these are asked for, is what it was in all else.
-use Rattle.std.proofs.Common.{◌≡◌, ◌+◌, ◌-◌, ◌^◌, ℕ, zero, suc, min, Bool, true, false, List, [], ◌∷◌, length, refl, sym, ap, ◌∙◌, arith}
+use Rattle.std.proofs.Common.{◌≡◌, ◌+◌, ◌-◌, ◌^◌, ℕ, suc, min, Bool, true, false, List, [], ◌∷◌, length, refl, sym, ap, ◌∙◌, arith}
 use Rattle.std.proofs.lemmas.List.{length-append}
 use Rattle.bg_ast.specs.Resolved as r
 use Rattle.bg_ast.specs.Meaning.{meaning_of}
 use Rattle.bg_sense.specs.Typed.{IsTyped}
 use Rattle.bg_sense.specs.Resolved.{IsResolved}
 use Rattle.bg_sense.specs.Recursion.{HasNoRecursion}
-use Rattle.bg_guess.specs.Guessed.{Survey, guessed_impls, add_at, impl_count, above_all, loop_starts, loop_counts, survey_of, guess_name, guess_names, guess_count, guessed}
+use Rattle.bg_guess.proofs.ResolvedWhole.{names_long}
+use Rattle.bg_guess.specs.Guessed.{Survey, guessed_impls, add_at, impl_count, above_all, loop_starts, loop_counts, survey_of, guess_names, guess_count, guessed}
 use Rattle.bg_front.specs.Programs.{candidate_count, count_limit, too_many, with_guesses}
 
 impls_long : (v : Survey) (qs : List r.Proc) (above : ℕ) (ns : List ℕ) (ms : List r.Impl) → length (guessed_impls v qs above ns ms) ≡ length ms
@@ -18,10 +19,6 @@ implementations_long false p = refl
 implementations_long true p =
     let v = survey_of p in
     impls_long v p.procedures (above_all p.procedures p.implementations) (loop_starts v (loop_counts v p.procedures p.implementations) (length p.candidates) 0 p.procedures) p.implementations
-
-names_long : (n : ℕ) → length (guess_names n) ≡ n
-names_long zero = refl
-names_long (suc n) = let h = names_long n in let k = length-append (guess_names n) (guess_name (suc n) ∷ []) in omega (arith, h, k)
 
 -- the guesses are counted
 pub candidates_long : (p : r.Program) → length (guessed p).candidates ≡ length p.candidates + guess_count p

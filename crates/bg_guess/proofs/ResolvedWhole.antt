@@ -24,7 +24,7 @@ pub starts_long : (v : Survey) (loops : List ℕ) (b k : ℕ) (qs : List r.Proc)
 starts_long v loops b k [] = refl
 starts_long v loops b k (q ∷ qs) = ap suc (starts_long v loops (next_proc v loops b k q) (suc k) qs)
 
-names_long : (n : ℕ) → length (guess_names n) ≡ n
+pub names_long : (n : ℕ) → length (guess_names n) ≡ n
 names_long zero = refl
 names_long (suc n) = let h = names_long n in let k = length-append (guess_names n) (guess_name (suc n) ∷ []) in omega (arith, h, k)
 
