@@ -1,4 +1,4 @@
-//! Blocks of forms of the passive blocks of an implementation, over truth incarnations, candidates and rows of relations.
+//! Blocks of forms of the passive blocks of an implementation, over truth incarnations and rows of relations.
 //!
 //! An expression over incarnations is first made one over atoms, in which a relation of numbers is an expression over the atoms of its
 //! rows; of that the form is made.

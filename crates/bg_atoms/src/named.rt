@@ -9,8 +9,8 @@ use bg_base::Pos;
 use bg_linear::Sort;
 use std::alloc::{AllocError, Global};
 
-/// The sorts of incarnations, for each the number of truth incarnations before it, and the first atom that is neither one of a truth
-/// incarnation nor of a candidate.
+/// The sorts of incarnations, for each the number of truth incarnations before it, and the atom from which on rows stand, behind those of
+/// truth incarnations.
 #[derive(Drop)]
 pub struct Names {
     pub sorts: Vec<Sort>,

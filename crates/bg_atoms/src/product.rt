@@ -3,8 +3,8 @@
 use bg_formed::FormBlock;
 use bg_formula::Linear;
 
-/// Blocks of forms with what their atoms are: atom j below `first` is the truth incarnation of rank j, behind these stand the
-/// candidates, and then the rows, which name incarnations as terms. There are `terms` incarnations.
+/// Blocks of forms with what their atoms are: atom j below `first` is the truth incarnation of rank j, and behind these stand the rows,
+/// which name incarnations as terms. There are `terms` incarnations.
 #[derive(Drop)]
 pub struct Atoms {
     pub first: u32,

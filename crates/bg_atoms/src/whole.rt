@@ -1,5 +1,5 @@
 //! From the passive blocks of an implementation to blocks of forms with their rows.
-ghost use Rattle.std.specs.Prelude.{◌≡◌, ℕ, ◌+◌, ℤ, Bool, true, map, length, is_some, IfOk, IfSome};
+ghost use Rattle.std.specs.Prelude.{◌≡◌, ℕ, ◌+◌, nat_lt, ℤ, Bool, true, map, length, is_some, IfOk, IfSome};
 ghost use Rattle.bg_incarnate.specs.Views.{passive_block_of};
 ghost use Rattle.bg_sense.specs.Eval.{Scope};
 ghost use Rattle.bg_formula.specs.Atoms.{view_linear};
@@ -18,7 +18,7 @@ ghost use Rattle.bg_atoms.specs.Sources.{AreFrom};
 ghost use Rattle.bg_atoms.specs.Sorted.{blocks_sorted};
 
 use crate::blocks::blocks_told;
-use crate::named::{Names, sum, truths};
+use crate::named::{Names, truths};
 use crate::product::Atoms;
 use crate::sorted::blocks_sorted;
 use crate::table::Table;
@@ -54,21 +54,20 @@ pub fn atoms(
     ensures none { IfOk result (λ made. is_some made ≡ blocks_sorted sorts.now candidates (map passive_block_of blocks.now)) }
     ensures first { IfOk result (λ made. IfSome made (λ a. a.first ≡ truths sorts.now)) }
     ensures terms { IfOk result (λ made. IfSome made (λ a. a.terms ≡ length sorts.now)) }
-    ensures said { IfOk result (λ made. IfSome made (λ a. (numbers : ℕ → ℤ) (truth : ℕ → Bool) (c : Scope) → RowsAgree numbers truth (a.first + candidates) (rows_in a.rows) → HoldScalars sorts.now numbers (λ j. truth (rank sorts.now j)) c.frame → SaidBlocks truth c (map passive_block_of blocks.now) (blocks_of a.blocks))) }
-    ensures below { IfOk result (λ made. IfSome made (λ a. blocks_below (a.first + candidates + length (rows_in a.rows)) candidates (blocks_of a.blocks) ≡ true)) }
+    ensures said { IfOk result (λ made. IfSome made (λ a. (numbers : ℕ → ℤ) (truth : ℕ → Bool) (c : Scope) → RowsAgree numbers truth a.first (rows_in a.rows) → HoldScalars sorts.now numbers (λ j. truth (rank sorts.now j)) c.frame → SaidBlocks truth c (map passive_block_of blocks.now) (blocks_of a.blocks))) }
+    ensures below { IfOk result (λ made. IfSome made (λ a. blocks_below (a.first + length (rows_in a.rows)) (λ b. nat_lt b candidates) (blocks_of a.blocks) ≡ true)) }
     ensures rows { IfOk result (λ made. IfSome made (λ a. AreRows (rows_in a.rows))) }
     ensures denials { IfOk result (λ made. IfSome made (λ a. AtomsAgree (rows_in a.rows))) }
     ensures inside { IfOk result (λ made. IfSome made (λ a. rows_below a.terms (rows_in a.rows) ≡ true)) }
     ensures sources { IfOk result (λ made. IfSome made (λ a. AreFrom sorts.now (map passive_block_of blocks.now) (rows_in a.rows))) }
-    ensures exact { IfOk result (λ made. IfSome made (λ a. blocks_of a.blocks ≡ blocks_over sorts.now (a.first + candidates) (rows_in a.rows) (map passive_block_of blocks.now))) }
+    ensures exact { IfOk result (λ made. IfSome made (λ a. blocks_of a.blocks ≡ blocks_over sorts.now a.first (rows_in a.rows) (map passive_block_of blocks.now))) }
     ensures apart { IfOk result (λ made. IfSome made (λ a. are_apart (rows_in a.rows) ≡ true)) }
 {
     if !blocks_sorted(sorts, candidates, blocks) {
         return Ok(None);
     }
     let first = truths(sorts)?;
-    let base = sum(first, candidates)?;
-    let names = Names::new(alloc, sorts, base)?;
+    let names = Names::new(alloc, sorts, first)?;
     let mut table = Table::new(alloc);
     let made = blocks_told(alloc, &mut table, &names, blocks)?;
     let rows = table.into_rows();

@@ -1,8 +1,7 @@
 -- What the equations of forms deny under truth values of the candidates they deny under a smaller set that has the target's candidate.
-use Rattle.std.proofs.Common.{◌≡◌, ℕ, zero, suc, ◌<◌, Bool, true, false, if◌then◌else◌, List, [], ◌∷◌, Option, Some, None, refl, sym, ap, ◌∙◌, subst}
+use Rattle.std.proofs.Common.{◌≡◌, ℕ, zero, suc, Bool, true, false, if◌then◌else◌, List, [], ◌∷◌, Option, Some, None, Ok, Err, refl, sym, ap, ◌∙◌, subst}
 use Rattle.std.specs.Prelude.{◌&&◌, ◌||◌, not, slice_get, Contains}
-use Rattle.std.proofs.lemmas.Bool.{ltb-true}
-use Rattle.bg_ast.specs.Syntax.{Prog}
+use Rattle.bg_ast.specs.Syntax.{Ex, Prog}
 use Rattle.bg_ast.specs.Execution.{Spot, Place}
 use Rattle.bg_sense.specs.Eval.{Scope}
 use Rattle.bg_sense.specs.Clauses.{is_kept}
@@ -12,8 +11,8 @@ use Rattle.bg_passive.specs.Passive.{PassiveCmd, Claims, Supposes, Edge, Passive
 use Rattle.bg_passive.specs.Equations.{is_well}
 use Rattle.bg_passive.proofs.Renaming.{spot_true}
 use Rattle.bg_forms.specs.Forms.{form_true}
-use Rattle.bg_formed.specs.Formed.{Says, FormCmd, Asks, Takes, FormEdge, FormBlock, said, form_below, fits_candidate, cmds_below, edges_below, blocks_below}
-use Rattle.bg_formed.specs.Said.{SaidCmds, SaidEdges, SaidBlocks}
+use Rattle.bg_formed.specs.Formed.{Says, FormCmd, Asks, Takes, FormEdge, FormBlock, said, form_below, is_of, cmds_below, edges_below, blocks_below}
+use Rattle.bg_formed.specs.Said.{IsSaid, SaidCmds, SaidEdges, SaidBlocks}
 use Rattle.bg_formed.specs.Wells.{is_met, form_equation, all_form_well, form_equations}
 use Rattle.bg_faithful.specs.Checks.{CmdsPlaced, EdgesPlaced, BlocksPlaced}
 
@@ -34,6 +33,12 @@ KeptBlocks set t (b ∷ bs) = (KeptCmds set t b.cmds × KeptEdges set t b.next) 
 -- ---- the checks of forms are at places
 
 module _ (p : Prog) (set : ℕ → Bool) (t : Spot) (w : ℕ → Bool) (c : Scope) (kept : (u : Place) → Contains (places p) u → u.spot ≡ t → is_kept set u.candidate ≡ true) where
+  -- the candidate of a form is the same, or none
+  its_kept : (b d : Option ℕ) (e : Ex) (r : Says) → IsSaid w c b e d r → is_kept set b ≡ true → is_kept set d ≡ true
+  its_kept b d e (Ok f) h k = subst (λ x. is_kept set x ≡ true) h.0 k
+  its_kept b None e (Err x) h k = refl
+  its_kept b (Some d) e (Err x) h k = subst (λ y. is_kept set y ≡ true) h k
+
   cmds_kept : (ks : List PassiveCmd) (ls : List FormCmd) → SaidCmds w c ks ls → CmdsPlaced p ks → KeptCmds set t ls
   cmds_kept [] [] h g = tt
   cmds_kept [] (l ∷ ls) h g = absurd h
@@ -43,7 +48,7 @@ module _ (p : Prog) (set : ℕ → Bool) (t : Spot) (w : ℕ → Bool) (c : Scop
       none (Claims s b e) z = z
       none (Supposes b e) z = z
   cmds_kept (Claims s b e ∷ ks) (Asks a d r ∷ ls) h g =
-      ((λ same. subst (λ x. is_kept set x ≡ true) (g.0.1.1.1 ∙ h.0.1.0) (kept g.0.0 g.0.1.0 (g.0.1.1.0 ∙ (h.0.0 ∙ same)))), cmds_kept ks ls h.1 g.1)
+      ((λ same. its_kept b d e r h.0.1 (subst (λ x. is_kept set x ≡ true) g.0.1.1.1 (kept g.0.0 g.0.1.0 (g.0.1.1.0 ∙ (h.0.0 ∙ same))))), cmds_kept ks ls h.1 g.1)
   cmds_kept (Claims s b e ∷ ks) (Takes d r ∷ ls) h g = absurd h
   cmds_kept (Supposes b e ∷ ks) (Asks a d r ∷ ls) h g = absurd h
   cmds_kept (Supposes b e ∷ ks) (Takes d r ∷ ls) h g = cmds_kept ks ls h.1 g
@@ -74,16 +79,16 @@ one_denies true met rest met' rest' more less same h = both_deny met rest met' r
 one_denies false true rest met' rest' more less same h = ap (λ z. not z || rest') (more refl) ∙ less h
 one_denies false false rest met' rest' more less same h = absurd (let bad : ⊥ = cc in bad)
 
-module _ (n m : ℕ) (set other : ℕ → Bool) (part : (b : ℕ) → b < m → set b ≡ true → other b ≡ true) (t : Spot) (w : ℕ → Bool) where
-  absent_more : (b : Option ℕ) → fits_candidate m b ≡ true → is_absent other b ≡ true → is_absent set b ≡ true
+module _ (n : ℕ) (these set other : ℕ → Bool) (part : (b : ℕ) → these b ≡ true → set b ≡ true → other b ≡ true) (t : Spot) (w : ℕ → Bool) where
+  absent_more : (b : Option ℕ) → is_of these b ≡ true → is_absent other b ≡ true → is_absent set b ≡ true
   absent_more None f a = a
-  absent_more (Some b) f a = by (set b) (other b) (part b (ltb-true b m f)) a
+  absent_more (Some b) f a = by (set b) (other b) (part b f) a
     where
       by : (x y : Bool) → (x ≡ true → y ≡ true) → not y ≡ true → not x ≡ true
       by false y g h = refl
       by true y g h = ap not (sym (g refl)) ∙ h
 
-  met_more : (b : Option ℕ) (r : Says) → fits_candidate m b ≡ true → is_met other w b r ≡ true → is_met set w b r ≡ true
+  met_more : (b : Option ℕ) (r : Says) → is_of these b ≡ true → is_met other w b r ≡ true → is_met set w b r ≡ true
   met_more b r f = by (is_absent other b) (is_absent set b) (form_true w (said r)) (absent_more b f)
     where
       by : (y x z : Bool) → (y ≡ true → x ≡ true) → (y || z) ≡ true → (x || z) ≡ true
@@ -103,31 +108,31 @@ module _ (n m : ℕ) (set other : ℕ → Bool) (part : (b : ℕ) → b < m → 
       behind true y e = absurd (let bad : ⊥ = cc in bad)
       behind false y e = e
 
-  cmds_fewer : (ks : List FormCmd) (rest rest' : Bool) → cmds_below n m ks ≡ true → KeptCmds set t ks → (rest ≡ false → rest' ≡ false) → form_equation other t w ks rest ≡ false → form_equation set t w ks rest' ≡ false
+  cmds_fewer : (ks : List FormCmd) (rest rest' : Bool) → cmds_below n these ks ≡ true → KeptCmds set t ks → (rest ≡ false → rest' ≡ false) → form_equation other t w ks rest ≡ false → form_equation set t w ks rest' ≡ false
   cmds_fewer [] rest rest' l k h = h
   cmds_fewer (Asks a b r ∷ ks) rest rest' l k h =
-      let fits = and_left (fits_candidate m b) _ l in
-      let more = and_right (form_below n (said r)) (cmds_below n m ks) (and_right (fits_candidate m b) _ l) in
+      let fits = and_left (is_of these b) _ l in
+      let more = and_right (form_below n (said r)) (cmds_below n these ks) (and_right (is_of these b) _ l) in
       one_denies (spot_eq a t) (is_met other w b r) (form_equation other t w ks rest) (is_met set w b r) (form_equation set t w ks rest') (met_more b r fits) (cmds_fewer ks rest rest' more k.1 h) (λ e. kept_denies b r (k.0 (spot_true a t e)))
   cmds_fewer (Takes b r ∷ ks) rest rest' l k h =
-      let fits = and_left (fits_candidate m b) _ l in
-      let more = and_right (form_below n (said r)) (cmds_below n m ks) (and_right (fits_candidate m b) _ l) in
+      let fits = and_left (is_of these b) _ l in
+      let more = and_right (form_below n (said r)) (cmds_below n these ks) (and_right (is_of these b) _ l) in
       one_denies false (is_met other w b r) (form_equation other t w ks rest) (is_met set w b r) (form_equation set t w ks rest') (met_more b r fits) (cmds_fewer ks rest rest' more k h) (λ e. absurd (let bad : ⊥ = cc in bad))
 
-  edges_fewer : (later later' : List Bool) (es : List FormEdge) → edges_below n m es ≡ true → KeptEdges set t es → ((k : ℕ) → is_well (slice_get later k) ≡ false → is_well (slice_get later' k) ≡ false) → all_form_well other t w later es ≡ false → all_form_well set t w later' es ≡ false
+  edges_fewer : (later later' : List Bool) (es : List FormEdge) → edges_below n these es ≡ true → KeptEdges set t es → ((k : ℕ) → is_well (slice_get later k) ≡ false → is_well (slice_get later' k) ≡ false) → all_form_well other t w later es ≡ false → all_form_well set t w later' es ≡ false
   edges_fewer later later' [] l k h = λ e. e
   edges_fewer later later' (x ∷ es) l k h =
       both_deny (form_equation other t w x.cmds (is_well (slice_get later x.to))) (all_form_well other t w later es) (form_equation set t w x.cmds (is_well (slice_get later' x.to))) (all_form_well set t w later' es)
-      (cmds_fewer x.cmds (is_well (slice_get later x.to)) (is_well (slice_get later' x.to)) (and_left (cmds_below n m x.cmds) _ l) k.0 (h x.to))
-      (edges_fewer later later' es (and_right (cmds_below n m x.cmds) _ l) k.1 h)
+      (cmds_fewer x.cmds (is_well (slice_get later x.to)) (is_well (slice_get later' x.to)) (and_left (cmds_below n these x.cmds) _ l) k.0 (h x.to))
+      (edges_fewer later later' es (and_right (cmds_below n these x.cmds) _ l) k.1 h)
 
   -- what is denied under the candidates' truth values is denied under the set
-  pub blocks_fewer : (bs : List FormBlock) → blocks_below n m bs ≡ true → KeptBlocks set t bs → (k : ℕ) → is_well (slice_get (form_equations other t w bs) k) ≡ false → is_well (slice_get (form_equations set t w bs) k) ≡ false
+  pub blocks_fewer : (bs : List FormBlock) → blocks_below n these bs ≡ true → KeptBlocks set t bs → (k : ℕ) → is_well (slice_get (form_equations other t w bs) k) ≡ false → is_well (slice_get (form_equations set t w bs) k) ≡ false
   blocks_fewer [] l h k e = e
   blocks_fewer (b ∷ bs) l h zero e =
-      let l1 = and_right (cmds_below n m b.cmds) _ l in
-      let later = blocks_fewer bs (and_right (edges_below n m b.next) _ l1) h.1 in
-      cmds_fewer b.cmds (all_form_well other t w (form_equations other t w bs) b.next) (all_form_well set t w (form_equations set t w bs) b.next) (and_left (cmds_below n m b.cmds) _ l) h.0.0
-      (edges_fewer (form_equations other t w bs) (form_equations set t w bs) b.next (and_left (edges_below n m b.next) _ l1) h.0.1 later) e
+      let l1 = and_right (cmds_below n these b.cmds) _ l in
+      let later = blocks_fewer bs (and_right (edges_below n these b.next) _ l1) h.1 in
+      cmds_fewer b.cmds (all_form_well other t w (form_equations other t w bs) b.next) (all_form_well set t w (form_equations set t w bs) b.next) (and_left (cmds_below n these b.cmds) _ l) h.0.0
+      (edges_fewer (form_equations other t w bs) (form_equations set t w bs) b.next (and_left (edges_below n these b.next) _ l1) h.0.1 later) e
   blocks_fewer (b ∷ bs) l h (suc k) e =
-      blocks_fewer bs (and_right (edges_below n m b.next) _ (and_right (cmds_below n m b.cmds) _ l)) h.1 k e
+      blocks_fewer bs (and_right (edges_below n these b.next) _ (and_right (cmds_below n these b.cmds) _ l)) h.1 k e

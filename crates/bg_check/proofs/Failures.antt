@@ -1,5 +1,5 @@
 -- A place with an accepted certificate has no failing run.
-use Rattle.std.proofs.Common.{◌≡◌, ℕ, ◌+◌, ◌<◌, Bool, true, List, map, ◌∙◌}
+use Rattle.std.proofs.Common.{◌≡◌, ℕ, Bool, true, List, map}
 use Rattle.bg_ast.specs.Syntax.{Prog}
 use Rattle.bg_ast.specs.Execution.{Interp, State, Choice, Place}
 use Rattle.bg_sense.specs.Flow.{Failed}
@@ -16,14 +16,16 @@ use Rattle.bg_cert.specs.declared.cert.Node.{Node}
 use Rattle.bg_cert.specs.Certs.{node_of, uses}
 use Rattle.bg_cert.specs.Walks.{no_instance}
 use Rattle.bg_fits.specs.Scalars.{is_over_scalars}
+use Rattle.bg_forms.specs.Worth.{bools_at}
+use Rattle.bg_clause.specs.Tables.{there_in}
 use Rattle.bg_faithful.specs.Encoded.{HasClauses}
 use Rattle.bg_check.specs.Verdicts.{HasCertificate}
-use Rattle.bg_check.proofs.LawTypes.{FunctionLaw, BodyLaw, PassiveLaw, FitLaw, DenyLaw, MetLaw, CertLaw, UsedLaw}
+use Rattle.bg_check.proofs.LawTypes.{FunctionLaw, BodyLaw, PassiveLaw, FitLaw, DenyLaw, MetLaw, CertLaw, UsedLaw, UnitAtomLaw, NamedUnitLaw}
 use Rattle.bg_check.proofs.Formulas.{plain_formula, plain_agree, meets_units}
 
 module _ (functions : FunctionLaw) (bodies : BodyLaw) (runs : PassiveLaw) (fits : FitLaw) (denies : DenyLaw) (met : MetLaw) (p : Prog) (t : IsTyped p) (o : is_over_scalars true p ≡ true) where
   -- a failing run gives a valuation that makes the clauses true, and the candidates as they are in the set
-  valued : (set : ℕ → Bool) (u : Place) (f : Formula) (h : HasClauses p u f) (i : Interp) (s : State) (choices : List Choice) → Meets p i → IsState p u.implementation s → induction_run p set i u.implementation s choices ≡ Failed u.spot → (v : Valuation) × ((clauses_true v f.atoms f.clauses ≡ true) × ((b : ℕ) → b < p.candidates → v.truths (h.encoding.first + b) ≡ set b))
+  valued : (set : ℕ → Bool) (u : Place) (f : Formula) (h : HasClauses p u f) (i : Interp) (s : State) (choices : List Choice) → Meets p i → IsState p u.implementation s → induction_run p set i u.implementation s choices ≡ Failed u.spot → (v : Valuation) × ((clauses_true v f.atoms f.clauses ≡ true) × ((b : ℕ) → bools_at h.encoding.named b ≡ true → there_in f.candidates v.truths b ≡ set b))
   valued set u f h i s choices meets state e =
       let k = u.implementation in
       let m = h.implementation in
@@ -35,13 +37,14 @@ module _ (functions : FunctionLaw) (bodies : BodyLaw) (runs : PassiveLaw) (fits 
       let y = met p k m q t o h.is_there h.is_its h.encoding h.is_encoding u.spot f h.clauses i x.0 set x.1.0.typed d in
       (y.0, (y.1.1.1, y.1.1.0))
 
-  module _ (certs : CertLaw) (used : UsedLaw) where
+  module _ (certs : CertLaw) (used : UsedLaw) (units : UnitAtomLaw) (named : NamedUnitLaw) where
     pub no_failure : (set other : ℕ → Bool) (u : Place) (nodes : List Node) → HasCertificate p set u nodes → ((c : ℕ) → uses (map node_of nodes) c ≡ true → other c ≡ true) → (i : Interp) (s : State) (choices : List Choice) → Fails p other u i s choices → ⊥
     no_failure set other u nodes c us i s choices fails =
         let f = c.formula in
         let h = c.is.clauses in
         let a = h.encoding in
-        let plain = plain_formula a.first p.candidates a.terms a.rows u.spot a.blocks f h.clauses in
+        let plain = plain_formula a.first a.terms a.named a.rows u.spot a.blocks f h.clauses in
         let v = valued other u f h i s choices fails.meets fails.state fails.fails in
-        certs f other no_instance (map node_of nodes) (plain_agree a.first p.candidates a.rows f h.is_encoding.denials plain) (λ j cs g. absurd (let bad : ⊥ = cc in bad)) (used f set other no_instance (map node_of nodes) c.accepted us)
-        v.0 v.1.0 (meets_units a.first p.candidates a.rows f v.0 other plain (λ b l g. v.1.1 b l ∙ g)) (λ j cs g. absurd (let bad : ⊥ = cc in bad))
+        let met = meets_units f a.named (units a.first a.terms a.named a.rows u.spot a.blocks f h.clauses) (named a.first a.terms a.named a.rows u.spot a.blocks f h.clauses) v.0 other v.1.1 in
+        certs f other no_instance (map node_of nodes) (plain_agree a.first a.rows f h.is_encoding.denials plain) (λ j cs g. absurd (let bad : ⊥ = cc in bad)) (used f set other no_instance (map node_of nodes) c.accepted us)
+        v.0 v.1.0 met (λ j cs g. absurd (let bad : ⊥ = cc in bad))

@@ -1,6 +1,6 @@
 -- What the laws of the crates below say.
 use Rattle.std.proofs.Common.{◌≡◌, ℕ, ◌+◌, ◌<◌, ℤ, Bool, true, false, List, length, map, Option, Some, None, Ok}
-use Rattle.std.specs.Prelude.{◌↔◌, slice_get, Contains}
+use Rattle.std.specs.Prelude.{◌↔◌, is_some, slice_get, Contains}
 use Rattle.bg_ast.specs.Values.{Val, Ty}
 use Rattle.bg_ast.specs.Syntax.{Proc, Impl, Prog}
 use Rattle.bg_ast.specs.Resolved as r
@@ -28,8 +28,8 @@ use Rattle.bg_passive.specs.Equations.{is_well, equations}
 use Rattle.bg_block_types.specs.Typed.{blocks_in, incarnations_in, passives_in}
 use Rattle.bg_block_types.specs.TypedFlow.{CodeIsTyped}
 use Rattle.bg_incarnate.specs.Even.{BlocksEven}
-use Rattle.bg_formula.specs.Atoms.{AtomOf, at}
-use Rattle.bg_formula.specs.Formulas.{Formula, is_whole}
+use Rattle.bg_formula.specs.Atoms.{AtomOf, IsTruth, at}
+use Rattle.bg_formula.specs.Formulas.{Formula, unit_atom, is_whole}
 use Rattle.bg_formula.specs.Meaning.{Valuation, signed, clauses_true, MeetsUnits, AtomsAgree}
 use Rattle.bg_formula.specs.Instances.{Instance, SignedAtom, atoms_of}
 use Rattle.bg_cert.specs.Paths.{decides}
@@ -37,10 +37,12 @@ use Rattle.bg_cert.specs.Certs.{NodeOf, Accepts, HasNoValuation, uses}
 use Rattle.bg_point.specs.Points.{value_of}
 use Rattle.bg_tree.specs.declared.outcome.Leaf.{Leaf}
 use Rattle.bg_tree.specs.Ends.{IsLeaf, TruthsAgree}
+use Rattle.bg_forms.specs.Worth.{bools_at}
 use Rattle.bg_formed.specs.Agree.{AreRows, RowsAgree}
 use Rattle.bg_formed.specs.Formed.{FormBlock, blocks_below}
 use Rattle.bg_formed.specs.Used.{refused}
 use Rattle.bg_formed.specs.Wells.{form_equations}
+use Rattle.bg_clause.specs.Tables.{there_in}
 use Rattle.bg_clause.specs.Valued.{worth_in}
 use Rattle.bg_clause.specs.Whole.{clauses_of}
 use Rattle.bg_linear.specs.declared.scalar.Sort.{Sort}
@@ -110,18 +112,18 @@ abbrev pub MetLaw : Type 0
 MetLaw =
     (p : Prog) (k : ℕ) (m : Impl) (q : Proc) → IsTyped p → is_over_scalars true p ≡ true →
     slice_get p.implementations k ≡ Some m → procedure_of p m.procedure ≡ Some q →
-    (a : Encoding) → IsEncoding p k m q a → (target : Spot) (f : Formula) → clauses_of a.first p.candidates a.terms a.rows target a.blocks ≡ Ok f →
+    (a : Encoding) → IsEncoding p k m q a → (target : Spot) (f : Formula) → clauses_of a.first a.named a.terms a.rows target a.blocks ≡ Ok f →
     (i : Interp) (values : List Val) (set : ℕ → Bool) → are_of (incarnations_in p k m q) values ≡ true →
     is_well (slice_get (equations set target (passive_scope p i values) (passives_in p k m q)) 0) ≡ false →
     (v : Valuation) × ((values ≡ scalar_values v.numbers (λ j. v.truths (rank (sorts_in p k m q) j)) (sorts_in p k m q))
-    × (((b : ℕ) → b < p.candidates → v.truths (a.first + b) ≡ set b)
+    × (((b : ℕ) → bools_at a.named b ≡ true → there_in f.candidates v.truths b ≡ set b)
     × (clauses_true v f.atoms f.clauses ≡ true)))
 
 abbrev pub WholeLaw : Type 0
 WholeLaw =
     (p : Prog) (k : ℕ) (m : Impl) (q : Proc) → IsTyped p → is_over_scalars true p ≡ true →
     slice_get p.implementations k ≡ Some m → procedure_of p m.procedure ≡ Some q →
-    (a : Encoding) → IsEncoding p k m q a → (target : Spot) (f : Formula) → clauses_of a.first p.candidates a.terms a.rows target a.blocks ≡ Ok f → is_whole f ≡ true
+    (a : Encoding) → IsEncoding p k m q a → (target : Spot) (f : Formula) → clauses_of a.first a.named a.terms a.rows target a.blocks ≡ Ok f → is_whole f ≡ true
 
 abbrev pub ValueLaw : Type 0
 ValueLaw =
@@ -144,19 +146,31 @@ HoldLaw = (sorts : List Sort) (numbers : ℕ → ℤ) (truths : ℕ → Bool) �
 -- of clauses of blocks of forms
 abbrev pub DeniedLaw : Type 0
 DeniedLaw =
-    (first candidates terms : ℕ) (rows : List AtomOf) (target : Spot) (blocks : List FormBlock) (f : Formula) → clauses_of first candidates terms rows target blocks ≡ Ok f →
-    blocks_below (first + candidates + length rows) candidates blocks ≡ true →
-    (v : Valuation) → clauses_true v f.atoms f.clauses ≡ true → is_well (slice_get (form_equations (λ b. v.truths (first + b)) target (worth_in v f.atoms) blocks) 0) ≡ false
+    (first terms : ℕ) (named : List Bool) (rows : List AtomOf) (target : Spot) (blocks : List FormBlock) (f : Formula) → clauses_of first named terms rows target blocks ≡ Ok f →
+    blocks_below (first + length rows) (bools_at named) blocks ≡ true →
+    (v : Valuation) → clauses_true v f.atoms f.clauses ≡ true → is_well (slice_get (form_equations (there_in f.candidates v.truths) target (worth_in v f.atoms) blocks) 0) ≡ false
 
 abbrev pub WithinLaw : Type 0
 WithinLaw =
-    (first candidates terms : ℕ) (rows : List AtomOf) (target : Spot) (blocks : List FormBlock) (f : Formula) → clauses_of first candidates terms rows target blocks ≡ Ok f → refused target blocks ≡ None
+    (first terms : ℕ) (named : List Bool) (rows : List AtomOf) (target : Spot) (blocks : List FormBlock) (f : Formula) → clauses_of first named terms rows target blocks ≡ Ok f → refused target blocks ≡ None
 
 abbrev pub RowsLaw : Type 0
 RowsLaw =
-    (first candidates terms : ℕ) (rows : List AtomOf) (target : Spot) (blocks : List FormBlock) (f : Formula) → clauses_of first candidates terms rows target blocks ≡ Ok f →
-    blocks_below (first + candidates + length rows) candidates blocks ≡ true →
-    (v : Valuation) → AreRows rows → RowsAgree v.numbers (worth_in v f.atoms) (first + candidates) rows
+    (first terms : ℕ) (named : List Bool) (rows : List AtomOf) (target : Spot) (blocks : List FormBlock) (f : Formula) → clauses_of first named terms rows target blocks ≡ Ok f →
+    blocks_below (first + length rows) (bools_at named) blocks ≡ true →
+    (v : Valuation) → AreRows rows → RowsAgree v.numbers (worth_in v f.atoms) first rows
+
+-- a candidate's atom is the truth variable of its number
+abbrev pub UnitAtomLaw : Type 0
+UnitAtomLaw =
+    (first terms : ℕ) (named : List Bool) (rows : List AtomOf) (target : Spot) (blocks : List FormBlock) (f : Formula) → clauses_of first named terms rows target blocks ≡ Ok f →
+    (b a : ℕ) → unit_atom f b ≡ Some a → at f.atoms a ≡ Some (IsTruth a)
+
+-- the named candidates have one
+abbrev pub NamedUnitLaw : Type 0
+NamedUnitLaw =
+    (first terms : ℕ) (named : List Bool) (rows : List AtomOf) (target : Spot) (blocks : List FormBlock) (f : Formula) → clauses_of first named terms rows target blocks ≡ Ok f →
+    (b : ℕ) → is_some (unit_atom f b) ≡ bools_at named b
 
 -- of complete leaves
 abbrev pub LeafLaw : Type 0

@@ -1,6 +1,6 @@
 -- What is made of an implementation of a typed program.
 use Rattle.std.proofs.Common.{◌≡◌, ℕ, zero, suc, ◌<◌, List, [], ◌∷◌, ◌++◌, length, map, Option, Some, None, Err, refl, sym, ap, ◌∙◌, subst, arith}
-use Rattle.std.specs.Prelude.{ℤ, Bool, true, ◌+◌, slice_get, option_map, All, IfSome}
+use Rattle.std.specs.Prelude.{ℤ, Bool, true, ◌+◌, nat_lt, replicate, slice_get, option_map, All, IfSome}
 use Rattle.std.proofs.lemmas.List.Elements.{All-head, All-tail}
 use Rattle.std.proofs.lemmas.Option.{slice_get-map}
 use Rattle.std.proofs.lemmas.List.{length-map, map-append}
@@ -50,13 +50,15 @@ use Rattle.bg_sorts.specs.Passive.{ArrivesAt}
 use Rattle.bg_atoms.specs.Sorted.{blocks_sorted}
 use Rattle.bg_faithful.specs.Sorted.{sorts_in}
 use Rattle.bg_faithful.specs.Encoded.{Encoding, Encodes, IsEncoding}
+use Rattle.bg_check.specs.declared.cut.Cut.{Cut}
 use Rattle.bg_check.specs.declared.prepared.Prepared.{Prepared}
-use Rattle.bg_check.specs.Prepared.{IsPassive, IsPrepared, encoding_of, frame_declared}
+use Rattle.bg_check.specs.Prepared.{IsPassive, IsPrepared, encoding_over, frame_declared}
 use Rattle.bg_check.specs.Verdicts.{HasOutside}
 use Rattle.bg_check.specs.Cuts.{IsOwn, HasOwnClauses}
-use Rattle.bg_check.specs.Slices.{IsSliceFor}
+use Rattle.bg_check.specs.Slices.{IsSliceFor, encoding_in}
 use Rattle.bg_check.specs.Made.{ClausesOf}
 use Rattle.bg_check.proofs.LawTypes.{EvenLaw, SortLaw}
+use Rattle.bg_check.proofs.Slices.{each_before}
 
 all_at : {A : Type 0} (P : A → Type 0) (xs : List A) (k : ℕ) (x : A) → All P xs → slice_get xs k ≡ Some x → P x
 all_at P [] k x h e = absurd (let bad : ⊥ = cc in bad)
@@ -136,44 +138,49 @@ module _ (p : r.Program) (n : ℕ) (w : Prepared) (h : IsPrepared p n w) where
       ∙ ap (λ l. map next_in (arrived (meaning_of p) (frame_decls impl proc) l).arrivals) blocks_are)
 
   -- an operation that leaves the range, of those that count for a place
-  pub outside_here : (spot : Spot) (candidate : Option ℕ) (x : Atoms) (o : OutOfRange) (cands : ℕ) (rows : List AtomOf) (forms : List FormBlock) → IsSliceFor p n w spot x → forms ≡ (encoding_of x).blocks → clauses_of (encoding_of x).first cands (encoding_of x).terms rows spot forms ≡ Err o → HasOutside (meaning_of p) (record { implementation = n; spot = spot; candidate = candidate }) o
-  outside_here spot candidate x o cands rows forms cut b e =
+  pub outside_here : (spot : Spot) (candidate : Option ℕ) (x : Cut) (o : OutOfRange) (named : List Bool) (rows : List AtomOf) (forms : List FormBlock) → IsSliceFor p n w spot x → forms ≡ (encoding_in x).blocks → clauses_of (encoding_in x).first named (encoding_in x).terms rows spot forms ≡ Err o → HasOutside (meaning_of p) (record { implementation = n; spot = spot; candidate = candidate }) o
+  outside_here spot candidate x o named rows forms cut b e =
       record {
         implementation = impl;
         procedure = proc;
         is_there = impl_at;
         is_its = proc_at;
-        encoding = encoding_of w.atoms;
+        encoding = encoding_over (meaning_of p).candidates w.atoms;
         is_own = h.own;
         is_refused = sym cut.refusals ∙ (ap (refused spot) (sym b) ∙ by (refused spot forms) refl e);
       }
     where
-      by : (y : Option OutOfRange) → refused spot forms ≡ y → clauses_by y (formula (encoding_of x).first cands (encoding_of x).terms rows spot forms) ≡ Err o → refused spot forms ≡ Some o
+      by : (y : Option OutOfRange) → refused spot forms ≡ y → clauses_by y (formula (encoding_in x).first named (encoding_in x).terms rows spot forms) ≡ Err o → refused spot forms ≡ Some o
       by None g k = absurd (let bad : ⊥ = cc in bad)
       by (Some y) g k = let same : y ≡ o = cc in g ∙ ap Some same
 
   -- the clauses of a place
-  abbrev pub clauses_here : (spot : Spot) (candidate : Option ℕ) (x : Atoms) (f : Formula) → IsSliceFor p n w spot x → ClausesOf (meaning_of p) x (record { implementation = n; spot = spot; candidate = candidate }) f → HasOwnClauses (meaning_of p) (record { implementation = n; spot = spot; candidate = candidate }) f
+  abbrev pub clauses_here : (spot : Spot) (candidate : Option ℕ) (x : Cut) (f : Formula) → IsSliceFor p n w spot x → ClausesOf x (record { implementation = n; spot = spot; candidate = candidate }) f → HasOwnClauses (meaning_of p) (record { implementation = n; spot = spot; candidate = candidate }) f
   clauses_here spot candidate x f cut e =
       record {
-        clauses = record { implementation = impl; procedure = proc; is_there = impl_at; is_its = proc_at; encoding = encoding_of x; is_encoding = cut.encoding h; clauses = e };
-        whole = encoding_of w.atoms;
+        clauses = record { implementation = impl; procedure = proc; is_there = impl_at; is_its = proc_at; encoding = encoding_in x; is_encoding = cut.encoding h; clauses = e };
+        whole = encoding_over (meaning_of p).candidates w.atoms;
         is_own = h.own;
         is_cut = cut.cut;
       }
 
 -- ---- what is made of passive blocks
 
+replicated : (n : ℕ) → length (replicate n true) ≡ n
+replicated zero = refl
+replicated (suc n) = ap (λ k. suc k) (replicated n)
+
 -- what is answered encodes the blocks
-pub encodes_some : (ss : List Sort) (k : ℕ) (bs : List PassiveBlock) (o : Option Atoms) (a : Atoms) → o ≡ Some a → IfSome o (λ x. x.first ≡ truths ss) → IfSome o (λ x. x.terms ≡ length ss) → IfSome o (λ x. (numbers : ℕ → ℤ) (truth : ℕ → Bool) (c : Scope) → RowsAgree numbers truth (x.first + k) (rows_in x.rows) → HoldScalars ss numbers (λ j. truth (rank ss j)) c.frame → SaidBlocks truth c bs (blocks_of x.blocks)) → IfSome o (λ x. blocks_below (x.first + k + length (rows_in x.rows)) k (blocks_of x.blocks) ≡ true) → IfSome o (λ x. AreRows (rows_in x.rows)) → IfSome o (λ x. AtomsAgree (rows_in x.rows)) → IfSome o (λ x. rows_below x.terms (rows_in x.rows) ≡ true) → Encodes ss k bs (encoding_of a)
+pub encodes_some : (ss : List Sort) (k : ℕ) (bs : List PassiveBlock) (o : Option Atoms) (a : Atoms) → o ≡ Some a → IfSome o (λ x. x.first ≡ truths ss) → IfSome o (λ x. x.terms ≡ length ss) → IfSome o (λ x. (numbers : ℕ → ℤ) (truth : ℕ → Bool) (c : Scope) → RowsAgree numbers truth x.first (rows_in x.rows) → HoldScalars ss numbers (λ j. truth (rank ss j)) c.frame → SaidBlocks truth c bs (blocks_of x.blocks)) → IfSome o (λ x. blocks_below (x.first + length (rows_in x.rows)) (λ b. nat_lt b k) (blocks_of x.blocks) ≡ true) → IfSome o (λ x. AreRows (rows_in x.rows)) → IfSome o (λ x. AtomsAgree (rows_in x.rows)) → IfSome o (λ x. rows_below x.terms (rows_in x.rows) ≡ true) → Encodes ss k bs (encoding_over k a)
 encodes_some ss k bs None a e first terms said below rows denials inside = absurd (let bad : ⊥ = cc in bad)
 encodes_some ss k bs (Some x) a e first terms said below rows denials inside =
     let same : x ≡ a = cc in
-    subst (λ y. Encodes ss k bs (encoding_of y)) same (record { first = first; terms = terms; said = said; below = below; rows = rows; denials = denials; inside = inside })
+    let each = subst (λ (these : ℕ → Bool). blocks_below (x.first + length (rows_in x.rows)) these (blocks_of x.blocks) ≡ true) (sym (each_before k)) below in
+    subst (λ y. Encodes ss k bs (encoding_over k y)) same (record { first = first; terms = terms; said = said; below = each; count = replicated k; rows = rows; denials = denials; inside = inside })
 
-pub exact_some : (ss : List Sort) (k : ℕ) (bs : List PassiveBlock) (o : Option Atoms) (a : Atoms) → o ≡ Some a → IfSome o (λ x. blocks_of x.blocks ≡ blocks_over ss (x.first + k) (rows_in x.rows) bs) → blocks_of a.blocks ≡ blocks_over ss (a.first + k) (rows_in a.rows) bs
-exact_some ss k bs None a e h = absurd (let bad : ⊥ = cc in bad)
-exact_some ss k bs (Some x) a e h = let same : x ≡ a = cc in subst (λ y. blocks_of y.blocks ≡ blocks_over ss (y.first + k) (rows_in y.rows) bs) same h
+pub exact_some : (ss : List Sort) (bs : List PassiveBlock) (o : Option Atoms) (a : Atoms) → o ≡ Some a → IfSome o (λ x. blocks_of x.blocks ≡ blocks_over ss x.first (rows_in x.rows) bs) → blocks_of a.blocks ≡ blocks_over ss a.first (rows_in a.rows) bs
+exact_some ss bs None a e h = absurd (let bad : ⊥ = cc in bad)
+exact_some ss bs (Some x) a e h = let same : x ≡ a = cc in subst (λ y. blocks_of y.blocks ≡ blocks_over ss y.first (rows_in y.rows) bs) same h
 
 pub sources_some : (ss : List Sort) (bs : List PassiveBlock) (o : Option Atoms) (a : Atoms) → o ≡ Some a → IfSome o (λ x. AreFrom ss bs (rows_in x.rows)) → AreFrom ss bs (rows_in a.rows)
 sources_some ss bs None a e h = absurd (let bad : ⊥ = cc in bad)
@@ -184,12 +191,13 @@ apart_some None a e h = absurd (let bad : ⊥ = cc in bad)
 apart_some (Some x) a e h = let same : x ≡ a = cc in subst (λ y. are_apart (rows_in y.rows) ≡ true) same h
 
 -- with the sorts, the number of candidates and the passive blocks of the implementation
-pub own_here : (p : s.Prog) (n : ℕ) (m : s.Impl) (q : s.Proc) (ss : List Sort) (k : ℕ) (bs : List PassiveBlock) (a : Encoding) → ss ≡ sorts_in p n m q → k ≡ p.candidates → bs ≡ passives_in p n m q → IsEncoding p n m q a → a.blocks ≡ blocks_over ss (a.first + k) a.rows bs → AreFrom ss bs a.rows → are_apart a.rows ≡ true → IsOwn p n m q a
+pub own_here : (p : s.Prog) (n : ℕ) (m : s.Impl) (q : s.Proc) (ss : List Sort) (k : ℕ) (bs : List PassiveBlock) (a : Atoms) → ss ≡ sorts_in p n m q → k ≡ p.candidates → bs ≡ passives_in p n m q → IsEncoding p n m q (encoding_over k a) → blocks_of a.blocks ≡ blocks_over ss a.first (rows_in a.rows) bs → AreFrom ss bs (rows_in a.rows) → are_apart (rows_in a.rows) ≡ true → IsOwn p n m q (encoding_over p.candidates a)
 own_here p n m q ss k bs a sorts count passives encodes exact sources apart =
     record {
-      encodes = encodes;
-      blocks = exact ∙ ap (λ l. blocks_over l (a.first + k) a.rows bs) sorts ∙ ap (λ c. blocks_over (sorts_in p n m q) (a.first + c) a.rows bs) count ∙ ap (blocks_over (sorts_in p n m q) (a.first + p.candidates) a.rows) passives;
-      sources = subst (λ l. AreFrom l (passives_in p n m q) a.rows) sorts (subst (λ l. AreFrom ss l a.rows) passives sources);
+      encodes = subst (λ c. IsEncoding p n m q (encoding_over c a)) count encodes;
+      blocks = exact ∙ ap (λ l. blocks_over l a.first (rows_in a.rows) bs) sorts ∙ ap (blocks_over (sorts_in p n m q) a.first (rows_in a.rows)) passives;
+      named = refl;
+      sources = subst (λ l. AreFrom l (passives_in p n m q) (rows_in a.rows)) sorts (subst (λ l. AreFrom ss l (rows_in a.rows)) passives sources);
       apart = apart;
     }
 

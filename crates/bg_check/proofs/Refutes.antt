@@ -1,5 +1,5 @@
 -- From a complete leaf to a run that fails.
-use Rattle.std.proofs.Common.{◌≡◌, ℕ, ◌+◌, ◌<◌, pos, Bool, true, false, List, length, map, Option, Some, None, refl, sym, ap, ◌∙◌, subst, replicate, arith}
+use Rattle.std.proofs.Common.{◌≡◌, ℕ, ◌+◌, pos, Bool, true, false, List, length, map, Option, Some, None, refl, sym, ap, ◌∙◌, subst, replicate, arith}
 use Rattle.std.specs.Prelude.{not, slice_get, unwrap_or, Contains}
 use Rattle.std.proofs.lemmas.Option.{unwrap_or-slice_get}
 use Rattle.bg_ast.specs.Values.{Val}
@@ -36,12 +36,12 @@ use Rattle.bg_formed.specs.Agree.{RowsAgree}
 use Rattle.bg_formed.specs.Formed.{FormCmd, FormBlock}
 use Rattle.bg_formed.specs.Said.{SaidBlocks}
 use Rattle.bg_formed.specs.Wells.{form_equations}
+use Rattle.bg_clause.specs.Tables.{there_in}
 use Rattle.bg_clause.specs.Valued.{worth_in}
 use Rattle.bg_fits.specs.Scalars.{is_over_scalars}
 use Rattle.bg_linear.specs.declared.scalar.Sort.{Sort}
 use Rattle.bg_linear.specs.Sorts.{scalar_values}
 use Rattle.bg_atoms.specs.Ranks.{rank}
-use Rattle.bg_atoms.specs.declared.product.Atoms.{Atoms}
 use Rattle.bg_faithful.specs.Checks.{BlocksPlaced}
 use Rattle.bg_faithful.specs.Encoded.{Encoding, IsEncoding}
 use Rattle.bg_faithful.specs.Interps.{no_interp}
@@ -53,14 +53,15 @@ use Rattle.bg_model.specs.Turns.{turns, taken}
 use Rattle.bg_model.specs.Views.{set_of}
 use Rattle.bg_model.specs.declared.failure.Counterexample.{Counterexample}
 use Rattle.bg_model.specs.Counterexamples.{is_denied, SetUp, IsCounterexample, IsTold}
+use Rattle.bg_check.specs.declared.cut.Cut.{Cut}
 use Rattle.bg_check.specs.declared.prepared.Prepared.{Prepared}
 use Rattle.bg_check.specs.Leaves.{marked, numbered, scalars_from}
-use Rattle.bg_check.specs.Prepared.{IsPrepared, encoding_of}
-use Rattle.bg_check.specs.Slices.{IsSliceFor}
+use Rattle.bg_check.specs.Prepared.{IsPrepared}
+use Rattle.bg_check.specs.Slices.{IsSliceFor, encoding_in}
 use Rattle.bg_check.specs.Made.{ClausesOf}
 use Rattle.bg_check.specs.Asked.{IsAsked}
 use Rattle.bg_check.specs.Verdicts.{IsFailure}
-use Rattle.bg_check.proofs.LawTypes.{BodyLaw, FitLaw, WholeLaw, ValueLaw, StartLaw, MeetLaw, HoldLaw, DeniedLaw, WithinLaw, RowsLaw, LeafLaw, UnitLaw, SignLaw, SpotLaw, CheckLaw}
+use Rattle.bg_check.proofs.LawTypes.{BodyLaw, FitLaw, WholeLaw, ValueLaw, StartLaw, MeetLaw, HoldLaw, DeniedLaw, WithinLaw, RowsLaw, UnitAtomLaw, NamedUnitLaw, LeafLaw, UnitLaw, SignLaw, SpotLaw, CheckLaw}
 use Rattle.bg_check.proofs.Formulas.{IsPlainFormula, plain_formula, plain_agree, own_number, unit_met}
 use Rattle.bg_check.proofs.Leaves.{leaf_number, scalars_are}
 use Rattle.bg_check.proofs.Alike.{blocks_kept, blocks_fewer}
@@ -72,7 +73,7 @@ use Rattle.bg_check.proofs.Prepares.{impl, proc, impl_at, proc_at, frame_long, b
 pub set_same : (bs : List Bool) → set_of bs ≡ has bs
 set_same bs = λ i b. unwrap_or-slice_get bs b false i
 
-module _ (bodies : BodyLaw) (fits : FitLaw) (whole : WholeLaw) (values : ValueLaw) (starts : StartLaw) (meets : MeetLaw) (holds : HoldLaw) (denies : DeniedLaw) (within : WithinLaw) (rows : RowsLaw) (leaves : LeafLaw) (units : UnitLaw) (signs : SignLaw) (own_spots : SpotLaw) (checks : CheckLaw) (p : r.Program) (n : ℕ) (w : Prepared) (h : IsPrepared p n w) (t : IsTyped (meaning_of p)) (o : is_over_scalars true (meaning_of p) ≡ true) where
+module _ (bodies : BodyLaw) (fits : FitLaw) (whole : WholeLaw) (values : ValueLaw) (starts : StartLaw) (meets : MeetLaw) (holds : HoldLaw) (denies : DeniedLaw) (within : WithinLaw) (rows : RowsLaw) (units_own : UnitAtomLaw) (units_named : NamedUnitLaw) (leaves : LeafLaw) (units : UnitLaw) (signs : SignLaw) (own_spots : SpotLaw) (checks : CheckLaw) (p : r.Program) (n : ℕ) (w : Prepared) (h : IsPrepared p n w) (t : IsTyped (meaning_of p)) (o : is_over_scalars true (meaning_of p) ≡ true) where
   abbrev P : s.Prog
   P = meaning_of p
 
@@ -85,21 +86,21 @@ module _ (bodies : BodyLaw) (fits : FitLaw) (whole : WholeLaw) (values : ValueLa
   abbrev S : List Sort
   S = sorts_in P n M Q
 
-  module _ (spot : Spot) (candidate : Option ℕ) (cuts : Atoms) (cut : IsSliceFor p n w spot cuts) (f : Formula) (set : List Bool) (leaf : Leaf) (made : ClausesOf P cuts (record { implementation = n; spot = spot; candidate = candidate }) f) (is_leaf : IsLeaf f (has set) leaf) (asked : IsAsked P (has set) (record { implementation = n; spot = spot; candidate = candidate })) where
+  module _ (spot : Spot) (candidate : Option ℕ) (cuts : Cut) (cut : IsSliceFor p n w spot cuts) (f : Formula) (set : List Bool) (leaf : Leaf) (made : ClausesOf cuts (record { implementation = n; spot = spot; candidate = candidate }) f) (is_leaf : IsLeaf f (has set) leaf) (asked : IsAsked P (has set) (record { implementation = n; spot = spot; candidate = candidate })) where
     abbrev A : Encoding
-    A = encoding_of cuts
+    A = encoding_in cuts
 
     encoding : IsEncoding P n M Q A
     encoding = cut.encoding h
 
-    plain : IsPlainFormula A.first P.candidates A.rows f
-    plain = plain_formula A.first P.candidates A.terms A.rows spot A.blocks f made
+    plain : IsPlainFormula A.first A.rows f
+    plain = plain_formula A.first A.terms A.named A.rows spot A.blocks f made
 
     own : (a x : ℕ) → at f.atoms a ≡ Some (IsTruth x) → x ≡ a
-    own = own_number A.first P.candidates A.rows f encoding.rows plain
+    own = own_number A.first A.rows f encoding.rows plain
 
     agree : AtomsAgree f.atoms
-    agree = plain_agree A.first P.candidates A.rows f encoding.denials plain
+    agree = plain_agree A.first A.rows f encoding.denials plain
 
     abbrev V : Valuation
     V = leaf_valuation f leaf
@@ -117,10 +118,10 @@ module _ (bodies : BodyLaw) (fits : FitLaw) (whole : WholeLaw) (values : ValueLa
     worths : worth_in V f.atoms ≡ T
     worths = worths_are signs f (has set) leaf agree is_leaf own
 
-    -- members of the set are true
-    members : (b : ℕ) → b < P.candidates → set_of set b ≡ true → V.truths (A.first + b) ≡ true
+    -- named members of the set are there
+    members : (b : ℕ) → bools_at A.named b ≡ true → set_of set b ≡ true → there_in f.candidates V.truths b ≡ true
     members b l s =
-        unit_met A.first P.candidates A.rows f V (has set) plain (units f (has set) leaf V is_whole_here agree is_leaf (λ x. refl) (truths_agree f leaf own is_leaf.once)) b l (sym (ap (λ x. x b) (set_same set)) ∙ s)
+        unit_met f A.named (units_own A.first A.terms A.named A.rows spot A.blocks f made) (units_named A.first A.terms A.named A.rows spot A.blocks f made) V (has set) (units f (has set) leaf V is_whole_here agree is_leaf (λ x. refl) (truths_agree f leaf own is_leaf.once)) b l (sym (ap (λ x. x b) (set_same set)) ∙ s)
 
     -- the check of the place is there under the set
     kept : (u : Place) → Contains (places P) u → u.spot ≡ spot → is_kept (set_of set) u.candidate ≡ true
@@ -165,26 +166,26 @@ module _ (bodies : BodyLaw) (fits : FitLaw) (whole : WholeLaw) (values : ValueLa
 
     said : SaidBlocks T (passive_scope P no_interp X) (passives (arrivals_in P n M Q).arrivals (map (block_of p) w.blocks.items)) A.blocks
     said =
-        let r = rows A.first P.candidates A.terms A.rows spot A.blocks f made encoding.below V encoding.rows in
-        let agrees = subst (λ (u : ℕ → Bool). RowsAgree (value_of leaf.spots.items) u (A.first + P.candidates) A.rows) worths r in
+        let r = rows A.first A.terms A.named A.rows spot A.blocks f made encoding.below V encoding.rows in
+        let agrees = subst (λ (u : ℕ → Bool). RowsAgree (value_of leaf.spots.items) u A.first A.rows) worths r in
         let x = encoding.said (value_of leaf.spots.items) T (passive_scope P no_interp X) agrees (holds S (value_of leaf.spots.items) (λ j. T (rank S j))) in
         subst (λ bs. SaidBlocks T (passive_scope P no_interp X) (passives (arrivals_in P n M Q).arrivals bs) A.blocks) (sym (blocks_are p n w h)) x
 
     -- the equations of the forms deny the entry
     denied : is_denied (set_of set) spot T A.blocks ≡ true
     denied =
-        let d = denies A.first P.candidates A.terms A.rows spot A.blocks f made encoding.below V is_met in
-        let e = subst (λ (u : ℕ → Bool). is_well (slice_get (form_equations (λ b. V.truths (A.first + b)) spot u A.blocks) 0) ≡ false) worths d in
+        let d = denies A.first A.terms A.named A.rows spot A.blocks f made encoding.below V is_met in
+        let e = subst (λ (u : ℕ → Bool). is_well (slice_get (form_equations (there_in f.candidates V.truths) spot u A.blocks) 0) ≡ false) worths d in
         let placed = subst (λ bs. BlocksPlaced P (passives (arrivals_in P n M Q).arrivals bs)) (sym (blocks_are p n w h)) (checks P n M Q o (impl_at p n w h) (proc_at p n w h)) in
         let there = blocks_kept P (set_of set) spot T (passive_scope P no_interp X) kept (passives (arrivals_in P n M Q).arrivals (map (block_of p) w.blocks.items)) A.blocks said placed in
-        ap not (blocks_fewer (A.first + P.candidates + length A.rows) P.candidates (set_of set) (λ b. V.truths (A.first + b)) members spot T A.blocks encoding.below there 0 e)
+        ap not (blocks_fewer (A.first + length A.rows) (bools_at A.named) (set_of set) (there_in f.candidates V.truths) members spot T A.blocks encoding.below there 0 e)
 
     failure : (cex : Counterexample) → IsCounterexample P (map (block_of p) w.blocks.items) w.frame w.passive.firsts.items A.blocks (set_of set) spot T X cex → IsFailure P (has set) (record { implementation = n; spot = spot; candidate = candidate }) cex
     failure cex c =
         let a = arrivals_in P n M Q in
         let start = first_state P (frame_decls M Q) X in
         let same = c.starts n M Q start a.made a.arrivals set_up in
-        let run = c.fails no_interp n M Q start a.made a.arrivals set_up said (within A.first P.candidates A.terms A.rows spot A.blocks f made) in
+        let run = c.fails no_interp n M Q start a.made a.arrivals set_up said (within A.first A.terms A.named A.rows spot A.blocks f made) in
         record {
           meets = meets P o;
           state =

@@ -23,7 +23,7 @@ use Rattle.bg_check.specs.declared.verdict.Verdict.{Verdict}
 use Rattle.bg_check.specs.declared.verdict.Verdict.TheVariants.{Proved, Refuted, Unknown}
 use Rattle.bg_check.specs.declared.verdict.Judged.{Judged}
 use Rattle.bg_check.specs.Verdicts.{HasCertificate, IsRight, placed_at, AreRightAt, AreRightOf, AreRightFrom, AreRightUnder, is_proved, are_proved, ProvedAreSafe}
-use Rattle.bg_check.proofs.LawTypes.{FunctionLaw, BodyLaw, SafeLaw, PlaceLaw, PassiveLaw, FitLaw, DenyLaw, MetLaw, CertLaw, UsedLaw, InsideLaw}
+use Rattle.bg_check.proofs.LawTypes.{FunctionLaw, BodyLaw, SafeLaw, PlaceLaw, PassiveLaw, FitLaw, DenyLaw, MetLaw, CertLaw, UsedLaw, UnitAtomLaw, NamedUnitLaw, InsideLaw}
 use Rattle.bg_check.proofs.Failures.{no_failure}
 use Rattle.bg_check.proofs.Numbered.{has}
 
@@ -56,7 +56,7 @@ among_ordinary (a ∷ xs) u e (inr i) = behind (is_ordinary a) (among_ordinary x
     behind true h = inr h
     behind false h = h
 
-module _ (functions : FunctionLaw) (bodies : BodyLaw) (safe : SafeLaw) (place : PlaceLaw) (runs : PassiveLaw) (fits : FitLaw) (denies : DenyLaw) (met : MetLaw) (certs : CertLaw) (used : UsedLaw) (inside : InsideLaw) (set : ℕ → Bool) (budget : Budget) (p : r.Program) (t : IsTyped (meaning_of p)) (o : is_over_scalars true (meaning_of p) ≡ true) (inductive : Inductive (meaning_of p) set) where
+module _ (functions : FunctionLaw) (bodies : BodyLaw) (safe : SafeLaw) (place : PlaceLaw) (runs : PassiveLaw) (fits : FitLaw) (denies : DenyLaw) (met : MetLaw) (certs : CertLaw) (used : UsedLaw) (units : UnitAtomLaw) (named : NamedUnitLaw) (inside : InsideLaw) (set : ℕ → Bool) (budget : Budget) (p : r.Program) (t : IsTyped (meaning_of p)) (o : is_over_scalars true (meaning_of p) ≡ true) (inductive : Inductive (meaning_of p) set) where
   one_safe : (k : ℕ) (m : r.Impl) (js : List Judged) → slice_get p.implementations k ≡ Some m → AreRightOf budget p set k m js → are_proved js ≡ true → Safe (meaning_of p) set k
   one_safe k m js at right proved =
       safe (meaning_of p) set k t below
@@ -68,7 +68,7 @@ module _ (functions : FunctionLaw) (bodies : BodyLaw) (safe : SafeLaw) (place : 
       let inside_it = subst (λ x. In (map place_in (placed_impl p.procedures k x)) u) is (subst (λ x. In (map place_in (placed_impl p.procedures x h.implementation)) u) number h.member) in
       let ordinary : u.candidate ≡ None → ⊥ = λ bare.
       let x = judged_place budget (meaning_of p) set js u right.right proved (subst (λ l. In (map place_in l) u) (sym right.places) (among_ordinary (placed_impl p.procedures k m) u bare inside_it)) in
-      no_failure functions bodies runs fits denies met (meaning_of p) t o certs used set set u x.nodes x.certificate (λ n g. inside x.certificate.formula set no_instance (map node_of x.nodes) x.certificate.accepted n g) i s choices fails in
+      no_failure functions bodies runs fits denies met (meaning_of p) t o certs used units named set set u x.nodes x.certificate (λ n g. inside x.certificate.formula set no_instance (map node_of x.nodes) x.certificate.accepted n g) i s choices fails in
       by_candidate u.candidate ordinary (λ b e. inductive u b c e (ap (is_kept set) (sym e) ∙ kept) i s choices fails))
     where
       there : (ms : List r.Impl) (j : ℕ) → slice_get ms j ≡ Some m → j < length ms

@@ -1,9 +1,9 @@
 -- The clauses of a place: those of its implementation's own blocks of forms, of which no more is left than counts for it.
-use Rattle.std.specs.Prelude.{◌≡◌, ℕ, ◌+◌, true}
+use Rattle.std.specs.Prelude.{◌≡◌, ℕ, true, replicate}
 use Rattle.bg_ast.specs.Syntax.{Proc, Impl, Prog}
 use Rattle.bg_ast.specs.Execution.{Spot, Place}
 use Rattle.bg_formula.specs.Formulas.{Formula}
-use Rattle.bg_slice.specs.Slices.{sliced, sliced_rows}
+use Rattle.bg_slice.specs.Slices.{sliced, sliced_rows, guards_in}
 use Rattle.bg_block_types.specs.Typed.{passives_in}
 use Rattle.bg_atoms.specs.Sources.{AreFrom}
 use Rattle.bg_atoms.specs.Literals.{are_apart}
@@ -12,19 +12,22 @@ use Rattle.bg_faithful.specs.Sorted.{sorts_in}
 use Rattle.bg_faithful.specs.Encoded.{Encoding, IsEncoding, HasClauses}
 
 -- the blocks of forms of the implementation with this number, which is one of this procedure: exactly those of its passive blocks. Each row
--- is one of some relation in a command, none stands twice, and none is the denial of another
+-- is one of some relation in a command, none stands twice, and none is the denial of another. Each candidate may guard a command
 pub record IsOwn (p : Prog) (k : ℕ) (m : Impl) (q : Proc) (a : Encoding) : Type 0 where
   pub encodes : IsEncoding p k m q a
-  pub blocks : a.blocks ≡ blocks_over (sorts_in p k m q) (a.first + p.candidates) a.rows (passives_in p k m q)
+  pub blocks : a.blocks ≡ blocks_over (sorts_in p k m q) a.first a.rows (passives_in p k m q)
+  pub named : a.named ≡ replicate p.candidates true
   pub sources : AreFrom (sorts_in p k m q) (passives_in p k m q) a.rows
   pub apart : are_apart a.rows ≡ true
 
--- the same blocks of forms, in which only commands that count for the target say something, and the rows that they name
+-- the same blocks of forms, in which only commands that count for the target say something, with the rows and the candidates that they
+-- name
 pub record IsCut (candidates : ℕ) (t : Spot) (whole cut : Encoding) : Type 0 where
   pub first : cut.first ≡ whole.first
   pub terms : cut.terms ≡ whole.terms
-  pub rows : cut.rows ≡ sliced_rows (whole.first + candidates) (sliced t whole.blocks) whole.rows
+  pub rows : cut.rows ≡ sliced_rows whole.first (sliced t whole.blocks) whole.rows
   pub blocks : cut.blocks ≡ sliced t whole.blocks
+  pub named : cut.named ≡ guards_in candidates (sliced t whole.blocks)
 
 -- the clauses of a place: those of its implementation's own blocks of forms, cut down to what counts for the place
 pub record HasOwnClauses (p : Prog) (t : Place) (f : Formula) : Type 0 where

@@ -4,18 +4,18 @@ use Rattle.bg_ast.specs.Syntax.{Prog}
 use Rattle.bg_ast.specs.Execution.{Place}
 use Rattle.bg_formula.specs.Formulas.{Formula, formula_of}
 use Rattle.bg_clause.specs.Whole.{clauses_of}
+use Rattle.bg_check.specs.declared.cut.Cut.{Cut}
 use Rattle.bg_check.specs.declared.place.Made.{Made}
 use Rattle.bg_check.specs.declared.place.Made.TheVariants.{Clauses, Outside}
-use Rattle.bg_atoms.specs.declared.product.Atoms.{Atoms}
-use Rattle.bg_check.specs.Prepared.{encoding_of}
+use Rattle.bg_check.specs.Slices.{encoding_in}
 use Rattle.bg_check.specs.Verdicts.{HasOutside}
 
 -- these are the clauses of blocks of forms for the place
-abbrev pub ClausesOf : Prog → Atoms → Place → Formula → Type 0
-ClausesOf p a t f =
-    clauses_of (encoding_of a).first p.candidates (encoding_of a).terms (encoding_of a).rows t.spot (encoding_of a).blocks ≡ Ok f
+abbrev pub ClausesOf : Cut → Place → Formula → Type 0
+ClausesOf c t f =
+    clauses_of (encoding_in c).first (encoding_in c).named (encoding_in c).terms (encoding_in c).rows t.spot (encoding_in c).blocks ≡ Ok f
 
 -- what is made for a place: its clauses, or the operation for which there are none
-abbrev pub IsMade : Prog → Atoms → Place → Made → Type 0
-IsMade p a t (Clauses f) = ClausesOf p a t (formula_of f)
-IsMade p a t (Outside o) = HasOutside p t o
+abbrev pub IsMade : Prog → Cut → Place → Made → Type 0
+IsMade p c t (Clauses f) = ClausesOf c t (formula_of f)
+IsMade p c t (Outside o) = HasOutside p t o

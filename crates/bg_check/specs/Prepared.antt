@@ -1,5 +1,5 @@
 -- What is made once of each implementation.
-use Rattle.std.specs.Prelude.{◌≡◌, ℕ, List, [], ◌∷◌, ◌++◌, Some, map, length, slice_get}
+use Rattle.std.specs.Prelude.{◌≡◌, ℕ, Bool, true, List, [], ◌∷◌, ◌++◌, Some, map, length, replicate, slice_get}
 use Rattle.bg_ast.specs.Resolved as r
 use Rattle.bg_ast.specs.Meaning.{meaning_of, named_of, impl_of, proc_of}
 use Rattle.bg_formula.specs.Atoms.{view_linear}
@@ -25,10 +25,14 @@ pub record IsPassive (p : r.Program) (rs : List r.Declared) (bs : List Block) (w
   pub blocks : map passive_block_of w.blocks.items ≡ passives (arrived (meaning_of p) (frame_of p rs) (map (block_of p) bs)).arrivals (map (block_of p) bs)
   pub firsts : w.firsts.items ≡ map next_in (arrived (meaning_of p) (frame_of p rs) (map (block_of p) bs)).arrivals
 
--- what atoms are, as data
-abbrev pub encoding_of : Atoms → Encoding
-encoding_of a =
-    record { first = a.first; terms = a.terms; rows = map view_linear a.rows.items; blocks = blocks_of a.blocks }
+-- what atoms are, as data, where these candidates may guard commands
+abbrev pub encoding_of : List Bool → Atoms → Encoding
+encoding_of named a =
+    record { first = a.first; terms = a.terms; rows = map view_linear a.rows.items; blocks = blocks_of a.blocks; named = named }
+
+-- where each of so many candidates may
+abbrev pub encoding_over : ℕ → Atoms → Encoding
+encoding_over candidates a = encoding_of (replicate candidates true) a
 
 -- the variables of a frame
 abbrev pub frame_declared : r.Impl → r.Proc → List r.Declared
@@ -44,7 +48,7 @@ pub record IsPrepared (p : r.Program) (number : ℕ) (w : Prepared) : Type 0 whe
   pub blocks : AreBlocks p number implementation procedure w.blocks.items
   pub passive : IsPassive p (frame_declared implementation procedure) w.blocks.items w.passive
   pub sorts : w.sorts.items ≡ sorts_in (meaning_of p) number (impl_of (named_of p.types) implementation) (proc_of (named_of p.types) procedure)
-  pub own : IsOwn (meaning_of p) number (impl_of (named_of p.types) implementation) (proc_of (named_of p.types) procedure) (encoding_of w.atoms)
+  pub own : IsOwn (meaning_of p) number (impl_of (named_of p.types) implementation) (proc_of (named_of p.types) procedure) (encoding_over (meaning_of p).candidates w.atoms)
 
 -- each is a place of the implementation that is prepared
 abbrev pub ArePrepared : r.Program → Prepared → List Placed → Type 0

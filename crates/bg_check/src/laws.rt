@@ -37,6 +37,7 @@ ghost use Rattle.bg_check.specs.Verdicts.{HasCertificate, HasOutside, IsFailure,
 
 use bg_block_types::laws::blocks_are_typed;
 use bg_cert::laws::{accepted_has_no_valuation, accepted_where_used};
+use bg_clause::laws::atoms_of_clauses;
 use bg_faithful::laws::clauses_over_scalars_fail_alike;
 use bg_passive::equations::equations_deny_failing_walks;
 use bg_passive::laws::{arrivals_fit, passive_blocks_fail_alike};
@@ -56,7 +57,8 @@ pub fn proved_places_do_not_fail()
     equations_deny_failing_walks();
     clauses_over_scalars_fail_alike();
     accepted_has_no_valuation();
-    accepted_where_used()
+    accepted_where_used();
+    atoms_of_clauses()
 }
 
 /// An implementation of a typed program over truth values and whole numbers is safe under an inductive set of candidates where each of its
@@ -72,7 +74,8 @@ pub fn proved_under_a_set_is_safe()
     equations_deny_failing_walks();
     clauses_over_scalars_fail_alike();
     accepted_has_no_valuation();
-    accepted_where_used()
+    accepted_where_used();
+    atoms_of_clauses()
 }
 
 /// A replay of the blocks of an implementation of a typed program over truth values and whole numbers, from a state of the

@@ -16,13 +16,11 @@ ghost use Rattle.bg_check.specs.LeafRuns.{HasLeaf};
 ghost use Rattle.bg_check.specs.Made.{ClausesOf, IsMade};
 ghost use Rattle.bg_check.specs.Verdicts.{IsFailure, IsRight};
 
+use crate::cut::{Cut, cut_down};
 use crate::leaf::{leaf_truths, leaf_values};
-use crate::prepared::count_candidates;
 use crate::question::Question;
 use crate::replayed::replayed;
-use crate::slicing::place_atoms;
 use crate::verdict::{Cause, Verdict};
-use bg_atoms::Atoms;
 use bg_base::OutOfRange;
 use bg_clause::laws::{atoms_of_clauses, clauses_fail_alike};
 use bg_clause::{Names, clauses};
@@ -50,21 +48,17 @@ pub enum Made {
 }
 
 /// The clauses of a place.
-fn place_clauses(
-    alloc: Global,
-    question: Question<'_, '_>,
-    atoms: &Atoms,
-) -> Result<Made, AllocError>
+fn place_clauses(alloc: Global, question: Question<'_, '_>, cut: &Cut) -> Result<Made, AllocError>
     requires typed { IsTyped (meaning_of (program_of question.program.now)) }
     requires scalars { is_over_scalars true (meaning_of (program_of question.program.now)) ≡ true }
     requires prepared { IsPrepared (program_of question.program.now) question.place.now.implementation question.prepared.now }
-    requires slice { IsSliceFor (program_of question.program.now) question.place.now.implementation question.prepared.now (spot_of question.place.now.spot) atoms.now }
-    ensures { IfOk result (λ made. IsMade (meaning_of (program_of question.entry.program.now)) atoms.now (placed_of question.entry.place.now).place made) }
+    requires slice { IsSliceFor (program_of question.program.now) question.place.now.implementation question.prepared.now (spot_of question.place.now.spot) cut.now }
+    ensures { IfOk result (λ made. IsMade (meaning_of (program_of question.entry.program.now)) cut.now (placed_of question.entry.place.now).place made) }
 {
-    let candidates = count_candidates(question.program)?;
+    let atoms = &cut.atoms;
     let names = Names {
         first: atoms.first,
-        candidates,
+        named: &cut.named,
         terms: atoms.terms,
         rows: &atoms.rows,
     };
@@ -79,7 +73,7 @@ fn place_clauses(
 fn failing<'q, 'p>(
     alloc: Global,
     question: Question<'q, 'p>,
-    atoms: &'q Atoms,
+    cut: &'q Cut,
     f: &Clauses,
     leaf: &Leaf,
 ) -> Result<Counterexample, AllocError>
@@ -87,8 +81,8 @@ fn failing<'q, 'p>(
     requires scalars { is_over_scalars true (meaning_of (program_of question.program.now)) ≡ true }
     requires prepared { IsPrepared (program_of question.program.now) question.place.now.implementation question.prepared.now }
     requires asked { IsAsked (meaning_of (program_of question.program.now)) (has question.set.now) (placed_of question.place.now).place }
-    requires slice { IsSliceFor (program_of question.program.now) question.place.now.implementation question.prepared.now (spot_of question.place.now.spot) atoms.now }
-    requires clauses { ClausesOf (meaning_of (program_of question.program.now)) atoms.now (placed_of question.place.now).place (formula_of f.now) }
+    requires slice { IsSliceFor (program_of question.program.now) question.place.now.implementation question.prepared.now (spot_of question.place.now.spot) cut.now }
+    requires clauses { ClausesOf cut.now (placed_of question.place.now).place (formula_of f.now) }
     requires leaf { IsLeaf (formula_of f.now) (has question.set.now) leaf.now }
     ensures { IfOk result (λ cex. HasLeaf (meaning_of (program_of question.entry.program.now)) (has question.entry.set.now) (placed_of question.entry.place.now).place cex × IsFailure (meaning_of (program_of question.entry.program.now)) (has question.entry.set.now) (placed_of question.entry.place.now).place cex) }
 {
@@ -112,7 +106,7 @@ fn failing<'q, 'p>(
         frame: prepared.frame,
         blocks: &prepared.blocks,
         firsts: &prepared.passive.firsts,
-        forms: &atoms.blocks,
+        forms: &cut.atoms.blocks,
     };
     let valuation = Valuation {
         truths: &truths,
@@ -128,7 +122,7 @@ fn failing<'q, 'p>(
 fn search_place(
     alloc: Global,
     question: Question<'_, '_>,
-    atoms: &Atoms,
+    cut: &Cut,
     budget: Budget,
     f: &Clauses,
 ) -> Result<Verdict, AllocError>
@@ -136,8 +130,8 @@ fn search_place(
     requires scalars { is_over_scalars true (meaning_of (program_of question.program.now)) ≡ true }
     requires prepared { IsPrepared (program_of question.program.now) question.place.now.implementation question.prepared.now }
     requires asked { IsAsked (meaning_of (program_of question.program.now)) (has question.set.now) (placed_of question.place.now).place }
-    requires slice { IsSliceFor (program_of question.program.now) question.place.now.implementation question.prepared.now (spot_of question.place.now.spot) atoms.now }
-    requires clauses { ClausesOf (meaning_of (program_of question.program.now)) atoms.now (placed_of question.place.now).place (formula_of f.now) }
+    requires slice { IsSliceFor (program_of question.program.now) question.place.now.implementation question.prepared.now (spot_of question.place.now.spot) cut.now }
+    requires clauses { ClausesOf cut.now (placed_of question.place.now).place (formula_of f.now) }
     ensures { IfOk result (λ verdict. IsRight budget (meaning_of (program_of question.entry.program.now)) (has question.entry.set.now) (placed_of question.entry.place.now).place verdict) }
 {
     clauses_over_scalars_are_whole();
@@ -145,7 +139,7 @@ fn search_place(
         Outcome::Closed(nodes) => Ok(Verdict::Proved(nodes)),
         Outcome::Unknown(why) => Ok(Verdict::Unknown(Cause::Search(why))),
         Outcome::Leaf(leaf) => {
-            let cex = failing(alloc, question, atoms, f, &leaf)?;
+            let cex = failing(alloc, question, cut, f, &leaf)?;
             replayed(alloc, question, cex)
         }
     }
@@ -166,9 +160,9 @@ pub fn check_place(
     requires asked { IsAsked (meaning_of (program_of question.program.now)) (has question.set.now) (placed_of question.place.now).place }
     ensures { IfOk result (λ verdict. IsRight budget (meaning_of (program_of question.entry.program.now)) (has question.entry.set.now) (placed_of question.entry.place.now).place verdict) }
 {
-    let atoms = place_atoms(alloc, question.program, question.prepared, question.place)?;
-    match place_clauses(alloc, question, &atoms)? {
+    let cut = cut_down(alloc, question.program, question.prepared, question.place)?;
+    match place_clauses(alloc, question, &cut)? {
         Made::Outside(o) => Ok(Verdict::Unknown(Cause::Form(o))),
-        Made::Clauses(f) => search_place(alloc, question, &atoms, budget, &f),
+        Made::Clauses(f) => search_place(alloc, question, &cut, budget, &f),
     }
 }

@@ -1,12 +1,13 @@
 -- Where the clauses are true, the equations deny the entry.
-use Rattle.std.proofs.Common.{◌≡◌, ℕ, zero, suc, ◌+◌, Bool, true, false, List, [], ◌∷◌, refl, sym, ◌∙◌}
-use Rattle.std.specs.Prelude.{not, ◌&&◌, ◌||◌, if◌then◌else◌, nat_lt, slice_get}
+use Rattle.std.proofs.Common.{◌≡◌, ℕ, zero, suc, Bool, true, false, List, [], ◌∷◌, refl, sym, ◌∙◌}
+use Rattle.std.specs.Prelude.{not, ◌&&◌, ◌||◌, if◌then◌else◌, slice_get, Option}
 use Rattle.bg_ast.specs.Execution.{Spot}
 use Rattle.bg_passive.specs.Passive.{spot_eq}
 use Rattle.bg_passive.specs.Equations.{is_well}
 use Rattle.bg_formed.specs.Wells.{is_met, form_equation, all_form_well, form_equations}
 use Rattle.bg_forms.specs.Forms.{Form, form_true, is_true}
 use Rattle.bg_formed.specs.Formed.{FormCmd, Asks, Takes, FormEdge, FormBlock, cmds_below, edges_below, blocks_below}
+use Rattle.bg_clause.specs.Tables.{there_in}
 use Rattle.bg_clause.specs.Failing.{fail_block}
 use Rattle.bg_clause.specs.Emitted.{denies, emitted}
 use Rattle.bg_clause.specs.Told.{Told, nothing, is_short, told_by, told, entry_told}
@@ -79,32 +80,32 @@ place_first : (t : ℕ → Bool) (x : Bool) (f : Form) (s : Told) → all_in t (
 place_first t true f s h = h
 place_first t false f s h = all_first t s.clauses (emitted (denies s.next ∷ []) f (suc s.next)) h
 
-module _ (n m : ℕ) (target : Spot) (a : ℕ) (t set : ℕ → Bool) (agree : (b : ℕ) → nat_lt b m ≡ true → t (n + b) ≡ set b) where
+module _ (cs : List (Option ℕ)) (these : ℕ → Bool) (target : Spot) (a : ℕ) (t set : ℕ → Bool) (agree : (b : ℕ) → these b ≡ true → there_in cs t b ≡ set b) where
   -- a block that is well by its equation doesn't fail by its form
-  not_failing : (later : List Form) (es : List Bool) (b : FormBlock) → cmds_below a m b.cmds ≡ true → edges_below a m b.next ≡ true → Within es (wells t later) → form_equation set target t b.cmds (all_form_well set target t es b.next) ≡ true → form_true t (fail_block n target later b) ≡ true → ⊥
+  not_failing : (later : List Form) (es : List Bool) (b : FormBlock) → cmds_below a these b.cmds ≡ true → edges_below a these b.next ≡ true → Within es (wells t later) → form_equation set target t b.cmds (all_form_well set target t es b.next) ≡ true → form_true t (fail_block cs target later b) ≡ true → ⊥
   not_failing later es b fk fe rest e q =
       let ws = wells t later in
       let well = cmds_within set target t b.cmds (all_form_well set target t es b.next) (all_form_well set target t ws b.next) (all_within set target t es ws rest b.next) e in
-      clash (form_true t (fail_block n target later b)) (form_equation set target t b.cmds (all_form_well set target t ws b.next)) (block_true n m a target t set agree later b fk fe) q well
+      clash (form_true t (fail_block cs target later b)) (form_equation set target t b.cmds (all_form_well set target t ws b.next)) (block_true cs these a target t set agree later b fk fe) q well
 
-  blocks_within : (bs : List FormBlock) → blocks_below a m bs ≡ true → all_in t (told n target (nothing a) bs).clauses ≡ true → Within (form_equations set target t bs) (wells t (told n target (nothing a) bs).fails)
+  blocks_within : (bs : List FormBlock) → blocks_below a these bs ≡ true → all_in t (told cs target (nothing a) bs).clauses ≡ true → Within (form_equations set target t bs) (wells t (told cs target (nothing a) bs).fails)
   blocks_within [] fits h = tt
   blocks_within (b ∷ bs) fits h =
-      let s = told n target (nothing a) bs in
-      let f = fail_block n target s.fails b in
+      let s = told cs target (nothing a) bs in
+      let f = fail_block cs target s.fails b in
       let es = form_equations set target t bs in
-      let more = and_right (cmds_below a m b.cmds) (edges_below a m b.next && blocks_below a m bs) fits in
-      let rest = blocks_within bs (and_right (edges_below a m b.next) (blocks_below a m bs) more) (place_first t (is_short f) f s h) in
-      place_sound t (is_short f) f s es h (form_equation set target t b.cmds (all_form_well set target t es b.next)) (not_failing s.fails es b (and_left (cmds_below a m b.cmds) (edges_below a m b.next && blocks_below a m bs) fits) (and_left (edges_below a m b.next) (blocks_below a m bs) more) rest) rest
+      let more = and_right (cmds_below a these b.cmds) (edges_below a these b.next && blocks_below a these bs) fits in
+      let rest = blocks_within bs (and_right (edges_below a these b.next) (blocks_below a these bs) more) (place_first t (is_short f) f s h) in
+      place_sound t (is_short f) f s es h (form_equation set target t b.cmds (all_form_well set target t es b.next)) (not_failing s.fails es b (and_left (cmds_below a these b.cmds) (edges_below a these b.next && blocks_below a these bs) fits) (and_left (edges_below a these b.next) (blocks_below a these bs) more) rest) rest
 
   -- the clauses deny the entry's truth variable
-  pub entry_denied : (bs : List FormBlock) → blocks_below a m bs ≡ true → all_in t (entry_told n target a bs).clauses ≡ true → is_well (slice_get (form_equations set target t bs) 0) ≡ false
+  pub entry_denied : (bs : List FormBlock) → blocks_below a these bs ≡ true → all_in t (entry_told cs target a bs).clauses ≡ true → is_well (slice_get (form_equations set target t bs) 0) ≡ false
   entry_denied [] fits h = absurd (let bad : ⊥ = cc in bad)
   entry_denied (b ∷ bs) fits h =
-      let s = told n target (nothing a) bs in
-      let f = fail_block n target s.fails b in
+      let s = told cs target (nothing a) bs in
+      let f = fail_block cs target s.fails b in
       let es = form_equations set target t bs in
-      let more = and_right (cmds_below a m b.cmds) (edges_below a m b.next && blocks_below a m bs) fits in
-      let rest = blocks_within bs (and_right (edges_below a m b.next) (blocks_below a m bs) more) (all_first t s.clauses (emitted [] f s.next) h) in
+      let more = and_right (cmds_below a these b.cmds) (edges_below a these b.next && blocks_below a these bs) fits in
+      let rest = blocks_within bs (and_right (edges_below a these b.next) (blocks_below a these bs) more) (all_first t s.clauses (emitted [] f s.next) h) in
       let fails = emitted_sound t f [] s.next (all_second t s.clauses (emitted [] f s.next) h) in
-      not_true (form_equation set target t b.cmds (all_form_well set target t es b.next)) (λ e. not_failing s.fails es b (and_left (cmds_below a m b.cmds) (edges_below a m b.next && blocks_below a m bs) fits) (and_left (edges_below a m b.next) (blocks_below a m bs) more) rest e fails)
+      not_true (form_equation set target t b.cmds (all_form_well set target t es b.next)) (λ e. not_failing s.fails es b (and_left (cmds_below a these b.cmds) (edges_below a these b.next && blocks_below a these bs) fits) (and_left (edges_below a these b.next) (blocks_below a these bs) more) rest e fails)

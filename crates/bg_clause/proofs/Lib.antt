@@ -7,6 +7,7 @@ pub mod Backward
 pub mod Valuing
 pub mod Locals
 pub mod Forward
+pub mod Tables
 pub mod Wholes
 pub mod Alike
 pub mod Emits

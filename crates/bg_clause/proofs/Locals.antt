@@ -1,17 +1,18 @@
 -- What forms and clauses are worth depends on their atoms alone.
-use Rattle.std.proofs.Common.{◌≡◌, ℕ, suc, ◌+◌, Bool, true, false, List, [], ◌∷◌, ◌++◌, map, refl, sym, ap, ◌∙◌, arith}
+use Rattle.std.proofs.Common.{◌≡◌, ℕ, zero, suc, ◌+◌, Bool, true, false, List, [], ◌∷◌, ◌++◌, map, refl, sym, ap, ◌∙◌, arith}
 use Rattle.std.specs.Prelude.{not, nat_lt}
-use Rattle.std.specs.Prelude.{◌&&◌, ◌||◌, slice_get, Option}
+use Rattle.std.specs.Prelude.{◌&&◌, ◌||◌, slice_get, Option, Some, None}
 use Rattle.bg_ast.specs.Execution.{Spot}
 use Rattle.bg_passive.specs.Passive.{is_absent}
 use Rattle.bg_passive.specs.Equations.{is_well}
-use Rattle.bg_formed.specs.Formed.{Says, FormCmd, Asks, Takes, FormEdge, FormBlock, said, fits_candidate, cmds_below, edges_below, blocks_below}
+use Rattle.bg_formed.specs.Formed.{Says, FormCmd, Asks, Takes, FormEdge, FormBlock, said, is_of, cmds_below, edges_below, blocks_below}
 use Rattle.bg_formed.specs.Wells.{is_met, form_equation, all_form_well, form_equations}
 use Rattle.bg_formula.specs.declared.atom.Literal.{Literal}
-use Rattle.bg_formula.specs.Formulas.{literals_below, clauses_below}
+use Rattle.bg_formula.specs.Formulas.{literals_below, clauses_below, units_below}
 use Rattle.bg_formula.specs.Meaning.{same}
 use Rattle.bg_forms.specs.Forms.{Form, Plain, Is, NotSo, Both, Same, form_true}
 use Rattle.bg_forms.proofs.Meaning.{and_left, and_right}
+use Rattle.bg_clause.specs.Tables.{there_in}
 use Rattle.bg_clause.proofs.Clausal.{any_in, all_in}
 use Rattle.bg_clause.proofs.Defining.{Named, own, deep}
 use Rattle.bg_clause.proofs.Emitting.{parts, parts_as}
@@ -107,32 +108,40 @@ extended n u fs p =
     let agree : Agree n t u = λ j e. behind_first n u (front (map (form_true u) fs) g) j e in
     (t, (agree, named_front n t u agree fs n g p (λ j x e. behind_past n u (front (map (form_true u) fs) g) j x e)))
 
+-- whether a candidate is there depends on its atom alone
+pub there_local : (n : ℕ) (t u : ℕ → Bool) → Agree n t u → (cs : List (Option ℕ)) → units_below n cs ≡ true → (b : ℕ) → there_in cs t b ≡ there_in cs u b
+there_local n t u agree [] p b = refl
+there_local n t u agree (None ∷ cs) p zero = refl
+there_local n t u agree (None ∷ cs) p (suc b) = there_local n t u agree cs p b
+there_local n t u agree (Some a ∷ cs) p zero = agree a (and_left (nat_lt a n) (units_below n cs) p)
+there_local n t u agree (Some a ∷ cs) p (suc b) = there_local n t u agree cs (and_right (nat_lt a n) (units_below n cs) p) b
+
 -- equations depend on the atoms that are named alone
-module _ (n m : ℕ) (t u : ℕ → Bool) (agree : Agree n t u) (set : ℕ → Bool) (target : Spot) where
+module _ (n : ℕ) (these : ℕ → Bool) (t u : ℕ → Bool) (agree : Agree n t u) (set : ℕ → Bool) (target : Spot) where
   met_local : (b : Option ℕ) (r : Says) → form_below n (said r) ≡ true → is_met set t b r ≡ is_met set u b r
   met_local b r p = ap (λ x. is_absent set b || x) (local n t u agree (said r) p)
 
-  pub equation_local : (ks : List FormCmd) (rest : Bool) → cmds_below n m ks ≡ true → form_equation set target t ks rest ≡ form_equation set target u ks rest
+  pub equation_local : (ks : List FormCmd) (rest : Bool) → cmds_below n these ks ≡ true → form_equation set target t ks rest ≡ form_equation set target u ks rest
   equation_local [] rest p = refl
   equation_local (Asks s b r ∷ ks) rest p =
-      let more = and_right (fits_candidate m b) (form_below n (said r) && cmds_below n m ks) p in
-      rw (met_local b r (and_left (form_below n (said r)) (cmds_below n m ks) more), equation_local ks rest (and_right (form_below n (said r)) (cmds_below n m ks) more)) refl
+      let more = and_right (is_of these b) (form_below n (said r) && cmds_below n these ks) p in
+      rw (met_local b r (and_left (form_below n (said r)) (cmds_below n these ks) more), equation_local ks rest (and_right (form_below n (said r)) (cmds_below n these ks) more)) refl
   equation_local (Takes b r ∷ ks) rest p =
-      let more = and_right (fits_candidate m b) (form_below n (said r) && cmds_below n m ks) p in
-      rw (met_local b r (and_left (form_below n (said r)) (cmds_below n m ks) more), equation_local ks rest (and_right (form_below n (said r)) (cmds_below n m ks) more)) refl
+      let more = and_right (is_of these b) (form_below n (said r) && cmds_below n these ks) p in
+      rw (met_local b r (and_left (form_below n (said r)) (cmds_below n these ks) more), equation_local ks rest (and_right (form_below n (said r)) (cmds_below n these ks) more)) refl
 
-  pub edges_local : (later : List Bool) (es : List FormEdge) → edges_below n m es ≡ true → all_form_well set target t later es ≡ all_form_well set target u later es
+  pub edges_local : (later : List Bool) (es : List FormEdge) → edges_below n these es ≡ true → all_form_well set target t later es ≡ all_form_well set target u later es
   edges_local later [] p = refl
   edges_local later (e ∷ es) p =
-      rw (equation_local e.cmds (is_well (slice_get later e.to)) (and_left (cmds_below n m e.cmds) (edges_below n m es) p), edges_local later es (and_right (cmds_below n m e.cmds) (edges_below n m es) p)) refl
+      rw (equation_local e.cmds (is_well (slice_get later e.to)) (and_left (cmds_below n these e.cmds) (edges_below n these es) p), edges_local later es (and_right (cmds_below n these e.cmds) (edges_below n these es) p)) refl
 
-  pub blocks_local : (bs : List FormBlock) → blocks_below n m bs ≡ true → form_equations set target t bs ≡ form_equations set target u bs
+  pub blocks_local : (bs : List FormBlock) → blocks_below n these bs ≡ true → form_equations set target t bs ≡ form_equations set target u bs
   blocks_local [] p = refl
   blocks_local (b ∷ bs) p =
-      let more = and_right (cmds_below n m b.cmds) (edges_below n m b.next && blocks_below n m bs) p in
-      let rest = blocks_local bs (and_right (edges_below n m b.next) (blocks_below n m bs) more) in
+      let more = and_right (cmds_below n these b.cmds) (edges_below n these b.next && blocks_below n these bs) p in
+      let rest = blocks_local bs (and_right (edges_below n these b.next) (blocks_below n these bs) more) in
       let later = form_equations set target u bs in
-      let fe = and_left (edges_below n m b.next) (blocks_below n m bs) more in
-      let fk = and_left (cmds_below n m b.cmds) (edges_below n m b.next && blocks_below n m bs) p in
+      let fe = and_left (edges_below n these b.next) (blocks_below n these bs) more in
+      let fk = and_left (cmds_below n these b.cmds) (edges_below n these b.next && blocks_below n these bs) p in
       ap (λ l. form_equation set target t b.cmds (all_form_well set target t l b.next) ∷ l) rest
       ∙ ap (λ x. x ∷ later) (equation_local b.cmds (all_form_well set target t later b.next) fk ∙ ap (form_equation set target u b.cmds) (edges_local later b.next fe))

@@ -1,6 +1,6 @@
 -- The clauses name atoms that are there.
 use Rattle.std.proofs.Common.{◌≡◌, ℕ, zero, suc, ◌+◌, ◌-◌, ◌≤◌, Bool, true, false, List, [], ◌∷◌, ◌++◌, length, map, refl, sym, ap, subst, ◌∙◌, arith}
-use Rattle.std.specs.Prelude.{not, ◌&&◌, if◌then◌else◌, nat_lt, Some}
+use Rattle.std.specs.Prelude.{not, ◌&&◌, if◌then◌else◌, nat_lt, Option, Some}
 use Rattle.std.proofs.lemmas.Bool.Decides.{nat_tests}
 use Rattle.std.proofs.lemmas.List.{length-append}
 use Rattle.bg_ast.specs.Execution.{Spot}
@@ -10,7 +10,9 @@ use Rattle.bg_formula.specs.Atoms.{AtomOf, IsTruth, at}
 use Rattle.bg_formula.specs.Formulas.{literals_below, clauses_below, units_below, rows_below, atom_below, is_whole}
 use Rattle.bg_formula.specs.Meaning.{Valuation, atom_true, same, signed, literal_true, clause_true, clauses_true}
 use Rattle.bg_forms.specs.Forms.{Form, Plain, Is, NotSo, Both, Same, literal_in, opposite}
+use Rattle.bg_forms.specs.Worth.{bools_at}
 use Rattle.bg_formed.specs.Formed.{FormBlock, cmds_below, edges_below, blocks_below}
+use Rattle.bg_clause.specs.Tables.{table, marked, atom_in}
 use Rattle.bg_clause.specs.Failing.{fail_block}
 use Rattle.bg_clause.specs.Emitted.{denies, name_of, next_of, after_defined, after_as, after, clause_of, signed_as, equal_clauses, both_clauses, same_clauses, defined, emitted_as, emitted}
 use Rattle.bg_clause.specs.Told.{Told, nothing, is_short, told_by, told, with_entry, entry_told}
@@ -20,7 +22,8 @@ use Rattle.bg_forms.proofs.Meaning.{none_below, below_suc, and_left, and_right}
 use Rattle.bg_clause.proofs.Clausal.{any_in, all_in, clause_below}
 use Rattle.bg_formed.specs.Formed.{form_below}
 use Rattle.bg_formed.proofs.Below.{forms_below, and_both}
-use Rattle.bg_clause.proofs.Below.{block_below}
+use Rattle.bg_clause.proofs.Below.{blocks_lower, block_below}
+use Rattle.bg_clause.proofs.Tables.{table_below, table_inside}
 
 next_more : (f : Form) (n : ℕ) → n ≤ next_of f n
 next_more (Plain b) n = omega arith
@@ -174,60 +177,55 @@ told_by_more : (x : Bool) (f : Form) (s : Told) → s.next ≤ (told_by x f s).n
 told_by_more true f s = omega arith
 told_by_more false f s = omega (arith, after_more f (suc s.next))
 
-module _ (k m : ℕ) (t : Spot) (a : ℕ) where
-  pub told_more : (bs : List FormBlock) → a ≤ (told k t (nothing a) bs).next
+module _ (cs : List (Option ℕ)) (t : Spot) (a : ℕ) where
+  pub told_more : (bs : List FormBlock) → a ≤ (told cs t (nothing a) bs).next
   told_more [] = omega arith
   told_more (b ∷ bs) =
-      let s = told k t (nothing a) bs in
-      let f = fail_block k t s.fails b in
+      let s = told cs t (nothing a) bs in
+      let f = fail_block cs t s.fails b in
       omega (arith, told_more bs, told_by_more (is_short f) f s)
 
-  module _ (enough : k + m ≤ a) (n : ℕ) where
-    pub told_below : (bs : List FormBlock) → blocks_below a m bs ≡ true → (told k t (nothing a) bs).next ≤ n → (forms_below n (told k t (nothing a) bs).fails ≡ true) × (clauses_below n (told k t (nothing a) bs).clauses ≡ true)
+  module _ (these : ℕ → Bool) (units : units_below a cs ≡ true) (n : ℕ) where
+    pub told_below : (bs : List FormBlock) → blocks_below a these bs ≡ true → (told cs t (nothing a) bs).next ≤ n → (forms_below n (told cs t (nothing a) bs).fails ≡ true) × (clauses_below n (told cs t (nothing a) bs).clauses ≡ true)
     told_below [] fits le = (refl, refl)
     told_below (b ∷ bs) fits le =
-        let s = told k t (nothing a) bs in
-        let f = fail_block k t s.fails b in
-        let more = and_right (cmds_below a m b.cmds) (edges_below a m b.next && blocks_below a m bs) fits in
+        let s = told cs t (nothing a) bs in
+        let f = fail_block cs t s.fails b in
+        let more = and_right (cmds_below a these b.cmds) (edges_below a these b.next && blocks_below a these bs) fits in
         let step = told_by_more (is_short f) f s in
         let first = told_more bs in
-        let rest = told_below bs (and_right (edges_below a m b.next) (blocks_below a m bs) more) (omega (arith, le, step)) in
-        told_by_below n (is_short f) f s (block_below n k m a enough (omega (arith, first, step, le)) t s.fails b (and_left (cmds_below a m b.cmds) (edges_below a m b.next && blocks_below a m bs) fits) (and_left (edges_below a m b.next) (blocks_below a m bs) more) rest.0) rest.0 rest.1 le
+        let rest = told_below bs (and_right (edges_below a these b.next) (blocks_below a these bs) more) (omega (arith, le, step)) in
+        told_by_below n (is_short f) f s (block_below n a cs these units (omega (arith, first, step, le)) t s.fails b (and_left (cmds_below a these b.cmds) (edges_below a these b.next && blocks_below a these bs) fits) (and_left (edges_below a these b.next) (blocks_below a these bs) more) rest.0) rest.0 rest.1 le
 
-    pub first_below : (b : FormBlock) (bs : List FormBlock) → blocks_below a m (b ∷ bs) ≡ true → (told k t (nothing a) bs).next ≤ n → form_below n (fail_block k t (told k t (nothing a) bs).fails b) ≡ true
+    pub first_below : (b : FormBlock) (bs : List FormBlock) → blocks_below a these (b ∷ bs) ≡ true → (told cs t (nothing a) bs).next ≤ n → form_below n (fail_block cs t (told cs t (nothing a) bs).fails b) ≡ true
     first_below b bs fits le =
-        let s = told k t (nothing a) bs in
-        let more = and_right (cmds_below a m b.cmds) (edges_below a m b.next && blocks_below a m bs) fits in
-        let rest = told_below bs (and_right (edges_below a m b.next) (blocks_below a m bs) more) le in
-        block_below n k m a enough (omega (arith, told_more bs, le)) t s.fails b (and_left (cmds_below a m b.cmds) (edges_below a m b.next && blocks_below a m bs) fits) (and_left (edges_below a m b.next) (blocks_below a m bs) more) rest.0
+        let s = told cs t (nothing a) bs in
+        let more = and_right (cmds_below a these b.cmds) (edges_below a these b.next && blocks_below a these bs) fits in
+        let rest = told_below bs (and_right (edges_below a these b.next) (blocks_below a these bs) more) le in
+        block_below n a cs these units (omega (arith, told_more bs, le)) t s.fails b (and_left (cmds_below a these b.cmds) (edges_below a these b.next && blocks_below a these bs) fits) (and_left (edges_below a these b.next) (blocks_below a these bs) more) rest.0
 
   with_below : (f : Form) (s : Told) → let n = after f s.next in form_below n f ≡ true → clauses_below n s.clauses ≡ true → clauses_below n (with_entry f s).clauses ≡ true
   with_below f s p q =
       let n = after f s.next in
       append_below n s.clauses (emitted [] f s.next) q (emitted_below n f [] s.next refl p (omega arith))
 
-  pub entry_below : k + m ≤ a → (bs : List FormBlock) → blocks_below a m bs ≡ true → clauses_below (entry_told k t a bs).next (entry_told k t a bs).clauses ≡ true
-  entry_below enough [] fits = refl
-  entry_below enough (b ∷ bs) fits =
-      let s = told k t (nothing a) bs in
-      let f = fail_block k t s.fails b in
+  pub entry_below : (these : ℕ → Bool) → units_below a cs ≡ true → (bs : List FormBlock) → blocks_below a these bs ≡ true → clauses_below (entry_told cs t a bs).next (entry_told cs t a bs).clauses ≡ true
+  entry_below these units [] fits = refl
+  entry_below these units (b ∷ bs) fits =
+      let s = told cs t (nothing a) bs in
+      let f = fail_block cs t s.fails b in
       let le = after_more f s.next in
-      let more = and_right (cmds_below a m b.cmds) (edges_below a m b.next && blocks_below a m bs) fits in
-      with_below f s (first_below enough (after f s.next) b bs fits le) (told_below enough (after f s.next) bs (and_right (edges_below a m b.next) (blocks_below a m bs) more) le).1
+      let more = and_right (cmds_below a these b.cmds) (edges_below a these b.next && blocks_below a these bs) fits in
+      with_below f s (first_below these units (after f s.next) b bs fits le) (told_below these units (after f s.next) bs (and_right (edges_below a these b.next) (blocks_below a these bs) more) le).1
 
-  pub entry_more : (bs : List FormBlock) → a ≤ (entry_told k t a bs).next
+  pub entry_more : (bs : List FormBlock) → a ≤ (entry_told cs t a bs).next
   entry_more [] = omega arith
   entry_more (b ∷ bs) =
-      let s = told k t (nothing a) bs in omega (arith, told_more bs, after_more (fail_block k t s.fails b) s.next)
+      let s = told cs t (nothing a) bs in omega (arith, told_more bs, after_more (fail_block cs t s.fails b) s.next)
 
 how_many_atoms : (k n : ℕ) → length (map IsTruth (count_from k n)) ≡ n
 how_many_atoms k zero = refl
 how_many_atoms k (suc n) = ap suc (how_many_atoms (suc k) n)
-
-units_counted : (n k m : ℕ) → k + m ≤ n → units_below n (map Some (count_from k m)) ≡ true
-units_counted n k zero le = refl
-units_counted n k (suc m) le =
-    and_both (nat_lt k n) (units_below n (map Some (count_from (suc k) m))) (one_below k n (omega (arith, le))) (units_counted n (suc k) m (omega (arith, le)))
 
 -- ---- atoms of two lists
 
@@ -286,18 +284,21 @@ module _ (v : Valuation) (atoms : List AtomOf) where
 
 -- ---- the atoms of a formula
 
-module _ (n m terms : ℕ) (rows : List AtomOf) (t : Spot) (bs : List FormBlock) where
-  abbrev a : ℕ
-  a = n + m + length rows
+module _ (n terms : ℕ) (ms : List Bool) (rows : List AtomOf) (t : Spot) (bs : List FormBlock) where
+  abbrev k : ℕ
+  k = n + length rows
+
+  abbrev cs : List (Option ℕ)
+  cs = table k ms
 
   abbrev s : Told
-  s = entry_told n t a bs
+  s = entry_told cs t (k + marked ms) bs
 
   abbrev first : List AtomOf
-  first = map IsTruth (count_from 0 (n + m))
+  first = map IsTruth (count_from 0 n)
 
   abbrev last : List AtomOf
-  last = map IsTruth (count_from a (s.next - a))
+  last = map IsTruth (count_from k (s.next - k))
 
   abbrev pub atoms_of : List AtomOf
   atoms_of = first ++ (rows ++ last)
@@ -306,36 +307,49 @@ module _ (n m terms : ℕ) (rows : List AtomOf) (t : Spot) (bs : List FormBlock)
   many =
       let x = length-append first (rows ++ last) in
       let y = length-append rows last in
-      let f = how_many_atoms 0 (n + m) in
-      let l = how_many_atoms a (s.next - a) in
-      let e = entry_more n m t a bs in
+      let f = how_many_atoms 0 n in
+      let l = how_many_atoms k (s.next - k) in
+      let e = entry_more cs t (k + marked ms) bs in
       omega (arith, x, y, f, l, e)
 
-  pub at_truth : (j : ℕ) → nat_lt j (n + m) ≡ true → at atoms_of j ≡ Some (IsTruth j)
+  pub at_truth : (j : ℕ) → nat_lt j n ≡ true → at atoms_of j ≡ Some (IsTruth j)
   at_truth j p =
-      at_first first (rows ++ last) j (subst (λ k. nat_lt j k ≡ true) (sym (how_many_atoms 0 (n + m))) p) ∙ at_count 0 (n + m) j j (omega arith) p
+      at_first first (rows ++ last) j (subst (λ i. nat_lt j i ≡ true) (sym (how_many_atoms 0 n)) p) ∙ at_count 0 n j j (omega arith) p
 
-  pub at_row : (j x : ℕ) → x ≡ n + m + j → nat_lt j (length rows) ≡ true → at atoms_of x ≡ at rows j
+  pub at_row : (j x : ℕ) → x ≡ n + j → nat_lt j (length rows) ≡ true → at atoms_of x ≡ at rows j
   at_row j x e p =
-      at_behind first (rows ++ last) j x (let f = how_many_atoms 0 (n + m) in omega (arith, f, e)) ∙ at_first rows last j p
+      at_behind first (rows ++ last) j x (let f = how_many_atoms 0 n in omega (arith, f, e)) ∙ at_first rows last j p
 
-  pub at_name : (j x : ℕ) → x ≡ a + j → nat_lt x s.next ≡ true → at atoms_of x ≡ Some (IsTruth x)
+  pub at_name : (j x : ℕ) → x ≡ k + j → nat_lt x s.next ≡ true → at atoms_of x ≡ Some (IsTruth x)
   at_name j x e p =
-      at_behind first (rows ++ last) (length rows + j) x (let f = how_many_atoms 0 (n + m) in omega (arith, f, e))
-      ∙ at_behind rows last j (length rows + j) refl ∙ at_count a (s.next - a) j x e (moved j x p e)
+      at_behind first (rows ++ last) (length rows + j) x (let f = how_many_atoms 0 n in omega (arith, f, e))
+      ∙ at_behind rows last j (length rows + j) refl ∙ at_count k (s.next - k) j x e (moved j x p e)
     where
-      moved : (j x : ℕ) → nat_lt x s.next ≡ true → x ≡ a + j → nat_lt j (s.next - a) ≡ true
+      moved : (j x : ℕ) → nat_lt x s.next ≡ true → x ≡ k + j → nat_lt j (s.next - k) ≡ true
       moved j x p e = grind (arith, nat_tests)
 
-  pub worth_clauses : (v : Valuation) → blocks_below a m bs ≡ true → clauses_true v atoms_of s.clauses ≡ all_in (worth_in v atoms_of) s.clauses
+  pub at_unit : (b x : ℕ) → atom_in cs b ≡ Some x → at atoms_of x ≡ Some (IsTruth x)
+  at_unit b x e =
+      let i = table_inside k ms b x e in
+      let more = entry_more cs t (k + marked ms) bs in
+      at_name i.0 x i.1.0 (one_below x s.next (let j = i.1.0 in let lt = i.1.1 in omega (arith, j, lt, more)))
+
+  pub units_there : units_below (k + marked ms) cs ≡ true
+  units_there = table_below (k + marked ms) k ms (omega arith)
+
+  -- what the clauses name is there
+  named_there : blocks_below k (bools_at ms) bs ≡ true → clauses_below s.next s.clauses ≡ true
+  named_there fits =
+      entry_below cs t (k + marked ms) (bools_at ms) units_there bs (blocks_lower k (k + marked ms) (bools_at ms) (omega arith) bs fits)
+
+  pub worth_clauses : (v : Valuation) → blocks_below k (bools_at ms) bs ≡ true → clauses_true v atoms_of s.clauses ≡ all_in (worth_in v atoms_of) s.clauses
   worth_clauses v fits =
-      clauses_same v atoms_of s.clauses (subst (λ k. clauses_below k s.clauses ≡ true) (sym many) (entry_below n m t a (omega arith) bs fits))
+      clauses_same v atoms_of s.clauses (subst (λ i. clauses_below i s.clauses ≡ true) (sym many) (named_there fits))
 
   -- the formula is whole
-  pub formula_whole : blocks_below a m bs ≡ true → rows_below terms rows ≡ true → is_whole (formula n m terms rows t bs) ≡ true
+  pub formula_whole : blocks_below k (bools_at ms) bs ≡ true → rows_below terms rows ≡ true → is_whole (formula n ms terms rows t bs) ≡ true
   formula_whole fits there =
-      let units = map Some (count_from n m) in
-      let all = rows_append terms first (rows ++ last) (no_rows terms (count_from 0 (n + m))) (rows_append terms rows last there (no_rows terms (count_from a (s.next - a)))) in
-      let named = and_both (units_below s.next units) (rows_below terms atoms_of) (units_counted s.next n m (let e = entry_more n m t a bs in omega (arith, e))) all in
-      let both = and_both (clauses_below s.next s.clauses) (units_below s.next units && rows_below terms atoms_of) (entry_below n m t a (omega arith) bs fits) named in
-      subst (λ x. (clauses_below x s.clauses && (units_below x units && rows_below terms atoms_of)) ≡ true) (sym many) both
+      let all = rows_append terms first (rows ++ last) (no_rows terms (count_from 0 n)) (rows_append terms rows last there (no_rows terms (count_from k (s.next - k)))) in
+      let named = and_both (units_below s.next cs) (rows_below terms atoms_of) (table_below s.next k ms (let e = entry_more cs t (k + marked ms) bs in omega (arith, e))) all in
+      let both = and_both (clauses_below s.next s.clauses) (units_below s.next cs && rows_below terms atoms_of) (named_there fits) named in
+      subst (λ x. (clauses_below x s.clauses && (units_below x cs && rows_below terms atoms_of)) ≡ true) (sym many) both

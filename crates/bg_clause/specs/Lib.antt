@@ -4,6 +4,7 @@ pub mod Emitted
 pub mod Told
 pub mod Waiting
 pub mod Telling
+pub mod Tables
 pub mod Whole
 pub mod Valued
 pub mod Signs

@@ -1,5 +1,5 @@
 -- The clauses of blocks, from the last block back.
-use Rattle.std.specs.Prelude.{ℕ, suc, Bool, true, false, List, [], ◌∷◌, ◌++◌}
+use Rattle.std.specs.Prelude.{ℕ, suc, Bool, true, false, List, [], ◌∷◌, ◌++◌, Option}
 use Rattle.bg_ast.specs.Execution.{Spot}
 use Rattle.bg_formed.specs.Formed.{FormBlock}
 use Rattle.bg_formula.specs.declared.atom.Literal.{Literal}
@@ -34,16 +34,16 @@ abbrev pub nothing : ℕ → Told
 nothing a = record { fails = []; clauses = []; next = a }
 
 -- what is told of blocks in front of others
-abbrev pub told : ℕ → Spot → Told → List FormBlock → Told
-told n t s [] = s
-told n t s (b ∷ bs) =
-    let d = told n t s bs in let f = fail_block n t d.fails b in told_by (is_short f) f d
+abbrev pub told : List (Option ℕ) → Spot → Told → List FormBlock → Told
+told cs t s [] = s
+told cs t s (b ∷ bs) =
+    let d = told cs t s bs in let f = fail_block cs t d.fails b in told_by (is_short f) f d
 
 -- this form is true
 abbrev pub with_entry : Form → Told → Told
 with_entry f s = record s { clauses = s.clauses ++ emitted [] f s.next; next = after f s.next }
 
 -- the first block fails
-abbrev pub entry_told : ℕ → Spot → ℕ → List FormBlock → Told
-entry_told n t a [] = with_entry (Plain false) (nothing a)
-entry_told n t a (b ∷ bs) = let s = told n t (nothing a) bs in with_entry (fail_block n t s.fails b) s
+abbrev pub entry_told : List (Option ℕ) → Spot → ℕ → List FormBlock → Told
+entry_told cs t a [] = with_entry (Plain false) (nothing a)
+entry_told cs t a (b ∷ bs) = let s = told cs t (nothing a) bs in with_entry (fail_block cs t s.fails b) s

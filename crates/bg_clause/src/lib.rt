@@ -9,6 +9,7 @@ mod naming;
 mod pairs;
 mod short;
 mod signs;
+mod table;
 mod tell;
 mod waiting;
 mod ways;

@@ -68,14 +68,14 @@ fn tell(alloc: Global, s: &mut Telling, f: Form) -> Result<(), AllocError>
 /// One more block in front.
 fn tell_block(
     alloc: Global,
-    count: u32,
+    units: &[Option<u32>],
     target: Spot,
     s: &mut Telling,
     b: &FormBlock,
 ) -> Result<(), AllocError>
-    ensures { OnOk result (telling_of s.new ≡ told count (spot_of target) (telling_of s.old) (form_block_of b.now ∷ [])) }
+    ensures { OnOk result (telling_of s.new ≡ told units.now (spot_of target) (telling_of s.old) (form_block_of b.now ∷ [])) }
 {
-    let f = fail_block(alloc, count, target, &s.fails, b)?;
+    let f = fail_block(alloc, units, target, &s.fails, b)?;
     tell(alloc, s, f)
 }
 
@@ -83,17 +83,17 @@ fn tell_block(
 #[tactic(auto, using(crate::proofs::Onward::told_rules))]
 fn tell_blocks(
     alloc: Global,
-    count: u32,
+    units: &[Option<u32>],
     target: Spot,
     first: u32,
     blocks: &[FormBlock],
 ) -> Result<Telling, AllocError>
-    ensures { IfOk result (λ s. telling_of s ≡ told count (spot_of target) (nothing first) (map form_block_of blocks.now)) }
+    ensures { IfOk result (λ s. telling_of s ≡ told units.now (spot_of target) (nothing first) (map form_block_of blocks.now)) }
 {
     let mut s = nothing(alloc, first);
     let mut left: &[FormBlock] = blocks;
     while let Some((last, before)) = left.split_last() {
-        tell_block(alloc, count, target, &mut s, last)?;
+        tell_block(alloc, units, target, &mut s, last)?;
         left = before;
     }
     Ok(s)
@@ -112,18 +112,18 @@ fn claim(alloc: Global, s: Telling, f: Form) -> Result<Telling, AllocError>
 /// The first block fails. The numbers from this one on are free.
 pub fn tell_entry(
     alloc: Global,
-    count: u32,
+    units: &[Option<u32>],
     target: Spot,
     first: u32,
     blocks: &[FormBlock],
 ) -> Result<Telling, AllocError>
-    ensures { IfOk result (λ s. telling_of s ≡ entry_told count (spot_of target) first (map form_block_of blocks.now)) }
+    ensures { IfOk result (λ s. telling_of s ≡ entry_told units.now (spot_of target) first (map form_block_of blocks.now)) }
 {
     match blocks.split_first() {
         None => claim(alloc, nothing(alloc, first), Form::Plain(false)),
         Some((b, rest)) => {
-            let s = tell_blocks(alloc, count, target, first, rest)?;
-            let f = fail_block(alloc, count, target, &s.fails, b)?;
+            let s = tell_blocks(alloc, units, target, first, rest)?;
+            let f = fail_block(alloc, units, target, &s.fails, b)?;
             claim(alloc, s, f)
         }
     }

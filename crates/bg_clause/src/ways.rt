@@ -28,16 +28,16 @@ fn fail_later(later: &VecDeque<Short>, to: usize) -> Form
 /// One way more, in front of others.
 fn fail_edge(
     alloc: Global,
-    count: u32,
+    units: &[Option<u32>],
     target: Spot,
     later: &VecDeque<Short>,
     e: &FormEdge,
     rest: Form,
 ) -> Result<Form, AllocError>
-    ensures { IfOk result (λ x. form_in x ≡ any_of (fail_cmds count (spot_of target) (form_cmds_of e.now.cmds.items) (fail_later (map short_in later.now.items) e.now.to)) (form_in rest)) }
+    ensures { IfOk result (λ x. form_in x ≡ any_of (fail_cmds units.now (spot_of target) (form_cmds_of e.now.cmds.items) (fail_later (map short_in later.now.items) e.now.to)) (form_in rest)) }
 {
     let ahead = fail_later(later, e.to);
-    let here = fail_cmds(alloc, count, target, &e.cmds, ahead)?;
+    let here = fail_cmds(alloc, units, target, &e.cmds, ahead)?;
     any_of(alloc, here, rest)
 }
 
@@ -45,17 +45,17 @@ fn fail_edge(
 #[tactic(auto, using(crate::proofs::Onward::fail_rules))]
 fn fail_edges(
     alloc: Global,
-    count: u32,
+    units: &[Option<u32>],
     target: Spot,
     later: &VecDeque<Short>,
     edges: &[FormEdge],
 ) -> Result<Form, AllocError>
-    ensures { IfOk result (λ x. form_in x ≡ fail_edges count (spot_of target) (map short_in later.now.items) (map form_edge_of edges.now)) }
+    ensures { IfOk result (λ x. form_in x ≡ fail_edges units.now (spot_of target) (map short_in later.now.items) (map form_edge_of edges.now)) }
 {
     let mut made = Form::Plain(false);
     let mut left: &[FormEdge] = edges;
     while let Some((last, before)) = left.split_last() {
-        made = fail_edge(alloc, count, target, later, last, made)?;
+        made = fail_edge(alloc, units, target, later, last, made)?;
         left = before;
     }
     Ok(made)
@@ -64,13 +64,13 @@ fn fail_edges(
 /// A block fails.
 pub fn fail_block(
     alloc: Global,
-    count: u32,
+    units: &[Option<u32>],
     target: Spot,
     later: &VecDeque<Short>,
     b: &FormBlock,
 ) -> Result<Form, AllocError>
-    ensures { IfOk result (λ x. form_in x ≡ fail_block count (spot_of target) (map short_in later.now.items) (form_block_of b.now)) }
+    ensures { IfOk result (λ x. form_in x ≡ fail_block units.now (spot_of target) (map short_in later.now.items) (form_block_of b.now)) }
 {
-    let on = fail_edges(alloc, count, target, later, &b.next)?;
-    fail_cmds(alloc, count, target, &b.cmds, on)
+    let on = fail_edges(alloc, units, target, later, &b.next)?;
+    fail_cmds(alloc, units, target, &b.cmds, on)
 }

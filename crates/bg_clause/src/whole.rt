@@ -1,5 +1,5 @@
 //! The clauses of the blocks of an implementation for one target.
-ghost use Rattle.std.specs.Prelude.{◌≡◌, ◌+◌, ◌-◌, ◌≤◌, ◌++◌, length, map, Some, IfOk, OnOk};
+ghost use Rattle.std.specs.Prelude.{◌≡◌, ◌+◌, ◌-◌, ◌≤◌, ◌++◌, length, map, IfOk, OnOk};
 ghost use Rattle.bg_places.specs.Views.{spot_of};
 ghost use Rattle.bg_sense.specs.Variables.{count_from};
 ghost use Rattle.bg_rows.specs.Rows.{Told, row_of};
@@ -8,6 +8,7 @@ ghost use Rattle.bg_formula.specs.Formulas.{formula_of};
 ghost use Rattle.bg_formed.specs.Views.{form_block_of};
 ghost use Rattle.bg_clause.specs.Whole.{formula, clauses_of};
 
+use crate::table::{Tabled, table};
 use crate::tell::{Telling, tell_entry};
 use bg_formed::{FormBlock, refused};
 use bg_formula::{Atom, Clauses, Linear};
@@ -47,19 +48,6 @@ fn add_rows(alloc: Global, atoms: &mut Vec<Atom>, rows: &[Linear]) -> Result<(),
     Ok(())
 }
 
-/// The atoms from one number on, before another.
-#[tactic(auto, using(crate::proofs::Counted::count_rules))]
-fn atoms_from(alloc: Global, first: u32, end: u32) -> Result<Vec<Option<u32>>, AllocError>
-    requires { first ≤ end }
-    ensures { IfOk result (λ made. made.items ≡ map Some (count_from first (end - first))) }
-{
-    let mut made = Vec::new(alloc);
-    for a in first..end {
-        made.push(Some(a))?;
-    }
-    Ok(made)
-}
-
 /// The sum; more than 2^32 - 1 counts as want of memory.
 fn sum(a: u32, b: u32) -> Result<u32, AllocError>
     ensures { IfOk result (λ c. c ≡ a + b) }
@@ -87,39 +75,39 @@ fn formula(
     target: Spot,
     blocks: &[FormBlock],
 ) -> Result<Clauses, AllocError>
-    ensures { IfOk result (λ made. formula_of made ≡ formula names.now.first names.now.candidates names.now.terms (map view_linear names.now.rows.now) (spot_of target) (map form_block_of blocks.now)) }
+    ensures { IfOk result (λ made. formula_of made ≡ formula names.now.first names.now.named.now names.now.terms (map view_linear names.now.rows.now) (spot_of target) (map form_block_of blocks.now)) }
 {
-    let truths = sum(names.first, names.candidates)?;
-    let free = sum(truths, count(names.rows)?)?;
+    let base = sum(names.first, count(names.rows)?)?;
+    let Tabled { units, next: free } = table(alloc, base, names.named)?;
     let Telling {
         fails: _,
         clauses,
         next,
-    } = tell_entry(alloc, names.first, target, free, blocks)?;
+    } = tell_entry(alloc, &units, target, free, blocks)?;
     let mut atoms = Vec::new(alloc);
-    add_truths(&mut atoms, 0, truths)?;
+    add_truths(&mut atoms, 0, names.first)?;
     add_rows(alloc, &mut atoms, names.rows)?;
-    add_truths(&mut atoms, free, next)?;
-    let candidates = atoms_from(alloc, names.first, truths)?;
+    add_truths(&mut atoms, base, next)?;
     Ok(Clauses {
         terms: names.terms,
         atoms,
         clauses,
-        candidates,
+        candidates: units,
     })
 }
 
-/// What the atoms of forms are: truth variables below `first`, behind them one for each candidate, and then the rows, which name terms
-/// below `terms`.
+/// What the atoms of forms are: truth variables below `first`, and behind them the rows, which name terms below `terms`. The candidates
+/// that are named, a truth value for each of the program's, get the atoms behind these, in order.
 #[derive(Clone, Copy)]
 pub struct Names<'a> {
     pub first: u32,
-    pub candidates: u32,
+    pub named: &'a [bool],
     pub terms: u32,
     pub rows: &'a [Linear],
 }
 
-/// The clauses that say that the first block is not well for the target. Atoms behind the rows are names of parts of forms.
+/// The clauses that say that the first block is not well for the target, where a candidate that isn't named isn't there. Atoms behind
+/// those of candidates are names of parts of forms.
 ///
 /// # Errors
 /// `Range` with the first operation that leaves 128 bits in a form of a command from which the target's check is reached; and want
@@ -130,7 +118,7 @@ pub fn clauses(
     target: Spot,
     blocks: &[FormBlock],
 ) -> Result<Clauses, Refused>
-    ensures { Told formula_of result (clauses_of names.now.first names.now.candidates names.now.terms (map view_linear names.now.rows.now) (spot_of target) (map form_block_of blocks.now)) }
+    ensures { Told formula_of result (clauses_of names.now.first names.now.named.now names.now.terms (map view_linear names.now.rows.now) (spot_of target) (map form_block_of blocks.now)) }
 {
     if let Some(e) = refused(alloc, target, blocks)? {
         return Err(Refused::Range(e));

@@ -16,13 +16,15 @@ use Rattle.bg_formed.specs.Formed.{FormBlock, blocks_below}
 use Rattle.bg_formed.specs.Wells.{form_equations}
 use Rattle.bg_formed.specs.Said.{SaidBlocks}
 use Rattle.bg_formed.specs.Used.{refused}
+use Rattle.bg_forms.specs.Worth.{bools_at}
+use Rattle.bg_clause.specs.Tables.{there_in}
 use Rattle.bg_clause.specs.Whole.{clauses_of}
 use Rattle.bg_linear.specs.declared.scalar.Sort.{Sort}
 use Rattle.bg_linear.specs.declared.scalar.Sort.TheVariants as sort
 use Rattle.bg_linear.specs.Sorts.{scalar_values, HoldScalars}
 use Rattle.bg_atoms.specs.Ranks.{rank}
 use Rattle.bg_faithful.specs.Encoded.{Encoding, Encodes}
-use Rattle.bg_faithful.proofs.Packed.{behind, behind_past, behind_below, packed, packed_at, packed_past, rank_below, row_worths, rows_agree, values_same}
+use Rattle.bg_faithful.proofs.Packed.{packed, packed_at, packed_past, rank_below, row_worths, rows_agree, values_same}
 
 -- ---- what the laws of the crates below say
 
@@ -34,56 +36,50 @@ AlikeLaw =
 
 abbrev MetLaw : Type 0
 MetLaw =
-    (first candidates terms : ℕ) (rows : List AtomOf) (target : Spot) (blocks : List FormBlock) (f : Formula) → clauses_of first candidates terms rows target blocks ≡ Ok f →
-    blocks_below (first + candidates + length rows) candidates blocks ≡ true →
-    (numbers : ℕ → ℤ) (truth set : ℕ → Bool) → ((b : ℕ) → b < candidates → truth (first + b) ≡ set b) → RowsAgree numbers truth (first + candidates) rows →
+    (first terms : ℕ) (named : List Bool) (rows : List AtomOf) (target : Spot) (blocks : List FormBlock) (f : Formula) → clauses_of first named terms rows target blocks ≡ Ok f →
+    blocks_below (first + length rows) (bools_at named) blocks ≡ true →
+    (numbers : ℕ → ℤ) (truth set : ℕ → Bool) → RowsAgree numbers truth first rows →
     is_well (slice_get (form_equations set target truth blocks) 0) ≡ false →
-    (v : Valuation) × ((v.numbers ≡ numbers) × (((j : ℕ) → j < first + candidates → v.truths j ≡ truth j) × (clauses_true v f.atoms f.clauses ≡ true)))
+    (v : Valuation) × ((v.numbers ≡ numbers) × (((j : ℕ) → j < first → v.truths j ≡ truth j) ×
+    (((b : ℕ) → bools_at named b ≡ true → there_in f.candidates v.truths b ≡ set b) × (clauses_true v f.atoms f.clauses ≡ true))))
 
 abbrev InsideLaw : Type 0
 InsideLaw =
-    (first candidates terms : ℕ) (rows : List AtomOf) (target : Spot) (blocks : List FormBlock) (f : Formula) → clauses_of first candidates terms rows target blocks ≡ Ok f → refused target blocks ≡ None
+    (first terms : ℕ) (named : List Bool) (rows : List AtomOf) (target : Spot) (blocks : List FormBlock) (f : Formula) → clauses_of first named terms rows target blocks ≡ Ok f → refused target blocks ≡ None
 
 -- what holds truth values holds those that are the same at truth incarnations
 hold_same : (ss : List Sort) (numbers : ℕ → ℤ) (t u : ℕ → Bool) (frame : List Val) → HoldScalars ss numbers t frame → ((j : ℕ) → slice_get ss j ≡ Some sort.Truth → t j ≡ u j) → HoldScalars ss numbers u frame
 hold_same ss numbers t u frame h f = record { number = h.number; truth = λ j e. h.truth j e ∙ ap Truth (f j e) }
 
-module _ (alike : AlikeLaw) (met : MetLaw) (inside : InsideLaw) (sorts : List Sort) (m : ℕ) (bs : List PassiveBlock) (a : Encoding) (is : Encodes sorts m bs a) (t : Spot) (f : Formula) (made : clauses_of a.first m a.terms a.rows t a.blocks ≡ Ok f) where
-  same : (set w : ℕ → Bool) (numbers : ℕ → ℤ) (c : Scope) → RowsAgree numbers w (a.first + m) a.rows → HoldScalars sorts numbers (λ j. w (rank sorts j)) c.frame → is_well (slice_get (form_equations set t w a.blocks) 0) ≡ is_well (slice_get (equations set t c bs) 0)
+module _ (alike : AlikeLaw) (met : MetLaw) (inside : InsideLaw) (sorts : List Sort) (m : ℕ) (bs : List PassiveBlock) (a : Encoding) (is : Encodes sorts m bs a) (t : Spot) (f : Formula) (made : clauses_of a.first a.named a.terms a.rows t a.blocks ≡ Ok f) where
+  same : (set w : ℕ → Bool) (numbers : ℕ → ℤ) (c : Scope) → RowsAgree numbers w a.first a.rows → HoldScalars sorts numbers (λ j. w (rank sorts j)) c.frame → is_well (slice_get (form_equations set t w a.blocks) 0) ≡ is_well (slice_get (equations set t c bs) 0)
   same set w numbers c r h =
-      alike set t w c bs a.blocks (is.said numbers w c r h) (inside a.first m a.terms a.rows t a.blocks f made)
+      alike set t w c bs a.blocks (is.said numbers w c r h) (inside a.first a.terms a.named a.rows t a.blocks f made)
 
-  low : (j : ℕ) → slice_get sorts j ≡ Some sort.Truth → rank sorts j < a.first + m
+  low : (j : ℕ) → slice_get sorts j ≡ Some sort.Truth → rank sorts j < a.first
   low j e = let h = rank_below sorts j e in let g = is.first in omega (arith, h, g)
 
   abbrev pub Valued : List Val → (ℕ → Bool) → Type 0
   Valued values set =
       (v : Valuation) × ((values ≡ scalar_values v.numbers (λ j. v.truths (rank sorts j)) sorts)
-      × (((b : ℕ) → b < m → v.truths (a.first + b) ≡ set b)
+      × (((b : ℕ) → bools_at a.named b ≡ true → there_in f.candidates v.truths b ≡ set b)
       × (clauses_true v f.atoms f.clauses ≡ true)))
 
   module _ (numbers : ℕ → ℤ) (bits set : ℕ → Bool) where
-    -- truth values of atoms: truth incarnations, candidates, rows
-    abbrev others : ℕ → Bool
-    others = behind m set (row_worths numbers a.rows)
-
+    -- truth values of atoms: truth incarnations, rows
     abbrev w : ℕ → Bool
-    w = packed sorts bits others
+    w = packed sorts bits (row_worths numbers a.rows)
 
     of_truths : (j : ℕ) → slice_get sorts j ≡ Some sort.Truth → bits j ≡ w (rank sorts j)
-    of_truths j e = sym (packed_at sorts bits others j (rank sorts j) e refl)
+    of_truths j e = sym (packed_at sorts bits (row_worths numbers a.rows) j (rank sorts j) e refl)
 
-    of_candidates : (b : ℕ) → b < m → w (a.first + b) ≡ set b
-    of_candidates b lt =
-        packed_past sorts bits others b (a.first + b) (ap (λ n. n + b) is.first) ∙ behind_below m set (row_worths numbers a.rows) b lt
-
-    of_rows : RowsAgree numbers w (a.first + m) a.rows
+    of_rows : RowsAgree numbers w a.first a.rows
     of_rows =
-        rows_agree numbers w (a.first + m) a.rows is.rows (λ j x e. let g = is.first in packed_past sorts bits others (m + j) x (omega (arith, e, g)) ∙ behind_past m set (row_worths numbers a.rows) j (m + j) refl)
+        rows_agree numbers w a.first a.rows is.rows (λ j x e. let g = is.first in packed_past sorts bits (row_worths numbers a.rows) j x (omega (arith, e, g)))
 
     pub valued : (p : Prog) (i : Interp) (values : List Val) → values ≡ scalar_values numbers bits sorts → HoldScalars sorts numbers bits values → is_well (slice_get (equations set t (passive_scope p i values) bs) 0) ≡ false → Valued values set
     valued p i values read held q =
         let held_here = hold_same sorts numbers bits (λ j. w (rank sorts j)) values held of_truths in
-        let x = met a.first m a.terms a.rows t a.blocks f made is.below numbers w set of_candidates of_rows (same set w numbers (passive_scope p i values) of_rows held_here ∙ q) in
+        let x = met a.first a.terms a.named a.rows t a.blocks f made is.below numbers w set of_rows (same set w numbers (passive_scope p i values) of_rows held_here ∙ q) in
         let v = x.0 in
-        (v, (read ∙ (ap (λ z. scalar_values z bits sorts) (sym x.1.0) ∙ values_same sorts v.numbers bits (λ j. v.truths (rank sorts j)) (λ j e. of_truths j e ∙ sym (x.1.1.0 (rank sorts j) (low j e)))), ((λ b lt. x.1.1.0 (a.first + b) (omega arith) ∙ of_candidates b lt), x.1.1.1)))
+        (v, (read ∙ (ap (λ z. scalar_values z bits sorts) (sym x.1.0) ∙ values_same sorts v.numbers bits (λ j. v.truths (rank sorts j)) (λ j e. of_truths j e ∙ sym (x.1.1.0 (rank sorts j) (low j e)))), (x.1.1.1.0, x.1.1.1.1)))

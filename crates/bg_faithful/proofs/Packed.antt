@@ -1,4 +1,4 @@
--- Truth values of atoms by pieces: those of truth incarnations, of candidates, and of rows.
+-- Truth values of atoms by pieces: those of truth incarnations, and of rows.
 use Rattle.std.proofs.Common.{◌≡◌, ℕ, ℤ, zero, suc, ◌+◌, ◌<◌, Bool, false, List, [], ◌∷◌, Some, refl, ap, ◌∙◌, arith}
 use Rattle.std.specs.Prelude.{slice_get}
 use Rattle.bg_rows.specs.Rows.{holds}
@@ -9,22 +9,6 @@ use Rattle.bg_linear.specs.declared.scalar.Sort.TheVariants as sort
 use Rattle.bg_linear.specs.Sorts.{scalar_value, scalar_values}
 use Rattle.bg_ast.specs.Values.{Truth}
 use Rattle.bg_atoms.specs.Ranks.{rank, truths}
-
--- those of one function below a number, and behind it those of another
-abbrev pub behind : ℕ → (ℕ → Bool) → (ℕ → Bool) → ℕ → Bool
-behind zero f g j = g j
-behind (suc n) f g zero = f zero
-behind (suc n) f g (suc j) = behind n (λ k. f (suc k)) g j
-
-pub behind_past : (n : ℕ) (f g : ℕ → Bool) (j x : ℕ) → x ≡ n + j → behind n f g x ≡ g j
-behind_past zero f g j x e = ap g (omega (arith, e))
-behind_past (suc n) f g j zero e = absurd (omega (arith, e))
-behind_past (suc n) f g j (suc x) e = behind_past n (λ k. f (suc k)) g j x (omega (arith, e))
-
-pub behind_below : (n : ℕ) (f g : ℕ → Bool) (x : ℕ) → x < n → behind n f g x ≡ f x
-behind_below zero f g x l = absurd (omega arith)
-behind_below (suc n) f g zero l = refl
-behind_below (suc n) f g (suc x) l = behind_below n (λ k. f (suc k)) g x (omega arith)
 
 -- those of truth incarnations by rank, and behind them those of another function
 abbrev pub packed : List Sort → (ℕ → Bool) → (ℕ → Bool) → ℕ → Bool

@@ -15,6 +15,8 @@ ghost use Rattle.bg_formula.specs.Formulas.{Formula, is_whole};
 ghost use Rattle.bg_formula.specs.Meaning.{Valuation, clauses_true};
 ghost use Rattle.bg_incarnate.specs.Even.{BlocksEven};
 ghost use Rattle.bg_fits.specs.Scalars.{is_over_scalars};
+ghost use Rattle.bg_forms.specs.Worth.{bools_at};
+ghost use Rattle.bg_clause.specs.Tables.{there_in};
 ghost use Rattle.bg_clause.specs.Whole.{clauses_of};
 ghost use Rattle.bg_linear.specs.Sorts.{scalar_values, HoldScalars};
 ghost use Rattle.bg_atoms.specs.Ranks.{rank};
@@ -83,11 +85,11 @@ pub fn no_interpretation_is_needed_for_scalars()
 pub fn clauses_over_scalars_fail_alike()
     ensures met { (p : Prog) (k : ℕ) (m : Impl) (q : Proc) → IsTyped p → is_over_scalars true p ≡ true →
         slice_get p.implementations k ≡ Some m → procedure_of p m.procedure ≡ Some q →
-        (a : Encoding) → IsEncoding p k m q a → (target : Spot) (f : Formula) → clauses_of a.first p.candidates a.terms a.rows target a.blocks ≡ Ok f →
+        (a : Encoding) → IsEncoding p k m q a → (target : Spot) (f : Formula) → clauses_of a.first a.named a.terms a.rows target a.blocks ≡ Ok f →
         (i : Interp) (values : List Val) (set : ℕ → Bool) → are_of (incarnations_in p k m q) values ≡ true →
         is_well (slice_get (equations set target (passive_scope p i values) (passives_in p k m q)) 0) ≡ false →
         (v : Valuation) × ((values ≡ scalar_values v.numbers (λ j. v.truths (rank (sorts_in p k m q) j)) (sorts_in p k m q))
-        × (((b : ℕ) → b < p.candidates → v.truths (a.first + b) ≡ set b)
+        × (((b : ℕ) → bools_at a.named b ≡ true → there_in f.candidates v.truths b ≡ set b)
         × (clauses_true v f.atoms f.clauses ≡ true))) }
 {
     blocks_of_forms_are_well_alike();
@@ -99,7 +101,7 @@ pub fn clauses_over_scalars_fail_alike()
 pub fn clauses_over_scalars_are_whole()
     ensures { (p : Prog) (k : ℕ) (m : Impl) (q : Proc) → IsTyped p → is_over_scalars true p ≡ true →
         slice_get p.implementations k ≡ Some m → procedure_of p m.procedure ≡ Some q →
-        (a : Encoding) → IsEncoding p k m q a → (target : Spot) (f : Formula) → clauses_of a.first p.candidates a.terms a.rows target a.blocks ≡ Ok f → is_whole f ≡ true }
+        (a : Encoding) → IsEncoding p k m q a → (target : Spot) (f : Formula) → clauses_of a.first a.named a.terms a.rows target a.blocks ≡ Ok f → is_whole f ≡ true }
 {
     atoms_of_clauses()
 }

@@ -1,5 +1,5 @@
 -- What counts for a target is well by its forms where it is by its expressions.
-use Rattle.std.proofs.Common.{◌≡◌, ℕ, zero, suc, Bool, true, false, List, [], ◌∷◌, Option, Some, None, Ok, Err, refl, sym, ap, ◌∙◌}
+use Rattle.std.proofs.Common.{◌≡◌, ℕ, zero, suc, Bool, true, false, List, [], ◌∷◌, Option, Some, None, Ok, Err, refl, sym, ◌∙◌}
 use Rattle.std.specs.Prelude.{not, ◌&&◌, ◌||◌, if◌then◌else◌, slice_get}
 use Rattle.bg_base.specs.declared.exact.OutOfRange.{OutOfRange}
 use Rattle.bg_ast.specs.Values.{truth_of}
@@ -8,11 +8,10 @@ use Rattle.bg_ast.specs.Execution.{Spot}
 use Rattle.bg_sense.specs.Eval.{Scope, ev}
 use Rattle.bg_passive.specs.Passive.{PassiveCmd, Claims, Supposes, Edge, PassiveBlock, spot_eq, is_absent}
 use Rattle.bg_passive.specs.Equations.{equation_cmds, is_well, all_well, equations}
-use Rattle.bg_forms.specs.Forms.{form_true}
-use Rattle.bg_formed.specs.Formed.{Says, FormCmd, Asks, Takes, FormEdge, FormBlock, said}
+use Rattle.bg_formed.specs.Formed.{Says, FormCmd, Asks, Takes, FormEdge, FormBlock}
 use Rattle.bg_formed.specs.Wells.{is_met, form_equation, all_form_well, form_equations}
 use Rattle.bg_formed.specs.Said.{IsSaid, SaidCmds, SaidEdges, SaidBlocks}
-use Rattle.bg_formed.specs.Used.{Use, unused, refusal_of, first_of, in_front, use_cmds, use_either, use_later, use_edges, use_block, uses, refused}
+use Rattle.bg_formed.specs.Used.{Use, unused, refusal_of, first_of, in_front, use_cmds, use_either, use_later, use_edges, uses, refused}
 
 -- what is not reached is well, and holds no refusal; without a refusal both are the same
 record Fine (u : Use) (x y : Bool) : Type 0 where
@@ -32,15 +31,12 @@ or_none true b e = absurd (let bad : ⊥ = cc in bad)
 or_none false b e = (refl, e)
 
 module _ (set w : ℕ → Bool) (t : Spot) (c : Scope) where
-  said_same : (e : Ex) (r : Says) → IsSaid w c e r → refusal_of r ≡ None → form_true w (said r) ≡ truth_of (ev e c)
-  said_same e (Ok f) h q = h
-  said_same e (Err x) h q = absurd (let bad : ⊥ = cc in bad)
+  met_same : (b d : Option ℕ) (e : Ex) (r : Says) → IsSaid w c b e d r → refusal_of r ≡ None → is_met set w d r ≡ (is_absent set b || truth_of (ev e c))
+  met_same b d e (Ok f) h q = rw (sym h.0, h.1) refl
+  met_same b d e (Err x) h q = absurd (let bad : ⊥ = cc in bad)
 
-  met_same : (b d : Option ℕ) (e : Ex) (r : Says) → b ≡ d → IsSaid w c e r → refusal_of r ≡ None → is_met set w d r ≡ (is_absent set b || truth_of (ev e c))
-  met_same b d e r s h q = rw (sym s, said_same e r h q) refl
-
-  front_fine : (u : Use) (b d : Option ℕ) (e : Ex) (r : Says) (x y : Bool) → b ≡ d → IsSaid w c e r → Fine u x y → Fine (in_front r u) (not (is_met set w d r) || x) (not (is_absent set b || truth_of (ev e c)) || y)
-  front_fine u b d e r x y s h f = on u.reached refl
+  front_fine : (u : Use) (b d : Option ℕ) (e : Ex) (r : Says) (x y : Bool) → IsSaid w c b e d r → Fine u x y → Fine (in_front r u) (not (is_met set w d r) || x) (not (is_absent set b || truth_of (ev e c)) || y)
+  front_fine u b d e r x y h f = on u.reached refl
     where
       on : (z : Bool) → u.reached ≡ z → Fine (if z then record { reached = true; refusal = first_of (refusal_of r) u.refusal } else u) (not (is_met set w d r) || x) (not (is_absent set b || truth_of (ev e c)) || y)
       on true q =
@@ -49,7 +45,7 @@ module _ (set w : ℕ → Bool) (t : Spot) (c : Scope) where
             same =
                 λ k.
                 let n = none_first (refusal_of r) u.refusal k in
-                rw (met_same b d e r s h n.0, f.same n.1) refl;
+                rw (met_same b d e r h n.0, f.same n.1) refl;
           }
       on false q =
           let a = f.away q in
@@ -77,11 +73,11 @@ module _ (set w : ℕ → Bool) (t : Spot) (c : Scope) where
             same =
                 λ k.
                 let n = none_first (refusal_of r) v.refusal k in
-                rw (met_same b d e r h.0.1.0 h.0.1.1 n.0, g.same n.1) refl;
+                rw (met_same b d e r h.0.1 n.0, g.same n.1) refl;
           }
-      on false g = front_fine v b d e r (form_equation set t w ls x) (equation_cmds set t c ks y) h.0.1.0 h.0.1.1 g
+      on false g = front_fine v b d e r (form_equation set t w ls x) (equation_cmds set t c ks y) h.0.1 g
   cmds_fine u (Supposes b e ∷ ks) (Takes d r ∷ ls) x y h f =
-      front_fine (use_cmds t ls u) b d e r (form_equation set t w ls x) (equation_cmds set t c ks y) h.0.0 h.0.1 (cmds_fine u ks ls x y h.1 f)
+      front_fine (use_cmds t ls u) b d e r (form_equation set t w ls x) (equation_cmds set t c ks y) h.0 (cmds_fine u ks ls x y h.1 f)
 
   abbrev AllFine : List Use → List Bool → List Bool → Type 0
   AllFine [] [] [] = Unit {0}

@@ -1,3 +1,4 @@
 pub mod Below
 mod Onward
 mod Alike
+mod Known

@@ -37,21 +37,25 @@ form_below n (NotSo f) = form_below n f
 form_below n (Both f g) = form_below n f && form_below n g
 form_below n (Same f g) = form_below n f && form_below n g
 
+-- a candidate, if any, is one of these
+abbrev pub is_of : (ℕ → Bool) → Option ℕ → Bool
+is_of these None = true
+is_of these (Some b) = these b
+
 -- a candidate, if any, below m
 abbrev pub fits_candidate : ℕ → Option ℕ → Bool
-fits_candidate m None = true
-fits_candidate m (Some b) = nat_lt b m
+fits_candidate m b = is_of (λ c. nat_lt c m) b
 
--- atoms below n and candidates below m alone
-abbrev pub cmds_below : ℕ → ℕ → List FormCmd → Bool
-cmds_below n m [] = true
-cmds_below n m (Asks s b r ∷ ks) = fits_candidate m b && (form_below n (said r) && cmds_below n m ks)
-cmds_below n m (Takes b r ∷ ks) = fits_candidate m b && (form_below n (said r) && cmds_below n m ks)
+-- atoms below n and these candidates alone
+abbrev pub cmds_below : ℕ → (ℕ → Bool) → List FormCmd → Bool
+cmds_below n these [] = true
+cmds_below n these (Asks s b r ∷ ks) = is_of these b && (form_below n (said r) && cmds_below n these ks)
+cmds_below n these (Takes b r ∷ ks) = is_of these b && (form_below n (said r) && cmds_below n these ks)
 
-abbrev pub edges_below : ℕ → ℕ → List FormEdge → Bool
-edges_below n m [] = true
-edges_below n m (e ∷ es) = cmds_below n m e.cmds && edges_below n m es
+abbrev pub edges_below : ℕ → (ℕ → Bool) → List FormEdge → Bool
+edges_below n these [] = true
+edges_below n these (e ∷ es) = cmds_below n these e.cmds && edges_below n these es
 
-abbrev pub blocks_below : ℕ → ℕ → List FormBlock → Bool
-blocks_below n m [] = true
-blocks_below n m (b ∷ bs) = cmds_below n m b.cmds && (edges_below n m b.next && blocks_below n m bs)
+abbrev pub blocks_below : ℕ → (ℕ → Bool) → List FormBlock → Bool
+blocks_below n these [] = true
+blocks_below n these (b ∷ bs) = cmds_below n these b.cmds && (edges_below n these b.next && blocks_below n these bs)

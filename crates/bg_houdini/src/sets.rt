@@ -9,7 +9,7 @@ use std::alloc::{AllocError, Global};
 pub fn truths_of(alloc: Global, set: &CandSet) -> Result<Vec<bool>, AllocError>
     ensures { IfOk result (λ made. made.items ≡ set.now) }
 {
-    let mut made = Vec::new(alloc);
+    let mut made = Vec::with_capacity(alloc, set.declared() as usize)?;
     for c in 0..set.declared() {
         made.push(set.has(CandId(c)))?;
     }

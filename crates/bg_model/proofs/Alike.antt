@@ -8,8 +8,7 @@ use Rattle.bg_ast.specs.Syntax.{Ex}
 use Rattle.bg_ast.specs.Execution.{Spot}
 use Rattle.bg_sense.specs.Eval.{Scope, ev}
 use Rattle.bg_passive.specs.Passive.{PassiveCmd, Claims, Supposes, spot_eq, is_absent, Walked, Stopped, Hit, walk_cmds}
-use Rattle.bg_forms.specs.Forms.{form_true}
-use Rattle.bg_formed.specs.Formed.{Says, FormCmd, Asks, Takes, said}
+use Rattle.bg_formed.specs.Formed.{Says, FormCmd, Asks, Takes}
 use Rattle.bg_formed.specs.Wells.{is_met}
 use Rattle.bg_formed.specs.Said.{IsSaid, SaidCmds}
 use Rattle.bg_formed.specs.Used.{Use, refusal_of, first_of, in_front, use_cmds}
@@ -106,12 +105,9 @@ module _ (set w : ℕ → Bool) (t : Spot) where
       one_append false (is_met set w b r) (over (ks ++ ls)) (over ks) g (fails_by (over ls) g) (fails_append ks ls g)
 
   module _ (c : Scope) where
-    said_same : (e : Ex) (r : Says) → IsSaid w c e r → refusal_of r ≡ None → form_true w (said r) ≡ truth_of (ev e c)
-    said_same e (Ok f) h q = h
-    said_same e (Err x) h q = absurd (let bad : ⊥ = cc in bad)
-
-    met_same : (b d : Option ℕ) (e : Ex) (r : Says) → b ≡ d → IsSaid w c e r → refusal_of r ≡ None → is_met set w d r ≡ (is_absent set b || truth_of (ev e c))
-    met_same b d e r s h q = rw (sym s, said_same e r h q) refl
+    met_same : (b d : Option ℕ) (e : Ex) (r : Says) → IsSaid w c b e d r → refusal_of r ≡ None → is_met set w d r ≡ (is_absent set b || truth_of (ev e c))
+    met_same b d e (Ok f) h q = rw (sym h.0, h.1) refl
+    met_same b d e (Err x) h q = absurd (let bad : ⊥ = cc in bad)
 
     -- a walk over forms that fails goes as the walk over their expressions
     pub walks_alike : (ks : List PassiveCmd) (ls : List FormCmd) (u : Use) (g : Bool) → SaidCmds w c ks ls → (use_cmds t ls u).refusal ≡ None → (g ≡ true → u.reached ≡ true) → fails_by (over ls) g ≡ true → over ls ≡ walk_cmds set t c ks
@@ -122,7 +118,7 @@ module _ (set w : ℕ → Bool) (t : Spot) where
     walks_alike (Supposes b x ∷ ks) (Asks s d r ∷ ls) u g h none reached e = absurd h
     walks_alike (Claims s b x ∷ ks) (Takes d r ∷ ls) u g h none reached e = absurd h
     walks_alike (Claims s b x ∷ ks) (Asks s2 d r ∷ ls) u g h none reached e =
-        one_alike (spot_eq s2 t) (is_met set w d r) (is_absent set b || truth_of (ev x c)) (over ls) (walk_cmds set t c ks) r (use_cmds t ls u) g (met_same b d x r h.0.1.0 h.0.1.1) (λ n f. walks_alike ks ls u g h.1 n reached f) (fails_reached ls u g reached) none e
+        one_alike (spot_eq s2 t) (is_met set w d r) (is_absent set b || truth_of (ev x c)) (over ls) (walk_cmds set t c ks) r (use_cmds t ls u) g (met_same b d x r h.0.1) (λ n f. walks_alike ks ls u g h.1 n reached f) (fails_reached ls u g reached) none e
         ∙ ap (λ s1. walk_one (spot_eq s1 t) (is_absent set b || truth_of (ev x c)) (walk_cmds set t c ks)) (sym h.0.0)
     walks_alike (Supposes b x ∷ ks) (Takes d r ∷ ls) u g h none reached e =
-        one_alike false (is_met set w d r) (is_absent set b || truth_of (ev x c)) (over ls) (walk_cmds set t c ks) r (use_cmds t ls u) g (met_same b d x r h.0.0 h.0.1) (λ n f. walks_alike ks ls u g h.1 n reached f) (fails_reached ls u g reached) none e
+        one_alike false (is_met set w d r) (is_absent set b || truth_of (ev x c)) (over ls) (walk_cmds set t c ks) r (use_cmds t ls u) g (met_same b d x r h.0) (λ n f. walks_alike ks ls u g h.1 n reached f) (fails_reached ls u g reached) none e

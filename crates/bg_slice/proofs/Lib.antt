@@ -5,3 +5,4 @@ mod Saying
 mod Onward
 mod Marking
 mod Sizes
+mod Guarding

@@ -85,6 +85,16 @@ pub one_over : (a n : ℕ) (ms : List Bool) → n ≤ a → length ms ≤ a - n 
 one_over a n ms h more =
     sym (marked_over (a - n) n ms more) ∙ ap (λ b. marked (λ k. k == b) n ms) (up_to a n h)
 
+from_none : (a : ℕ) → 0 + a ≡ a
+from_none a = search arith
+
+-- the same from the first number on
+pub first_at : (a : ℕ) (ms : List Bool) → a < length ms → slice_set ms a true ≡ marked (λ k. k == a) 0 ms
+first_at a ms less = sym (marked_at a 0 ms less) ∙ ap (λ b. marked (λ k. k == b) 0 ms) (from_none a)
+
+pub first_over : (a : ℕ) (ms : List Bool) → length ms ≤ a → ms ≡ marked (λ k. k == a) 0 ms
+first_over a ms more = sym (marked_over a 0 ms more) ∙ ap (λ b. marked (λ k. k == b) 0 ms) (from_none a)
+
 pub ruleset one_rules = (one_under, one_at, one_over)
 
 -- rows by marks of the atoms that blocks name are those that are left

@@ -1,6 +1,6 @@
 -- What is left says what the whole says, since it doesn't name the rows that are left out.
 use Rattle.std.proofs.Common.{◌≡◌, ℕ, suc, ◌<◌, ◌≤◌, Bool, true, false, List, [], ◌∷◌, refl, sym, ap, ◌∙◌, subst, arith}
-use Rattle.std.specs.Prelude.{◌==◌, ◌||◌, not, if◌then◌else◌, ℤ, Ok, Err}
+use Rattle.std.specs.Prelude.{◌==◌, ◌||◌, not, if◌then◌else◌, ℤ, Option, Ok, Err}
 use Rattle.std.proofs.lemmas.Bool.Decides.{nat_tests}
 use Rattle.bg_rows.specs.Rows.{holds}
 use Rattle.bg_formula.specs.Atoms.{AtomOf, IsTruth, IsRow}
@@ -14,17 +14,17 @@ use Rattle.bg_formed.specs.Formed.{Says, FormCmd, Asks, Takes, FormEdge, FormBlo
 use Rattle.bg_formed.specs.Said.{IsSaid, SaidCmds, SaidEdges, SaidBlocks}
 use Rattle.bg_formed.specs.Used.{Use, use_cmds, use_later, use_edges, uses}
 use Rattle.bg_formed.specs.Agree.{AreRows, RowsAgree}
-use Rattle.bg_slice.specs.Slices.{kept, slice_cmds, slice_edges, sliced, names_form, names_cmds, names_edges, names_blocks, row_if, sliced_rows}
+use Rattle.bg_slice.specs.Slices.{kept, kept_guard, slice_cmds, slice_edges, sliced, names_form, names_cmds, names_edges, names_blocks, row_if, sliced_rows}
 
-or_left : (a b : Bool) → a ≡ true → (a || b) ≡ true
+pub or_left : (a b : Bool) → a ≡ true → (a || b) ≡ true
 or_left true b e = refl
 or_left false b e = absurd (let bad : ⊥ = cc in bad)
 
-or_right : (a b : Bool) → b ≡ true → (a || b) ≡ true
+pub or_right : (a b : Bool) → b ≡ true → (a || b) ≡ true
 or_right true b e = refl
 or_right false b e = e
 
-own : (n : ℕ) → (n == n) ≡ true
+pub own : (n : ℕ) → (n == n) ≡ true
 own n = grind (arith, nat_tests)
 
 is_own : (j n : ℕ) → (j == n) ≡ true → j ≡ n
@@ -98,10 +98,10 @@ module _ (w v : ℕ → Bool) where
       rw (form_same f (λ j e. h j (or_left (names_form j f) (names_form j g) e)), form_same g (λ j e. h j (or_right (names_form j f) (names_form j g) e))) refl
 
   module _ (t : Spot) (c : Scope) where
-    kept_said : (x : Bool) (e : Ex) (r : Says) → ((j : ℕ) → names_form j (said (kept x r)) ≡ true → w j ≡ v j) → IsSaid w c e r → IsSaid v c e (kept x r)
-    kept_said true e (Ok f) h s = form_same f h ∙ s
-    kept_said true e (Err x) h s = tt
-    kept_said false e r h s = tt
+    kept_said : (x : Bool) (b : Option ℕ) (e : Ex) (d : Option ℕ) (r : Says) → ((j : ℕ) → names_form j (said (kept x r)) ≡ true → w j ≡ v j) → IsSaid w c b e d r → IsSaid v c b e (kept_guard x d) (kept x r)
+    kept_said true b e d (Ok f) h s = (s.0, form_same f h ∙ s.1)
+    kept_said true b e d (Err x) h s = s
+    kept_said false b e d r h s = tt
 
     cmds_left : (ps : List PassiveCmd) (ks : List FormCmd) (u : Use) → ((j : ℕ) → names_cmds j (slice_cmds t ks u) ≡ true → w j ≡ v j) → SaidCmds w c ps ks → SaidCmds v c ps (slice_cmds t ks u)
     cmds_left [] [] u h s = tt
@@ -113,10 +113,10 @@ module _ (w v : ℕ → Bool) where
     cmds_left (Claims s2 b e ∷ ps) (Takes d r ∷ ks) u h s = absurd s
     cmds_left (Claims s1 b e ∷ ps) (Asks s2 d r ∷ ks) u h s =
         let x = spot_eq s2 t || (use_cmds t ks u).reached in
-        ((s.0.0, (s.0.1.0, kept_said x e r (λ j q. h j (or_left (names_form j (said (kept x r))) (names_cmds j (slice_cmds t ks u)) q)) s.0.1.1)), cmds_left ps ks u (λ j q. h j (or_right (names_form j (said (kept x r))) (names_cmds j (slice_cmds t ks u)) q)) s.1)
+        ((s.0.0, kept_said x b e d r (λ j q. h j (or_left (names_form j (said (kept x r))) (names_cmds j (slice_cmds t ks u)) q)) s.0.1), cmds_left ps ks u (λ j q. h j (or_right (names_form j (said (kept x r))) (names_cmds j (slice_cmds t ks u)) q)) s.1)
     cmds_left (Supposes b e ∷ ps) (Takes d r ∷ ks) u h s =
         let x = (use_cmds t ks u).reached in
-        ((s.0.0, kept_said x e r (λ j q. h j (or_left (names_form j (said (kept x r))) (names_cmds j (slice_cmds t ks u)) q)) s.0.1), cmds_left ps ks u (λ j q. h j (or_right (names_form j (said (kept x r))) (names_cmds j (slice_cmds t ks u)) q)) s.1)
+        (kept_said x b e d r (λ j q. h j (or_left (names_form j (said (kept x r))) (names_cmds j (slice_cmds t ks u)) q)) s.0, cmds_left ps ks u (λ j q. h j (or_right (names_form j (said (kept x r))) (names_cmds j (slice_cmds t ks u)) q)) s.1)
 
     edges_left : (ps : List Edge) (later : List Use) (es : List FormEdge) → ((j : ℕ) → names_edges j (slice_edges t later es) ≡ true → w j ≡ v j) → SaidEdges w c ps es → SaidEdges v c ps (slice_edges t later es)
     edges_left [] later [] h s = tt

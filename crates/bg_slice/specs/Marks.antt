@@ -1,9 +1,9 @@
--- Marks of atoms, from one number on.
+-- Marks of atoms, or of candidates, from one number on.
 use Rattle.std.specs.Prelude.{ℕ, suc, Bool, ◌||◌, List, [], ◌∷◌}
 use Rattle.bg_formula.specs.Atoms.{AtomOf}
 use Rattle.bg_slice.specs.Slices.{row_if, no_row}
 
--- the marks of the atoms from n on, beside which atoms with a property are marked
+-- the marks of those from number n on, beside which those with a property are marked
 abbrev pub marked : (ℕ → Bool) → ℕ → List Bool → List Bool
 marked p n [] = []
 marked p n (m ∷ ms) = (m || p n) ∷ marked p (suc n) ms

@@ -1,5 +1,5 @@
 -- Blocks of forms and rows, cut down to what counts for a target. Atoms keep their numbers.
-use Rattle.std.specs.Prelude.{ℕ, suc, ◌==◌, Bool, true, false, ◌||◌, if◌then◌else◌, List, [], ◌∷◌, pos, negsuc, Err}
+use Rattle.std.specs.Prelude.{ℕ, zero, suc, ◌==◌, Bool, true, false, ◌||◌, if◌then◌else◌, List, [], ◌∷◌, Option, Some, None, pos, negsuc, Err}
 use Rattle.bg_base.specs.declared.exact.Op.TheVariants.{Negate}
 use Rattle.bg_formula.specs.Atoms.{AtomOf, IsRow}
 use Rattle.bg_ast.specs.Execution.{Spot}
@@ -17,11 +17,23 @@ abbrev pub kept : Bool → Says → Says
 kept true r = r
 kept false r = left_out
 
+-- so does its candidate
+abbrev pub kept_guard : Bool → Option ℕ → Option ℕ
+kept_guard true b = b
+kept_guard false b = None
+
+-- a command, which counts or not
+abbrev pub ask_if : Bool → Spot → Option ℕ → Says → FormCmd
+ask_if counts s b r = Asks s (kept_guard counts b) (kept counts r)
+
+abbrev pub take_if : Bool → Option ℕ → Says → FormCmd
+take_if counts b r = Takes (kept_guard counts b) (kept counts r)
+
 -- a command counts where it claims at the target, or the target's check is reached behind it
 abbrev pub slice_cmds : Spot → List FormCmd → Use → List FormCmd
 slice_cmds t [] u = []
-slice_cmds t (Asks s b r ∷ ks) u = Asks s b (kept (spot_eq s t || (use_cmds t ks u).reached) r) ∷ slice_cmds t ks u
-slice_cmds t (Takes b r ∷ ks) u = Takes b (kept (use_cmds t ks u).reached r) ∷ slice_cmds t ks u
+slice_cmds t (Asks s b r ∷ ks) u = ask_if (spot_eq s t || (use_cmds t ks u).reached) s b r ∷ slice_cmds t ks u
+slice_cmds t (Takes b r ∷ ks) u = take_if (use_cmds t ks u).reached b r ∷ slice_cmds t ks u
 
 abbrev pub slice_edge : Spot → List Use → FormEdge → FormEdge
 slice_edge t later e = record { cmds = slice_cmds t e.cmds (use_later later e.to); to = e.to }
@@ -64,6 +76,37 @@ names_edges n (e ∷ es) = names_cmds n e.cmds || names_edges n es
 abbrev pub names_blocks : ℕ → List FormBlock → Bool
 names_blocks n [] = false
 names_blocks n (b ∷ bs) = (names_cmds n b.cmds || names_edges n b.next) || names_blocks n bs
+
+-- ---- which candidates guard commands
+
+abbrev pub is_guard : ℕ → Option ℕ → Bool
+is_guard c None = false
+is_guard c (Some b) = c == b
+
+abbrev pub guards_cmd : ℕ → FormCmd → Bool
+guards_cmd c (Asks s b r) = is_guard c b
+guards_cmd c (Takes b r) = is_guard c b
+
+abbrev pub guards_cmds : ℕ → List FormCmd → Bool
+guards_cmds c [] = false
+guards_cmds c (k ∷ ks) = guards_cmd c k || guards_cmds c ks
+
+abbrev pub guards_edges : ℕ → List FormEdge → Bool
+guards_edges c [] = false
+guards_edges c (e ∷ es) = guards_cmds c e.cmds || guards_edges c es
+
+abbrev pub guards_blocks : ℕ → List FormBlock → Bool
+guards_blocks c [] = false
+guards_blocks c (b ∷ bs) = (guards_cmds c b.cmds || guards_edges c b.next) || guards_blocks c bs
+
+-- which of n candidates from number c on guard a command of the blocks
+abbrev pub guards_from : ℕ → ℕ → List FormBlock → List Bool
+guards_from c zero bs = []
+guards_from c (suc n) bs = guards_blocks c bs ∷ guards_from (suc c) n bs
+
+-- which of the first n candidates do
+abbrev pub guards_in : ℕ → List FormBlock → List Bool
+guards_in n bs = guards_from 0 n bs
 
 -- ---- rows
 

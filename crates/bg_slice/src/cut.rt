@@ -1,11 +1,13 @@
 //! Blocks of forms in which only what counts for a target says something.
 ghost use Rattle.std.specs.Prelude.{◌≡◌, ◌||◌, [], ◌∷◌, map, IfOk};
+ghost use Rattle.bg_text.specs.Views.{option_of};
+ghost use Rattle.bg_ast.specs.Views.{candidate_of};
 ghost use Rattle.bg_places.specs.Views.{spot_of};
 ghost use Rattle.bg_formed.specs.Seen.{use_of};
 ghost use Rattle.bg_formed.specs.Views.{says_of, form_cmd_of, form_cmds_of, form_edge_of, form_block_of};
-ghost use Rattle.bg_slice.specs.Slices.{left_out, kept, slice_cmds, slice_edge, slice_edges, slice_block, sliced};
+ghost use Rattle.bg_slice.specs.Slices.{left_out, kept, kept_guard, slice_cmds, slice_edge, slice_edges, slice_block, sliced};
 
-use bg_base::{Op, OutOfRange};
+use bg_base::{CandId, Op, OutOfRange};
 use bg_formed::{
     FormBlock, FormCmd, FormEdge, Says, Use, is_spot, use_cmd, use_edges, use_later, uses,
 };
@@ -36,18 +38,25 @@ fn kept(alloc: Global, counts: bool, r: &Says) -> Result<Says, AllocError>
     }
 }
 
+fn kept_guard(counts: bool, b: Option<CandId>) -> Option<CandId>
+    ensures { option_of candidate_of result ≡ kept_guard counts (option_of candidate_of b) }
+{
+    if counts { b } else { None }
+}
+
 /// One command in front of what is behind it.
 fn slice_cmd(alloc: Global, target: Spot, k: &FormCmd, u: Use) -> Result<FormCmd, AllocError>
     ensures { IfOk result (λ x. form_cmd_of x ∷ [] ≡ slice_cmds (spot_of target) (form_cmd_of k.now ∷ []) (use_of u)) }
 {
     match k {
         FormCmd::Claims(s, b, r) => {
-            let r = kept(alloc, is_spot(*s, target) || u.reached, r)?;
-            Ok(FormCmd::Claims(*s, *b, r))
+            let counts = is_spot(*s, target) || u.reached;
+            let r = kept(alloc, counts, r)?;
+            Ok(FormCmd::Claims(*s, kept_guard(counts, *b), r))
         }
         FormCmd::Supposes(b, r) => {
             let r = kept(alloc, u.reached, r)?;
-            Ok(FormCmd::Supposes(*b, r))
+            Ok(FormCmd::Supposes(kept_guard(u.reached, *b), r))
         }
     }
 }

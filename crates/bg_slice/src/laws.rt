@@ -1,5 +1,5 @@
 //! Laws of what is left for a target, which are proved of the definitions alone.
-ghost use Rattle.std.specs.Prelude.{◌≡◌, ℕ, ◌<◌, Bool, true, List, length, ℤ};
+ghost use Rattle.std.specs.Prelude.{◌≡◌, ℕ, ◌<◌, nat_lt, Bool, true, List, length, ℤ};
 ghost use Rattle.bg_ast.specs.Execution.{Spot};
 ghost use Rattle.bg_sense.specs.Eval.{Scope};
 ghost use Rattle.bg_passive.specs.Passive.{PassiveBlock};
@@ -10,17 +10,21 @@ ghost use Rattle.bg_formed.specs.Formed.{FormBlock, blocks_below};
 ghost use Rattle.bg_formed.specs.Said.{SaidBlocks};
 ghost use Rattle.bg_formed.specs.Used.{refused};
 ghost use Rattle.bg_formed.specs.Agree.{AreRows, RowsAgree};
-ghost use Rattle.bg_slice.specs.Slices.{sliced, sliced_rows};
+ghost use Rattle.bg_forms.specs.Worth.{bools_at};
+ghost use Rattle.bg_slice.specs.Slices.{sliced, sliced_rows, guards_in};
 
 /// The same operation leaves the range first, if any.
 pub fn slices_use_alike()
     ensures { (target : Spot) (blocks : List FormBlock) → refused target (sliced target blocks) ≡ refused target blocks }
 {}
 
-/// No atom and no candidate comes in.
+/// No atom and no candidate comes in; and the candidates of blocks are those that guard their commands.
 pub fn slices_are_below()
-    ensures { (target : Spot) (atoms candidates : ℕ) (blocks : List FormBlock) → blocks_below atoms candidates blocks ≡ true →
-        blocks_below atoms candidates (sliced target blocks) ≡ true }
+    ensures less { (target : Spot) (atoms : ℕ) (these : ℕ → Bool) (blocks : List FormBlock) → blocks_below atoms these blocks ≡ true →
+        blocks_below atoms these (sliced target blocks) ≡ true }
+    ensures named { (atoms candidates : ℕ) (blocks : List FormBlock) → blocks_below atoms (λ b. nat_lt b candidates) blocks ≡ true →
+        blocks_below atoms (bools_at (guards_in candidates blocks)) blocks ≡ true }
+    ensures count { (candidates : ℕ) (blocks : List FormBlock) → length (guards_in candidates blocks) ≡ candidates }
 {}
 
 /// As many rows are left, each with its denial, and no term comes in.

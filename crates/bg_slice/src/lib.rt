@@ -2,6 +2,7 @@
 #![tactic(auto)]
 
 mod cut;
+mod guards;
 pub mod laws;
 mod made;
 mod marks;

@@ -2,9 +2,10 @@
 use bg_formed::FormBlock;
 use bg_formula::Linear;
 
-/// Rows and blocks of forms, cut down to what counts for a target.
+/// Rows and blocks of forms, cut down to what counts for a target, and which candidates guard a command of these blocks.
 #[derive(Drop)]
 pub struct Slice {
     pub rows: Vec<Linear>,
     pub blocks: Vec<FormBlock>,
+    pub named: Vec<bool>,
 }

@@ -6,6 +6,7 @@ use bg_formed::{FormBlock, FormCmd, Says};
 use bg_forms::{Form, form_ex};
 use bg_linear::Sort;
 use bg_places::Spot;
+use bg_slice::slice;
 use bg_text::InfixSign;
 use std::alloc::Global;
 use std::test::Fail;
@@ -32,11 +33,44 @@ fn clauses_of_blocks_that_meet_again(rt: HostRuntime) -> Result<(), Fail> {
     let a = atoms(alloc, &[Sort::Truth; 2], 1, &passive.blocks)?.ok_or("no atoms")?;
     let names = Names {
         first: a.first,
-        candidates: 1,
+        named: &[true],
         terms: a.terms,
         rows: &a.rows,
     };
     assert!(rt; counts(alloc, &names, &a.blocks)? == (6, 6));
+    Ok(())
+}
+
+/// Two ways, each with checks of candidates. The choice of the way has number 0, the checks those behind it.
+const WAYS: &[u8] = b"const {:existential true} a: bool;
+const {:existential true} b: bool;
+const {:existential true} c: bool;
+procedure P(p: bool) { if (p) { assert a ==> p; } else { assert b ==> p; assert c ==> p; } }";
+
+/// The atoms of candidates, and how many atoms there are, for the check of the second candidate, over what counts for it.
+fn units(alloc: Global) -> Result<(Vec<Option<u32>>, usize), Fail> {
+    let passive = passive_of(alloc, &program(alloc, &[(WAYS, 1)])?)?;
+    let a = atoms(alloc, &[Sort::Truth], 3, &passive.blocks)?.ok_or("no atoms")?;
+    let s = slice(alloc, Spot::Assert(2), a.first, 3, &a.rows, &a.blocks)?;
+    let names = Names {
+        first: a.first,
+        named: &s.named,
+        terms: a.terms,
+        rows: &s.rows,
+    };
+    match clauses(alloc, &names, Spot::Assert(2), &s.blocks) {
+        Ok(f) => Ok((f.candidates, f.atoms.len())),
+        Err(_) => Err("refused".into()),
+    }
+}
+
+/// Atom 0 is the variable, atom 1 the one candidate that guards a command that counts; atom 2 stands for the block of its check, and
+/// atom 3 for the one that leads there where `p` is false.
+#[test]
+fn a_candidate_has_an_atom_where_it_counts(rt: HostRuntime) -> Result<(), Fail> {
+    let (candidates, many) = units(rt.alloc())?;
+    assert!(rt; candidates.as_slice() == &[None, Some(1), None][..]);
+    assert!(rt; many == 4);
     Ok(())
 }
 
@@ -59,7 +93,7 @@ fn counts_of_chain(alloc: Global, sign: InfixSign, many: u32) -> Result<(usize, 
     };
     let names = Names {
         first: many,
-        candidates: 0,
+        named: &[],
         terms: 0,
         rows: &[],
     };

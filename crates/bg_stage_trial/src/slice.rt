@@ -17,7 +17,7 @@ const TEXT: &[u8] = b"procedure P(x: int, q: bool) {
 fn left(alloc: Global) -> Result<usize, Fail> {
     let passive = passive_of(alloc, &program(alloc, &[(TEXT, 1)])?)?;
     let a = atoms(alloc, &[Sort::Number, Sort::Truth], 0, &passive.blocks)?.ok_or("no atoms")?;
-    let s = slice(alloc, Spot::Assert(2), a.first, &a.rows, &a.blocks)?;
+    let s = slice(alloc, Spot::Assert(2), a.first, 0, &a.rows, &a.blocks)?;
     let mut entries = 0;
     for r in &s.rows {
         entries = r.row.entries.len().saturating_add(entries);

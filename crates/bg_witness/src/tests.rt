@@ -10,9 +10,7 @@ use crate::judged_program;
 use bg_ast::resolved::Resolved;
 use bg_blocks::callees_of;
 use bg_cert::{Node, accepts};
-use bg_check::{
-    Cause, Judged, Prepared, Verdict, count_candidates, judge_ordinary, place_atoms, prepare,
-};
+use bg_check::{Cause, Judged, Prepared, Verdict, cut_down, judge_ordinary, prepare};
 use bg_clause::{Names, clauses};
 use bg_model::Counterexample;
 use bg_replay::{Choice, Code, Ending, Start, replay};
@@ -70,11 +68,11 @@ fn is_accepted(
     judged: &Judged,
     nodes: &[Node],
 ) -> Result<bool, AllocError> {
-    let atoms = place_atoms(alloc, program, prepared, &judged.place)?;
-    let candidates = count_candidates(program)?;
+    let cut = cut_down(alloc, program, prepared, &judged.place)?;
+    let atoms = &cut.atoms;
     let names = Names {
         first: atoms.first,
-        candidates,
+        named: &cut.named,
         terms: atoms.terms,
         rows: &atoms.rows,
     };

@@ -1,4 +1,4 @@
-use Rattle.std.proofs.Common.{◌≡◌, ◌+◌, true, map, sym, ◌∙◌, subst}
+use Rattle.std.proofs.Common.{◌≡◌, true, map, sym, ◌∙◌, subst}
 use Rattle.bg_incarnate.specs.Views.{passive_block_of}
 use Rattle.bg_formed.specs.Views.{blocks_of}
 use Rattle.bg_formula.specs.Atoms.{view_linear}
@@ -10,13 +10,13 @@ use Rattle.bg_atoms.proofs.whole.atoms.Goals as goal
 
 pub returns-clause-said : goal.returns-clause-said
 returns-clause-said c =
-    let told = told_now c.in_ok-names.names.sorts.items c.args.sorts.now c.in_ok-names.names.base (c.in_ok-first.first + c.args.candidates) c.blocks_told.new.table.rows.items c.into_rows-rows.result.items (map passive_block_of c.args.blocks.now) (blocks_of c.in_ok-made.made) c.in_ok-names.ensures.sorts (c.in_ok-names.ensures.base ∙ c.in_ok-base.ensures) c.into_rows-rows.ensures c.in_ok-made.ensures.told in
-    λ z w s a held. blocks_said c.args.sorts.now c.args.candidates (c.in_ok-first.first + c.args.candidates) (rows_in c.into_rows-rows.result) z w s a (rows_agree c.into_rows-rows.result.items) held _ _ (sym c.blocks_sorted.ensures ∙ c.if-not-blocks_sorted.false) told
+    let told = told_now c.in_ok-names.names.sorts.items c.args.sorts.now c.in_ok-names.names.base c.in_ok-first.first c.blocks_told.new.table.rows.items c.into_rows-rows.result.items (map passive_block_of c.args.blocks.now) (blocks_of c.in_ok-made.made) c.in_ok-names.ensures.sorts c.in_ok-names.ensures.base c.into_rows-rows.ensures c.in_ok-made.ensures.told in
+    λ z w s a held. blocks_said c.args.sorts.now c.args.candidates c.in_ok-first.first (rows_in c.into_rows-rows.result) z w s a (rows_agree c.into_rows-rows.result.items) held _ _ (sym c.blocks_sorted.ensures ∙ c.if-not-blocks_sorted.false) told
 
 pub returns-clause-below : goal.returns-clause-below
 returns-clause-below c =
-    let told = told_now c.in_ok-names.names.sorts.items c.args.sorts.now c.in_ok-names.names.base (c.in_ok-first.first + c.args.candidates) c.blocks_told.new.table.rows.items c.into_rows-rows.result.items (map passive_block_of c.args.blocks.now) (blocks_of c.in_ok-made.made) c.in_ok-names.ensures.sorts (c.in_ok-names.ensures.base ∙ c.in_ok-base.ensures) c.into_rows-rows.ensures c.in_ok-made.ensures.told in
-    blocks_under c.args.sorts.now c.args.candidates (c.in_ok-first.first + c.args.candidates) (rows_in c.into_rows-rows.result) _ _ (sym c.blocks_sorted.ensures ∙ c.if-not-blocks_sorted.false) told
+    let told = told_now c.in_ok-names.names.sorts.items c.args.sorts.now c.in_ok-names.names.base c.in_ok-first.first c.blocks_told.new.table.rows.items c.into_rows-rows.result.items (map passive_block_of c.args.blocks.now) (blocks_of c.in_ok-made.made) c.in_ok-names.ensures.sorts c.in_ok-names.ensures.base c.into_rows-rows.ensures c.in_ok-made.ensures.told in
+    blocks_under c.args.sorts.now c.args.candidates c.in_ok-first.first (rows_in c.into_rows-rows.result) _ _ (sym c.blocks_sorted.ensures ∙ c.if-not-blocks_sorted.false) told
 
 pub returns-clause-rows : goal.returns-clause-rows
 returns-clause-rows c = are_rows c.into_rows-rows.result.items
@@ -26,8 +26,8 @@ returns-clause-denials c = rows_agree c.into_rows-rows.result.items
 
 pub returns-clause-exact : goal.returns-clause-exact
 returns-clause-exact c =
-    let told = told_now c.in_ok-names.names.sorts.items c.args.sorts.now c.in_ok-names.names.base (c.in_ok-first.first + c.args.candidates) c.blocks_told.new.table.rows.items c.into_rows-rows.result.items (map passive_block_of c.args.blocks.now) (blocks_of c.in_ok-made.made) c.in_ok-names.ensures.sorts (c.in_ok-names.ensures.base ∙ c.in_ok-base.ensures) c.into_rows-rows.ensures c.in_ok-made.ensures.told in
-    blocks_exact c.args.sorts.now c.args.candidates (c.in_ok-first.first + c.args.candidates) (rows_in c.into_rows-rows.result) _ _ (sym c.blocks_sorted.ensures ∙ c.if-not-blocks_sorted.false) told
+    let told = told_now c.in_ok-names.names.sorts.items c.args.sorts.now c.in_ok-names.names.base c.in_ok-first.first c.blocks_told.new.table.rows.items c.into_rows-rows.result.items (map passive_block_of c.args.blocks.now) (blocks_of c.in_ok-made.made) c.in_ok-names.ensures.sorts c.in_ok-names.ensures.base c.into_rows-rows.ensures c.in_ok-made.ensures.told in
+    blocks_exact c.args.sorts.now c.args.candidates c.in_ok-first.first (rows_in c.into_rows-rows.result) _ _ (sym c.blocks_sorted.ensures ∙ c.if-not-blocks_sorted.false) told
 
 pub returns-clause-apart : goal.returns-clause-apart
 returns-clause-apart c =

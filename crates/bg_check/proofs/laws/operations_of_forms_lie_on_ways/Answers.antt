@@ -1,4 +1,4 @@
-use Rattle.std.proofs.Common.{◌+◌, sym, ap, ◌∙◌}
+use Rattle.std.proofs.Common.{sym, ap, ◌∙◌}
 use Rattle.bg_formed.specs.Used.{refused}
 use Rattle.bg_block_types.specs.Typed.{passives_in}
 use Rattle.bg_faithful.specs.Sorted.{sorts_in}
@@ -7,4 +7,4 @@ use Rattle.bg_check.proofs.laws.operations_of_forms_lie_on_ways.Goals as goal
 
 pub returns : goal.returns
 returns c p t o h =
-    lies_on_way (sorts_in p t.implementation h.implementation h.procedure) (h.encoding.first + p.candidates) h.encoding.rows t.spot o (passives_in p t.implementation h.implementation h.procedure) (sym (ap (refused t.spot) h.is_own.blocks) ∙ h.is_refused)
+    lies_on_way (sorts_in p t.implementation h.implementation h.procedure) h.encoding.first h.encoding.rows t.spot o (passives_in p t.implementation h.implementation h.procedure) (sym (ap (refused t.spot) h.is_own.blocks) ∙ h.is_refused)

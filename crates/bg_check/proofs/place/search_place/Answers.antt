@@ -12,7 +12,7 @@ use Rattle.bg_places.specs.Views.{placed_of, spot_of}
 use Rattle.bg_tree.specs.declared.outcome.Budget.{Budget}
 use Rattle.bg_tree.specs.Trees.{IsOutcome}
 use Rattle.bg_check.specs.declared.verdict.Verdict.{Verdict}
-use Rattle.bg_check.specs.Prepared.{encoding_of}
+use Rattle.bg_check.specs.Slices.{encoding_in}
 use Rattle.bg_check.specs.Verdicts.{IsRight}
 use Rattle.bg_check.proofs.Prepares.{impl, proc, impl_at, proc_at, clauses_here}
 use Rattle.bg_check.proofs.place.search_place.Goals as goal
@@ -28,13 +28,13 @@ search-requires c =
     let n = c.args.question.place.now.implementation in
     let w = c.args.question.prepared.now in
     let h = c.requires.prepared in
-    c.clauses_over_scalars_are_whole.ensures (meaning_of p) n (impl p n w h) (proc p n w h) c.requires.typed c.requires.scalars (impl_at p n w h) (proc_at p n w h) (encoding_of c.args.atoms.now) (c.requires.slice.encoding h) (spot_of c.args.question.place.now.spot) (formula_of c.args.f.now) c.requires.clauses
+    c.clauses_over_scalars_are_whole.ensures (meaning_of p) n (impl p n w h) (proc p n w h) c.requires.typed c.requires.scalars (impl_at p n w h) (proc_at p n w h) (encoding_in c.args.cut.now) (c.requires.slice.encoding h) (spot_of c.args.question.place.now.spot) (formula_of c.args.f.now) c.requires.clauses
 
 pub returns-in-Closed : goal.returns-in-Closed
 returns-in-Closed c =
     record {
       formula = formula_of c.args.f.now;
-      is = clauses_here (program_of c.args.question.program.now) c.args.question.place.now.implementation c.args.question.prepared.now c.requires.prepared (spot_of c.args.question.place.now.spot) (option_of candidate_of c.args.question.place.now.candidate) c.args.atoms.now (formula_of c.args.f.now) c.requires.slice c.requires.clauses;
+      is = clauses_here (program_of c.args.question.program.now) c.args.question.place.now.implementation c.args.question.prepared.now c.requires.prepared (spot_of c.args.question.place.now.spot) (option_of candidate_of c.args.question.place.now.candidate) c.args.cut.now (formula_of c.args.f.now) c.requires.slice c.requires.clauses;
       accepted = subst (IsOutcome (formula_of c.args.f.now) (has c.args.question.set.now) c.args.budget) c.in-Closed.is c.in_ok-nodes.ensures;
     }
 
@@ -42,7 +42,7 @@ pub returns-in-Unknown : goal.returns-in-Unknown
 returns-in-Unknown c =
     record {
       formula = formula_of c.args.f.now;
-      is = clauses_here (program_of c.args.question.program.now) c.args.question.place.now.implementation c.args.question.prepared.now c.requires.prepared (spot_of c.args.question.place.now.spot) (option_of candidate_of c.args.question.place.now.candidate) c.args.atoms.now (formula_of c.args.f.now) c.requires.slice c.requires.clauses;
+      is = clauses_here (program_of c.args.question.program.now) c.args.question.place.now.implementation c.args.question.prepared.now c.requires.prepared (spot_of c.args.question.place.now.spot) (option_of candidate_of c.args.question.place.now.candidate) c.args.cut.now (formula_of c.args.f.now) c.requires.slice c.requires.clauses;
       cause = subst (IsOutcome (formula_of c.args.f.now) (has c.args.question.set.now) c.args.budget) c.in-Unknown.is c.in_ok-nodes.ensures;
     }
 

@@ -7,7 +7,7 @@ use Rattle.bg_clause.proofs.fails.fail_cmds.Given as goal
 
 abbrev pub invariant-loop-last : goal.invariant-loop-last
 invariant-loop-last l =
-    fail_cmds l.count (spot_of l.target) (form_cmds_of l.left) (form_in l.made) ≡ fail_cmds l.count (spot_of l.target) (form_cmds_of l.cmds) (form_in l.fn.rest)
+    fail_cmds l.units (spot_of l.target) (form_cmds_of l.left) (form_in l.made) ≡ fail_cmds l.units (spot_of l.target) (form_cmds_of l.cmds) (form_in l.fn.rest)
 
 abbrev pub decreases-loop-last : goal.decreases-loop-last
 decreases-loop-last l = length l.left

@@ -7,7 +7,7 @@ use Rattle.bg_clause.proofs.tell.tell_blocks.Given as goal
 
 abbrev pub invariant-loop-last : goal.invariant-loop-last
 invariant-loop-last l =
-    told l.count (spot_of l.target) (telling_of l.s) (map form_block_of l.left) ≡ told l.count (spot_of l.target) (nothing l.first) (map form_block_of l.blocks)
+    told l.units (spot_of l.target) (telling_of l.s) (map form_block_of l.left) ≡ told l.units (spot_of l.target) (nothing l.first) (map form_block_of l.blocks)
 
 abbrev pub decreases-loop-last : goal.decreases-loop-last
 decreases-loop-last l = length l.left

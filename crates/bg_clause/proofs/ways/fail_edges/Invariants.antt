@@ -9,7 +9,7 @@ use Rattle.bg_clause.proofs.ways.fail_edges.Given as goal
 
 abbrev pub invariant-loop-last : goal.invariant-loop-last
 invariant-loop-last l =
-    edges_on l.count (spot_of l.target) (map short_in l.later.items) (map form_edge_of l.left) (form_in l.made) ≡ fail_edges l.count (spot_of l.target) (map short_in l.later.items) (map form_edge_of l.edges)
+    edges_on l.units (spot_of l.target) (map short_in l.later.items) (map form_edge_of l.left) (form_in l.made) ≡ fail_edges l.units (spot_of l.target) (map short_in l.later.items) (map form_edge_of l.edges)
 
 abbrev pub decreases-loop-last : goal.decreases-loop-last
 decreases-loop-last l = length l.left

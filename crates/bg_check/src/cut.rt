@@ -13,15 +13,23 @@ use bg_slice::laws::{slices_are_below, slices_have_rows, slices_say_the_same, sl
 use bg_slice::{Slice, slice};
 use std::alloc::{AllocError, Global};
 
-/// The blocks of forms of a prepared implementation cut down to what counts for a place, with no rows but those that count.
+/// Blocks of forms in which only commands that count for a place say something, with no rows but those that they name; and of each
+/// candidate of the program, whether it guards such a command.
+#[derive(Drop)]
+pub struct Cut {
+    pub atoms: Atoms,
+    pub named: Vec<bool>,
+}
+
+/// The blocks of forms of a prepared implementation cut down to what counts for a place.
 ///
 /// Only want of memory is an error; 2^32 atoms count as such.
-pub fn place_atoms(
+pub fn cut_down(
     alloc: Global,
     program: &Resolved,
     prepared: &Prepared<'_>,
     place: &Place,
-) -> Result<Atoms, AllocError>
+) -> Result<Cut, AllocError>
     ensures { IfOk result (λ made. IsSliceFor (program_of program.now) place.now.implementation prepared.now (spot_of place.now.spot) made) }
 {
     slices_use_alike();
@@ -29,14 +37,26 @@ pub fn place_atoms(
     slices_have_rows();
     slices_say_the_same();
     let atoms = &prepared.atoms;
-    let Some(base) = atoms.first.checked_add(count_candidates(program)?) else {
-        return Err(AllocError);
-    };
-    let Slice { rows, blocks } = slice(alloc, place.spot, base, &atoms.rows, &atoms.blocks)?;
-    Ok(Atoms {
-        first: atoms.first,
-        terms: atoms.terms,
+    let candidates = count_candidates(program)?;
+    let Slice {
         rows,
         blocks,
+        named,
+    } = slice(
+        alloc,
+        place.spot,
+        atoms.first,
+        candidates,
+        &atoms.rows,
+        &atoms.blocks,
+    )?;
+    Ok(Cut {
+        atoms: Atoms {
+            first: atoms.first,
+            terms: atoms.terms,
+            rows,
+            blocks,
+        },
+        named,
     })
 }
