@@ -6,9 +6,9 @@ ghost use Rattle.bg_cert.specs.Causes.{is_among};
 ghost use Rattle.bg_pick.specs.Marks.{stands_in, StandsOpen, IsOpenAt};
 
 use crate::hint::Hint;
-use crate::left::{has_true, is_decided, some_left};
+use crate::left::{has_true, is_decided};
 use crate::mark::Mark;
-use crate::probe::{Common, Probe, assume, forget, spread, value_of};
+use crate::probe::{Common, Probe, assume, forget, is_met, spread, value_of};
 use crate::problem::Problem;
 use crate::rows::{hints_at, row_at};
 use bg_cert::{Trail, decides};
@@ -137,7 +137,7 @@ fn open_with(f: &Clauses, trail: &Trail, hints: &[Hint], a: u32) -> Option<usize
     None
 }
 
-/// An atom to split by what an open clause tells: by a literal that can't be true, or by what all of them have in common.
+/// An atom to split by what a clause tells that isn't met: by a literal that can't be true, or by what all of them have in common.
 fn look_at(
     problem: &Problem<'_>,
     trail: &Trail,
@@ -146,8 +146,9 @@ fn look_at(
     common: bool,
 ) -> Option<u32> {
     let clause = problem.formula.clauses.get(k)?;
-    some_left(trail, clause)?;
-    if common {
+    if is_met(trail, p, clause) {
+        None
+    } else if common {
         look_for_common(problem, trail, p, clause)
     } else {
         look_for_false(problem, trail, p, clause)
@@ -246,17 +247,55 @@ fn is_reached(f: &Clauses, trail: &Trail, clause: &[Literal]) -> bool {
     }
 }
 
-/// An undecided atom of the open clause that is reached and stands last in the program: clauses stand from the last block back. So
-/// the search goes back from the claim, and splits nothing that it doesn't need.
-fn last_reached(f: &Clauses, trail: &Trail) -> Option<u32> {
+/// The first undecided atom of a clause.
+fn undecided_in(trail: &Trail, clause: &[Literal]) -> Option<u32> {
+    for l in clause {
+        if !is_decided(trail, l.atom as usize) {
+            return Some(l.atom);
+        }
+    }
+    None
+}
+
+/// The first undecided atom of a clause that a value is assumed of.
+fn assumed_in(trail: &Trail, p: &Probe, clause: &[Literal]) -> Option<u32> {
+    for l in clause {
+        if !is_decided(trail, l.atom as usize) && value_of(trail, p, l.atom).is_some() {
+            return Some(l.atom);
+        }
+    }
+    None
+}
+
+/// An undecided atom of the clause that is reached, isn't met and stands last in the program: clauses stand from the last block back.
+/// So the search goes back from the claim, and splits nothing that it doesn't need.
+fn last_reached(f: &Clauses, trail: &Trail, p: &Probe) -> Option<u32> {
     for clause in &f.clauses {
-        if is_reached(f, trail, clause) {
-            if let Some(a) = some_left(trail, clause) {
+        if is_reached(f, trail, clause) && !is_met(trail, p, clause) {
+            if let Some(a) = undecided_in(trail, clause) {
                 return Some(a);
             }
         }
     }
     None
+}
+
+/// An undecided atom of the first clause that isn't met, of those from a place on. Where there is none, a candidate outside the set in
+/// the first clause that the path doesn't make true: where it is true, what it guards is decided next, and where it is false, each of
+/// its clauses is true. So each such candidate is decided once, behind all that must be met without it.
+fn first_left(f: &Clauses, trail: &Trail, p: &Probe, from: usize) -> Option<u32> {
+    let mut absent = None;
+    for k in from..f.clauses.len() {
+        let clause = &f.clauses[k];
+        if !is_met(trail, p, clause) {
+            if let Some(a) = undecided_in(trail, clause) {
+                return Some(a);
+            }
+        } else if absent.is_none() && !has_true(trail, clause) {
+            absent = assumed_in(trail, p, clause);
+        }
+    }
+    absent
 }
 
 /// The atom, where it is undecided and stands in a clause without a true literal.
@@ -285,8 +324,9 @@ fn if_open(problem: &Problem<'_>, trail: &Trail, a: u32) -> Option<u32>
     }
 }
 
-/// An undecided atom of an open clause, chosen by a look ahead, or else of the last one of the program that is reached; none where
-/// there is no such clause. Of the mark it changes what is kept for the next look alone.
+/// An undecided atom of an open clause, chosen by a look ahead, or else of the last one of the program that is reached, or of the
+/// first one; none where there is no such clause. Clauses that a candidate outside the set may meet come behind all others. Of the mark
+/// it changes what is kept for the next look alone.
 pub fn suggest(problem: &Problem<'_>, trail: &Trail, p: &mut Probe, mark: &mut Mark) -> Option<u32>
     ensures stands { IfSome result (λ a. IsOpenAt trail.now.decisions.items (map (λ c. c.items) problem.now.formula.now.clauses.items) a) }
     ensures row { mark.new.row ≡ mark.old.row }
@@ -297,7 +337,10 @@ pub fn suggest(problem: &Problem<'_>, trail: &Trail, p: &mut Probe, mark: &mut M
     let mut look = *mark;
     let found = match candidate(problem, trail, p, &mut look) {
         Some(a) => Some(a),
-        None => last_reached(problem.formula, trail),
+        None => match last_reached(problem.formula, trail, p) {
+            Some(a) => Some(a),
+            None => first_left(problem.formula, trail, p, mark.clause),
+        },
     };
     mark.look = look.look;
     mark.top = look.top;

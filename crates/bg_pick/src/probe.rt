@@ -17,9 +17,9 @@ pub struct Common {
     pub value: bool,
 }
 
-/// Values that are assumed beside those of a path, in their order; those that literals of a clause have in common; how many
-/// clauses may still be looked at for this split; and how many splits are chosen without a look from now on, and were after the last
-/// look in vain.
+/// Values that are assumed beside those of a path: each candidate outside the set is to be false, and for a while other values are
+/// assumed, in this order. Besides, the values that literals of a clause have in common; how many clauses may still be looked at for
+/// this split; and how many splits are chosen without a look from now on, and were after the last look in vain.
 #[derive(Drop)]
 pub struct Probe {
     pub assumed: Vec<Option<bool>>,
@@ -39,15 +39,40 @@ enum State {
     Other,
 }
 
-/// A probe for so many atoms, with nothing assumed.
-pub fn new_probe(alloc: Global, atoms: usize) -> Result<Probe, AllocError> {
+/// Whether the set has a candidate.
+fn is_in(set: &[bool], c: usize) -> bool {
+    match set.get(c) {
+        Some(yes) => *yes,
+        None => false,
+    }
+}
+
+/// Of each atom of a candidate outside the set that it is false. Such an atom stands in clauses as a denial alone, so this makes no
+/// clause false: a path on which it isn't decided has only to go round its clauses. Takes time for each atom and each candidate.
+fn absent(alloc: Global, f: &Clauses, set: &[bool]) -> Result<Vec<Option<bool>>, AllocError> {
+    let mut values = vec![in alloc; None; f.atoms.len()]?;
+    for (c, atom) in f.candidates.iter().enumerate() {
+        if let Some(a) = atom {
+            if let Some(v) = values.get_mut(*a as usize) {
+                if !is_in(set, c) {
+                    *v = Some(false);
+                }
+            }
+        }
+    }
+    Ok(values)
+}
+
+/// A probe for the atoms of a formula, where the candidates outside the set are taken for false.
+pub fn new_probe(alloc: Global, f: &Clauses, set: &[bool]) -> Result<Probe, AllocError> {
+    let atoms = f.atoms.len();
     let nothing = Common {
         turn: 0,
         count: 0,
         value: false,
     };
     Ok(Probe {
-        assumed: vec![in alloc; None; atoms]?,
+        assumed: absent(alloc, f, set)?,
         order: Vec::new(alloc),
         common: vec![in alloc; nothing; atoms]?,
         turn: 0,
@@ -69,6 +94,18 @@ pub fn value_of(trail: &Trail, p: &Probe, a: u32) -> Option<bool> {
         Some(v) => *v,
         None => None,
     }
+}
+
+/// Whether a literal of the clause is true by what the path decides or what is assumed.
+pub fn is_met(trail: &Trail, p: &Probe, clause: &[Literal]) -> bool {
+    for l in clause {
+        if let Some(v) = value_of(trail, p, l.atom) {
+            if v == l.sign {
+                return true;
+            }
+        }
+    }
+    false
 }
 
 fn state_of(trail: &Trail, p: &Probe, clause: &[Literal]) -> State {

@@ -87,7 +87,7 @@ pub fn search(
 {
     let index = index_of(alloc, f, set)?;
     let mut aids = Aids {
-        probe: new_probe(alloc, f.atoms.len())?,
+        probe: new_probe(alloc, f, set)?,
         ledger: new_ledger(alloc, f)?,
     };
     let problem = Problem {
