@@ -3,6 +3,7 @@ pub mod Told
 pub mod Cuts
 pub mod Apart
 pub mod Decided
+pub mod Settled
 pub mod Verified
 pub mod Marks
 pub mod Order

@@ -2,6 +2,7 @@ pub mod Lines
 pub mod Kept
 pub mod Places
 pub mod Report
+pub mod Settled
 pub mod Views
 pub mod Words
 pub mod Entries

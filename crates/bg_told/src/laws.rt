@@ -1,10 +1,23 @@
-//! Laws of reports, which are proved of the definitions alone.
+//! Laws of what reports say.
 
 ghost use Rattle.std.specs.Prelude.{◌≡◌, ◌↔◌, ℕ, List, length, map, true, All};
 ghost use Rattle.std.specs.List.{list_all};
+ghost use Rattle.bg_ast.specs.Meaning.{meaning_of};
 ghost use Rattle.bg_ast.specs.Resolved.{Program};
-ghost use Rattle.bg_sound.specs.Told.{Consistent, Judged, Outcome, retained, is_proved, word_of, AllProved, status_of};
+ghost use Rattle.bg_check.specs.declared.verdict.Cause.{Cause};
+ghost use Rattle.bg_fits.specs.Scalars.{is_over_scalars};
+ghost use Rattle.bg_houdini.specs.declared.outcome.Outcome as houdini;
+ghost use Rattle.bg_houdini.specs.Outcomes.{IsTrueOutcome};
+ghost use Rattle.bg_houdini.specs.Told.{outcome_of};
+ghost use Rattle.bg_sense.specs.Resolved.{IsResolved};
+ghost use Rattle.bg_sense.specs.Typed.{IsTyped};
+ghost use Rattle.bg_sound.specs.Told.{Why, Consistent, Judged, Outcome, retained, is_proved, word_of, AllProved, status_of};
 ghost use Rattle.bg_told.specs.Report.{result_text};
+ghost use Rattle.bg_told.specs.Settled.{is_settled, verdict_lines};
+ghost use Rattle.bg_tree.specs.declared.outcome.Budget.{Budget};
+
+use bg_houdini::laws::{outcomes_agree, true_outcomes_are_sound};
+use bg_sound::laws::greatest_sets_agree;
 
 /// Equal reports of one program say the same word of each implementation.
 pub fn equal_reports_say_equal_words()
@@ -29,3 +42,15 @@ pub fn verified_is_all_proved()
 pub fn verified_is_each_verified()
     ensures { (o : Outcome) → (status_of o ≡ 0) ↔ ((o.axioms ≡ Consistent) × All (λ js. word_of js ≡ AllProved) o.implementations) }
 {}
+
+/// The reports of two true outcomes of one program, in neither of which anything is unknown, are the same but for the lines of
+/// counterexamples, whatever the budgets, workers and schedules were.
+pub fn settled_reports_agree()
+    ensures { (budget other : Budget) (p : Program) (o q : houdini.Outcome) (words : Cause → Why) → IsTyped (meaning_of p) → is_over_scalars true (meaning_of p) ≡ true → IsResolved (meaning_of p) →
+        IsTrueOutcome budget p o → IsTrueOutcome other p q → is_settled (outcome_of words (meaning_of p) o) ≡ true → is_settled (outcome_of words (meaning_of p) q) ≡ true →
+        verdict_lines p (outcome_of words (meaning_of p) o) ≡ verdict_lines p (outcome_of words (meaning_of p) q) }
+{
+    greatest_sets_agree();
+    outcomes_agree();
+    true_outcomes_are_sound()
+}
