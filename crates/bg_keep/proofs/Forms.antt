@@ -24,14 +24,19 @@ use Rattle.bg_text.specs.declared.tree.TreeStmt.TheVariants as stmt
 use Rattle.bg_base.specs.declared.ids.CandId.{CandId}
 use Rattle.bg_words.specs.Sets.{Numbers, has}
 use Rattle.bg_keep.specs.Kept.{saying}
+use Rattle.bg_keep.specs.Guesses.{Names}
 use Rattle.bg_ast.specs.Resolved as r
 use Rattle.bg_names.specs.Clauses.{chain_of}
 use Rattle.bg_names.proofs.Forms.{both}
+use Rattle.bg_ast.specs.declared.resolved.Declared.{Declared}
 use Rattle.bg_ast.specs.declared.resolved.Procedure.{Procedure}
 use Rattle.bg_ast.specs.declared.resolved.Implementation.{Implementation}
 use Rattle.bg_keep.proofs.Rows.{drop_map}
 use Rattle.bg_names.proofs.Firsts.{drop_item}
-use Rattle.bg_keep.specs.Told.{told_clause, right_side, behind_first, first_body, first_requires, first_ensures, first_block, first_candidate, arms_in, block_in, invariants_in, told_st, told_sts, told_arms, told_clauses}
+use Rattle.bg_keep.specs.Told.{told_clause, right_side, behind_first, first_body, first_requires, first_ensures, first_block, first_procedure, first_implementation, first_candidate, arms_in, block_in, invariants_in, told_st, told_sts, told_arms, told_clauses}
+
+abbrev pub named_by : (globals params results locals : List r.Declared) → Names
+named_by gs ps rs ls = record { globals = gs; params = ps; results = rs; locals = ls }
 
 pub candidate_there : (cs : List Clause) (i : ℕ) (k : Clause) → i < length cs → k ≡ get_or cs i k → option_of u.candidate_of k.candidate ≡ first_candidate (drop i (map u.clause_of cs))
 candidate_there [] i k lt at = absurd (omega (arith, lt))
@@ -100,22 +105,37 @@ pub block_there : (ms : List Implementation) (i : ℕ) (m : Implementation) (ss 
 block_there ms i m ss lt at e =
     ap u.sts_in e ∙ sym (ap first_block (drop_map u.impl_of ms i ∙ ap (map u.impl_of) (drop_item ms i m lt at)))
 
+pub procedure_there : (gs : List Declared) (qs : List Procedure) (i : ℕ) (q : Procedure) (ps rs : List Declared) → i < length qs → q ≡ get_or qs i q → ps ≡ q.params.items → rs ≡ q.results.items →
+    named_by (map u.declared_of gs) (map u.declared_of ps) (map u.declared_of rs) [] ≡ first_procedure (map u.declared_of gs) (drop i (map u.proc_of qs))
+procedure_there gs qs i q ps rs lt at e f =
+    ap (λ l. named_by (map u.declared_of gs) (map u.declared_of l) (map u.declared_of rs) []) e
+    ∙ ap (λ l. named_by (map u.declared_of gs) (map u.declared_of q.params.items) (map u.declared_of l) []) f
+    ∙ sym (ap (first_procedure (map u.declared_of gs)) (drop_map u.proc_of qs i ∙ ap (map u.proc_of) (drop_item qs i q lt at)))
+
+pub implementation_there : (gs : List Declared) (ms : List Implementation) (i : ℕ) (m : Implementation) (ps rs ls : List Declared) → i < length ms → m ≡ get_or ms i m → ps ≡ m.params.items → rs ≡ m.results.items → ls ≡ m.locals.items →
+    named_by (map u.declared_of gs) (map u.declared_of ps) (map u.declared_of rs) (map u.declared_of ls) ≡ first_implementation (map u.declared_of gs) (drop i (map u.impl_of ms))
+implementation_there gs ms i m ps rs ls lt at e f h =
+    ap (λ l. named_by (map u.declared_of gs) (map u.declared_of l) (map u.declared_of rs) (map u.declared_of ls)) e
+    ∙ ap (λ l. named_by (map u.declared_of gs) (map u.declared_of m.params.items) (map u.declared_of l) (map u.declared_of ls)) f
+    ∙ ap (λ l. named_by (map u.declared_of gs) (map u.declared_of m.params.items) (map u.declared_of m.results.items) (map u.declared_of l)) h
+    ∙ sym (ap (first_implementation (map u.declared_of gs)) (drop_map u.impl_of ms i ∙ ap (map u.impl_of) (drop_item ms i m lt at)))
+
 -- what is kept of statements with statements in them
-module _ (set : Numbers) (a : TreeStmt) (b : r.St) where
-  pub kept-If : (p : Pos) (arms arms' : Vec TreeArm Global) (old : List TreeArm) (told : r.Arms) → a ≡ stmt.If p arms → v.arms_from (map v.arm_view arms'.items) ≡ told_arms set (v.arms_from (map v.arm_view old)) told → old ≡ arms.items → told ≡ arms_in b → v.st_of (stmt.If p arms') ∷ [] ≡ told_st set (v.st_of a) b
+module _ (set : Numbers) (f : Names) (a : TreeStmt) (b : r.St) where
+  pub kept-If : (p : Pos) (arms arms' : Vec TreeArm Global) (old : List TreeArm) (told : r.Arms) → a ≡ stmt.If p arms → v.arms_from (map v.arm_view arms'.items) ≡ told_arms set f (v.arms_from (map v.arm_view old)) told → old ≡ arms.items → told ≡ arms_in b → v.st_of (stmt.If p arms') ∷ [] ≡ told_st set f (v.st_of a) b
   kept-If p arms arms' old told is h same at =
       ap (λ x. x ∷ []) (w.st_of-If p arms' ∙ ap (t.If p) (h ∙ rw (same, at) refl))
-      ∙ ap (λ y. told_st set y b) (sym (w.st_of-If p arms))
-      ∙ ap (λ y. told_st set (v.st_of y) b) (sym is)
+      ∙ ap (λ y. told_st set f y b) (sym (w.st_of-If p arms))
+      ∙ ap (λ y. told_st set f (v.st_of y) b) (sym is)
 
-  pub kept-IfElse : (p : Pos) (arms arms' : Vec TreeArm Global) (ss ss' : Vec TreeStmt Global) (old : List TreeArm) (older : List TreeStmt) (told : r.Arms) (others : r.Sts) → a ≡ stmt.IfElse p arms ss → v.arms_from (map v.arm_view arms'.items) ≡ told_arms set (v.arms_from (map v.arm_view old)) told → old ≡ arms.items → told ≡ arms_in b → v.sts_in ss'.items ≡ told_sts set (v.sts_in older) others → older ≡ ss.items → others ≡ block_in b → v.st_of (stmt.IfElse p arms' ss') ∷ [] ≡ told_st set (v.st_of a) b
+  pub kept-IfElse : (p : Pos) (arms arms' : Vec TreeArm Global) (ss ss' : Vec TreeStmt Global) (old : List TreeArm) (older : List TreeStmt) (told : r.Arms) (others : r.Sts) → a ≡ stmt.IfElse p arms ss → v.arms_from (map v.arm_view arms'.items) ≡ told_arms set f (v.arms_from (map v.arm_view old)) told → old ≡ arms.items → told ≡ arms_in b → v.sts_in ss'.items ≡ told_sts set f (v.sts_in older) others → older ≡ ss.items → others ≡ block_in b → v.st_of (stmt.IfElse p arms' ss') ∷ [] ≡ told_st set f (v.st_of a) b
   kept-IfElse p arms arms' ss ss' old older told others is h same at k alike behind =
       ap (λ x. x ∷ []) (w.st_of-IfElse p arms' ss' ∙ both (t.IfElse p) (h ∙ rw (same, at) refl) (k ∙ rw (alike, behind) refl))
-      ∙ ap (λ y. told_st set y b) (sym (w.st_of-IfElse p arms ss))
-      ∙ ap (λ y. told_st set (v.st_of y) b) (sym is)
+      ∙ ap (λ y. told_st set f y b) (sym (w.st_of-IfElse p arms ss))
+      ∙ ap (λ y. told_st set f (v.st_of y) b) (sym is)
 
-  pub kept-While : (p : Pos) (g : TreeGuard) (ks ks' : Vec TreeClause Global) (ss ss' : Vec TreeStmt Global) (old : List TreeClause) (older : List TreeStmt) (told : List r.Clause) (others : r.Sts) → a ≡ stmt.While p g ks ss → map v.clause_of ks'.items ≡ told_clauses set told (map v.clause_of old) → old ≡ ks.items → told ≡ invariants_in b → v.sts_in ss'.items ≡ told_sts set (v.sts_in older) others → older ≡ ss.items → others ≡ block_in b → v.st_of (stmt.While p g ks' ss') ∷ [] ≡ told_st set (v.st_of a) b
+  pub kept-While : (p : Pos) (g : TreeGuard) (ks ks' : Vec TreeClause Global) (ss ss' : Vec TreeStmt Global) (old : List TreeClause) (older : List TreeStmt) (told : List r.Clause) (others : r.Sts) → a ≡ stmt.While p g ks ss → map v.clause_of ks'.items ≡ told_clauses set f told (map v.clause_of old) → old ≡ ks.items → told ≡ invariants_in b → v.sts_in ss'.items ≡ told_sts set f (v.sts_in older) others → older ≡ ss.items → others ≡ block_in b → v.st_of (stmt.While p g ks' ss') ∷ [] ≡ told_st set f (v.st_of a) b
   kept-While p g ks ks' ss ss' old older told others is h same at k alike behind =
       ap (λ x. x ∷ []) (w.st_of-While p g ks' ss' ∙ both (t.While p (v.guard_of g)) (h ∙ rw (same, at) refl) (k ∙ rw (alike, behind) refl))
-      ∙ ap (λ y. told_st set y b) (sym (w.st_of-While p g ks ss))
-      ∙ ap (λ y. told_st set (v.st_of y) b) (sym is)
+      ∙ ap (λ y. told_st set f y b) (sym (w.st_of-While p g ks ss))
+      ∙ ap (λ y. told_st set f (v.st_of y) b) (sym is)

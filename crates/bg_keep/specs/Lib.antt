@@ -1,3 +1,5 @@
 pub mod Kept
+pub mod Guesses
 pub mod Told
+pub mod Annotated
 pub mod Views

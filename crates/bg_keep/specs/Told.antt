@@ -1,4 +1,5 @@
--- What is kept of a tree, where the same program with numbers for names tells which candidate guards each clause.
+-- What is kept of a tree, where the same program with numbers for names tells which candidate guards each clause. The program may have
+-- guesses behind the clauses of a place: those that are retained are written there.
 use Rattle.std.specs.Prelude.{ℕ, List, [], ◌∷◌, ◌++◌, map, drop, Option, Some, None, if◌then◌else◌}
 use Rattle.bg_text.specs.Trees as t
 use Rattle.bg_text.specs.Views.{option_of}
@@ -7,6 +8,7 @@ use Rattle.bg_words.specs.Sets.{Numbers, has}
 use Rattle.bg_names.specs.Clauses.{bare, chain_of}
 use Rattle.bg_spaces.specs.Declarations.{are_candidates}
 use Rattle.bg_keep.specs.Kept.{saying, before}
+use Rattle.bg_keep.specs.Guesses.{Names, kept_guesses}
 
 -- an expression without its first operand, where `==>` stands behind that
 abbrev pub behind_first : t.Ex → t.Ex
@@ -27,9 +29,10 @@ abbrev pub first_candidate : List r.Clause → Option ℕ
 first_candidate [] = None
 first_candidate (c ∷ cs) = c.candidate
 
-abbrev pub told_clauses : Numbers → List r.Clause → List t.Clause → List t.Clause
-told_clauses set cs [] = []
-told_clauses set cs (k ∷ ks) = told_clause set (first_candidate cs) k ++ told_clauses set (drop 1 cs) ks
+-- the program's clauses behind those of the tree are guesses
+abbrev pub told_clauses : Numbers → Names → List r.Clause → List t.Clause → List t.Clause
+told_clauses set f cs [] = kept_guesses set f cs
+told_clauses set f cs (k ∷ ks) = told_clause set (first_candidate cs) k ++ told_clauses set f (drop 1 cs) ks
 
 -- the candidate of an assertion
 abbrev pub candidate_in : r.St → Option ℕ
@@ -60,24 +63,24 @@ next_arms r.NoArm = r.NoArm
 next_arms (r.Arm h body others) = others
 
 abbrev mutual
-  pub told_st : Numbers → t.St → r.St → List t.St
-  told_st set (t.Assert k) b = map t.Assert (told_clause set (candidate_in b) k)
-  told_st set (t.If p arms) b = t.If p (told_arms set arms (arms_in b)) ∷ []
-  told_st set (t.IfElse p arms ss) b = t.IfElse p (told_arms set arms (arms_in b)) (told_sts set ss (block_in b)) ∷ []
-  told_st set (t.While p g is ss) b = t.While p g (told_clauses set (invariants_in b) is) (told_sts set ss (block_in b)) ∷ []
-  told_st set a b = a ∷ []
+  pub told_st : Numbers → Names → t.St → r.St → List t.St
+  told_st set f (t.Assert k) b = map t.Assert (told_clause set (candidate_in b) k)
+  told_st set f (t.If p arms) b = t.If p (told_arms set f arms (arms_in b)) ∷ []
+  told_st set f (t.IfElse p arms ss) b = t.IfElse p (told_arms set f arms (arms_in b)) (told_sts set f ss (block_in b)) ∷ []
+  told_st set f (t.While p g is ss) b = t.While p g (told_clauses set f (invariants_in b) is) (told_sts set f ss (block_in b)) ∷ []
+  told_st set f a b = a ∷ []
 
   -- as far as both go on
-  pub told_sts : Numbers → t.Sts → r.Sts → t.Sts
-  told_sts set (t.Then a rest) (r.Then b others) = before (told_st set a b) (told_sts set rest others)
-  told_sts set _ _ = t.NoSt
+  pub told_sts : Numbers → Names → t.Sts → r.Sts → t.Sts
+  told_sts set f (t.Then a rest) (r.Then b others) = before (told_st set f a b) (told_sts set f rest others)
+  told_sts set f _ _ = t.NoSt
 
-  pub told_arms : Numbers → t.Arms → r.Arms → t.Arms
-  told_arms set t.NoArm others = t.NoArm
-  told_arms set (t.Arm g ss arms) others = t.Arm g (told_sts set ss (first_body others)) (told_arms set arms (next_arms others))
+  pub told_arms : Numbers → Names → t.Arms → r.Arms → t.Arms
+  told_arms set f t.NoArm others = t.NoArm
+  told_arms set f (t.Arm g ss arms) others = t.Arm g (told_sts set f ss (first_body others)) (told_arms set f arms (next_arms others))
 
-abbrev pub told_body : Numbers → r.Sts → t.Body → t.Body
-told_body set ss b = record { locals = b.locals; stmts = told_sts set b.stmts ss }
+abbrev pub told_body : Numbers → Names → r.Sts → t.Body → t.Body
+told_body set f ss b = record { locals = b.locals; stmts = told_sts set f b.stmts ss }
 
 -- how many preconditions a part of a specification has, and how many postconditions
 abbrev pub requires_count : t.Spec → ℕ
@@ -94,10 +97,11 @@ told_spec set qs es (t.Requires k) = map t.Requires (told_clause set (first_cand
 told_spec set qs es (t.Ensures k) = map t.Ensures (told_clause set (first_candidate es) k)
 told_spec set qs es (t.Modifies p xs) = t.Modifies p xs ∷ []
 
-abbrev pub told_specs : Numbers → (requires_ ensures_ : List r.Clause) → List t.Spec → List t.Spec
-told_specs set qs es [] = []
-told_specs set qs es (s ∷ specs) =
-    told_spec set qs es s ++ told_specs set (drop (requires_count s) qs) (drop (ensures_count s) es) specs
+-- the guesses stand behind all other parts, preconditions first
+abbrev pub told_specs : Numbers → Names → (requires_ ensures_ : List r.Clause) → List t.Spec → List t.Spec
+told_specs set f qs es [] = map t.Requires (kept_guesses set f qs) ++ map t.Ensures (kept_guesses set f es)
+told_specs set f qs es (s ∷ specs) =
+    told_spec set qs es s ++ told_specs set f (drop (requires_count s) qs) (drop (ensures_count s) es) specs
 
 abbrev pub first_requires : List r.Proc → List r.Clause
 first_requires [] = []
@@ -111,25 +115,35 @@ abbrev pub first_block : List r.Impl → r.Sts
 first_block [] = r.NoSt
 first_block (m ∷ ms) = m.body
 
-abbrev pub told_procedure : Numbers → List r.Proc → List r.Impl → t.Proc → t.Proc
-told_procedure set qs ms q =
+-- what the clauses of the first procedure may speak of
+abbrev pub first_procedure : List r.Declared → List r.Proc → Names
+first_procedure gs [] = record { globals = gs; params = []; results = []; locals = [] }
+first_procedure gs (q ∷ qs) = record { globals = gs; params = q.params; results = q.results; locals = [] }
+
+-- and the invariants of the first implementation
+abbrev pub first_implementation : List r.Declared → List r.Impl → Names
+first_implementation gs [] = record { globals = gs; params = []; results = []; locals = [] }
+first_implementation gs (m ∷ ms) = record { globals = gs; params = m.params; results = m.results; locals = m.locals }
+
+abbrev pub told_procedure : Numbers → List r.Declared → List r.Proc → List r.Impl → t.Proc → t.Proc
+told_procedure set gs qs ms q =
     record {
       pos = q.pos;
       attrs = q.attrs;
       name = q.name;
       sig = q.sig;
-      specs = told_specs set (first_requires qs) (first_ensures qs) q.specs;
-      body = option_of (told_body set (first_block ms)) q.body;
+      specs = told_specs set (first_procedure gs qs) (first_requires qs) (first_ensures qs) q.specs;
+      body = option_of (told_body set (first_implementation gs ms) (first_block ms)) q.body;
     }
 
-abbrev pub told_implementation : Numbers → List r.Impl → t.Impl → t.Impl
-told_implementation set ms m =
+abbrev pub told_implementation : Numbers → List r.Declared → List r.Impl → t.Impl → t.Impl
+told_implementation set gs ms m =
     record {
       pos = m.pos;
       attrs = m.attrs;
       name = m.name;
       sig = m.sig;
-      body = told_body set (first_block ms) m.body;
+      body = told_body set (first_implementation gs ms) (first_block ms) m.body;
     }
 
 -- how many procedures a declaration adds, and how many implementations
@@ -150,13 +164,17 @@ abbrev pub told_constants : t.Consts → List t.Decl
 told_constants c = if are_candidates c then [] else t.Constants c ∷ []
 
 -- a declaration, with the procedures and implementations that are ahead
-abbrev pub told_decl : Numbers → List r.Proc → List r.Impl → t.Decl → List t.Decl
-told_decl set qs ms (t.Constants c) = told_constants c
-told_decl set qs ms (t.Procedure q) = t.Procedure (told_procedure set qs ms q) ∷ []
-told_decl set qs ms (t.Implementation m) = t.Implementation (told_implementation set ms m) ∷ []
-told_decl set qs ms d = d ∷ []
+abbrev pub told_decl : Numbers → List r.Declared → List r.Proc → List r.Impl → t.Decl → List t.Decl
+told_decl set gs qs ms (t.Constants c) = told_constants c
+told_decl set gs qs ms (t.Procedure q) = t.Procedure (told_procedure set gs qs ms q) ∷ []
+told_decl set gs qs ms (t.Implementation m) = t.Implementation (told_implementation set gs ms m) ∷ []
+told_decl set gs qs ms d = d ∷ []
 
-abbrev pub told_decls : Numbers → List r.Proc → List r.Impl → List t.Decl → List t.Decl
-told_decls set qs ms [] = []
-told_decls set qs ms (d ∷ ds) =
-    told_decl set qs ms d ++ told_decls set (drop (procedure_count d) qs) (drop (implementation_count d) ms) ds
+abbrev pub told_decls : Numbers → List r.Declared → List r.Proc → List r.Impl → List t.Decl → List t.Decl
+told_decls set gs qs ms [] = []
+told_decls set gs qs ms (d ∷ ds) =
+    told_decl set gs qs ms d ++ told_decls set gs (drop (procedure_count d) qs) (drop (implementation_count d) ms) ds
+
+-- the tree with its retained annotations, as the program tells
+abbrev pub told : Numbers → r.Program → List t.Decl → List t.Decl
+told set p ds = told_decls set p.globals p.procedures p.implementations ds

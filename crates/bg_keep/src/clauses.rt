@@ -6,8 +6,10 @@ ghost use Rattle.bg_ast.specs.Views.{candidate_of, clause_of};
 ghost use Rattle.bg_names.specs.Clauses as c;
 ghost use Rattle.bg_words.specs.Sets.{has};
 ghost use Rattle.bg_keep.specs.Told as s;
+ghost use Rattle.bg_keep.specs.Guesses.{names_of};
 ghost use Rattle.bg_keep.specs.Views.{listed};
 
+use crate::guesses::{Names, push_guesses};
 use bg_ast::resolved::Clause;
 use bg_base::{CandId, Pos};
 use bg_text::{TreeClause, TreeExpr, TreeLink};
@@ -15,7 +17,7 @@ use bg_words::CandSet;
 use std::alloc::{AllocError, Global};
 
 /// Whether a candidate is in the set.
-fn is_in(set: &CandSet, c: CandId) -> bool
+pub fn is_in(set: &CandSet, c: CandId) -> bool
     ensures { result ≡ has set.now c.0 }
 {
     c.0 < set.declared() && set.has(c)
@@ -121,6 +123,18 @@ pub fn next_clause(clauses: &[Clause], at: usize) -> usize
     if clauses.len() <= at { at } else { at + 1 }
 }
 
+/// The clauses from this place on.
+#[tactic(auto, using(crate::proofs::Framed::none_behind))]
+pub fn behind(clauses: &[Clause], at: usize) -> &[Clause]
+    ensures { map clause_of result.now ≡ drop at (map clause_of clauses.now) }
+{
+    if at < clauses.len() {
+        &clauses[at..]
+    } else {
+        &[]
+    }
+}
+
 /// A clause that stands for nothing.
 fn blank(alloc: Global) -> TreeClause {
     let pos = Pos { line: 0, column: 0 };
@@ -132,19 +146,21 @@ fn blank(alloc: Global) -> TreeClause {
     }
 }
 
-/// What is kept of clauses, which are taken from their places.
+/// What is kept of clauses, which are taken from their places, and of the guesses behind them.
 pub fn kept_clauses(
     alloc: Global,
     set: &CandSet,
+    names: &Names<'_>,
     told: &[Clause],
     ks: &mut [TreeClause],
 ) -> Result<Vec<TreeClause>, AllocError>
-    ensures { IfOk result (λ made. map v.clause_of made.items ≡ s.told_clauses set.now (map clause_of told.now) (map v.clause_of ks.old)) }
+    ensures { IfOk result (λ made. map v.clause_of made.items ≡ s.told_clauses set.now (names_of names.now) (map clause_of told.now) (map v.clause_of ks.old)) }
 {
     let mut made = Vec::new(alloc);
     for i in 0..ks.len() {
         let k = std::mem::replace(&mut ks[i], blank(alloc));
         push_clause(alloc, set, candidate_at(told, i), k, &mut made)?;
     }
+    push_guesses(alloc, set, names, behind(told, ks.len()), &mut made)?;
     Ok(made)
 }

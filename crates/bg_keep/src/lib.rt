@@ -3,6 +3,7 @@
 #![tactic(auto)]
 
 mod clauses;
+mod guesses;
 pub mod laws;
 mod parts;
 mod program;

@@ -4,9 +4,11 @@ ghost use Rattle.bg_text.specs.Trees as t;
 ghost use Rattle.bg_text.specs.Views as v;
 ghost use Rattle.bg_text.specs.Views.{option_of as optional};
 ghost use Rattle.bg_ast.specs.Views.{candidate_of, clause_of};
+ghost use Rattle.bg_keep.specs.Guesses.{kept_guesses, names_of};
 ghost use Rattle.bg_keep.specs.Told as s;
 
-use crate::clauses::{candidate_at, kept_clause, next_clause};
+use crate::clauses::{behind, candidate_at, kept_clause, next_clause};
+use crate::guesses::{Names, push_ensured, push_required};
 use bg_ast::resolved::Clause;
 use bg_base::{CandId, Pos};
 use bg_text::{Spec, TreeClause};
@@ -114,14 +116,42 @@ fn push_part(
     }
 }
 
-/// What is kept of the parts of a specification, which are taken from their places.
+/// Adds what is kept of the guesses behind these clauses.
+fn push_guesses(
+    alloc: Global,
+    set: &CandSet,
+    names: &Names<'_>,
+    clauses: &Clauses<'_>,
+    at: Behind,
+    out: &mut Vec<Spec>,
+) -> Result<(), AllocError>
+    ensures { OnOk result (map v.spec_of out.new.items ≡ map v.spec_of out.old.items ++ (map t.Requires (kept_guesses set.now (names_of names.now) (drop at.requires_ (map clause_of clauses.now.requires_.now))) ++ map t.Ensures (kept_guesses set.now (names_of names.now) (drop at.ensures_ (map clause_of clauses.now.ensures_.now))))) }
+{
+    push_required(
+        alloc,
+        set,
+        names,
+        behind(clauses.requires_, at.requires_),
+        out,
+    )?;
+    push_ensured(
+        alloc,
+        set,
+        names,
+        behind(clauses.ensures_, at.ensures_),
+        out,
+    )
+}
+
+/// What is kept of the parts of a specification, which are taken from their places, and of the guesses behind them.
 pub fn kept_parts(
     alloc: Global,
     set: &CandSet,
+    names: &Names<'_>,
     clauses: &Clauses<'_>,
     parts: &mut [Spec],
 ) -> Result<Vec<Spec>, AllocError>
-    ensures { IfOk result (λ made. map v.spec_of made.items ≡ s.told_specs set.now (map clause_of clauses.now.requires_.now) (map clause_of clauses.now.ensures_.now) (map v.spec_of parts.old)) }
+    ensures { IfOk result (λ made. map v.spec_of made.items ≡ s.told_specs set.now (names_of names.now) (map clause_of clauses.now.requires_.now) (map clause_of clauses.now.ensures_.now) (map v.spec_of parts.old)) }
 {
     let mut made = Vec::new(alloc);
     let mut at = Behind {
@@ -135,5 +165,6 @@ pub fn kept_parts(
         push_part(alloc, set, clauses, at, part, &mut made)?;
         at = after;
     }
+    push_guesses(alloc, set, names, clauses, at, &mut made)?;
     Ok(made)
 }

@@ -2,15 +2,19 @@
 ghost use Rattle.std.specs.Prelude.{◌≡◌, ◌++◌, drop, map, IfOk, OnOk};
 ghost use Rattle.bg_text.specs.Views as v;
 ghost use Rattle.bg_text.specs.Views.{option_of as optional};
-ghost use Rattle.bg_ast.specs.Views.{clause_of, sts_in, proc_of, impl_of, program_of};
+ghost use Rattle.bg_ast.specs.Views.{clause_of, declared_of, sts_in, proc_of, impl_of, program_of};
 ghost use Rattle.bg_resolve.specs.Program.{named};
+ghost use Rattle.bg_keep.specs.Guesses.{names_of};
 ghost use Rattle.bg_keep.specs.Told as s;
+ghost use Rattle.bg_guess.specs.Guessed.{guessed};
 ghost use Rattle.bg_keep.specs.Kept.{kept};
+ghost use Rattle.bg_keep.specs.Annotated.{kept_guessing};
 
+use crate::guesses::Names;
 use crate::parts::{Clauses, kept_parts};
 use crate::stmts::keep_block;
 use bg_ast::resolved as made;
-use bg_ast::resolved::{Clause, Resolved, Stmt};
+use bg_ast::resolved::{Clause, Declared, Resolved, Stmt};
 use bg_base::Pos;
 use bg_spaces::values::are_candidates;
 use bg_text::{Body, Constants, Decl, Implementation, Procedure};
@@ -54,6 +58,54 @@ fn block_at(implementations: &[made::Implementation], at: usize) -> &[Stmt]
     }
 }
 
+/// What the clauses of the procedure at this place may speak of.
+fn procedure_names<'a>(
+    globals: &'a [Declared],
+    procedures: &'a [made::Procedure],
+    at: usize,
+) -> Names<'a>
+    ensures { names_of result ≡ s.first_procedure (map declared_of globals.now) (drop at (map proc_of procedures.now)) }
+{
+    match procedures.get(at) {
+        Some(q) => Names {
+            globals,
+            params: &q.params,
+            results: &q.results,
+            locals: &[],
+        },
+        None => Names {
+            globals,
+            params: &[],
+            results: &[],
+            locals: &[],
+        },
+    }
+}
+
+/// What the invariants of the implementation at this place may speak of.
+fn implementation_names<'a>(
+    globals: &'a [Declared],
+    implementations: &'a [made::Implementation],
+    at: usize,
+) -> Names<'a>
+    ensures { names_of result ≡ s.first_implementation (map declared_of globals.now) (drop at (map impl_of implementations.now)) }
+{
+    match implementations.get(at) {
+        Some(m) => Names {
+            globals,
+            params: &m.params,
+            results: &m.results,
+            locals: &m.locals,
+        },
+        None => Names {
+            globals,
+            params: &[],
+            results: &[],
+            locals: &[],
+        },
+    }
+}
+
 /// The place behind this one, where a procedure is here.
 #[tactic(auto, using(crate::proofs::Rows::place_inside, crate::proofs::Rows::place_end))]
 fn next_procedure(procedures: &[made::Procedure], at: usize) -> usize
@@ -75,11 +127,17 @@ fn next_implementation(implementations: &[made::Implementation], at: usize) -> u
 }
 
 /// What is kept of a body.
-fn kept_body(alloc: Global, set: &CandSet, told: &[Stmt], body: Body) -> Result<Body, AllocError>
-    ensures { IfOk result (λ x. v.body_of x ≡ s.told_body set.now (sts_in told.now) (v.body_of body)) }
+fn kept_body(
+    alloc: Global,
+    set: &CandSet,
+    names: &Names<'_>,
+    told: &[Stmt],
+    body: Body,
+) -> Result<Body, AllocError>
+    ensures { IfOk result (λ x. v.body_of x ≡ s.told_body set.now (names_of names.now) (sts_in told.now) (v.body_of body)) }
 {
     let Body { locals, mut stmts } = body;
-    keep_block(alloc, set, &mut stmts, told)?;
+    keep_block(alloc, set, names, &mut stmts, told)?;
     Ok(Body { locals, stmts })
 }
 
@@ -87,14 +145,15 @@ fn kept_body(alloc: Global, set: &CandSet, told: &[Stmt], body: Body) -> Result<
 fn kept_option(
     alloc: Global,
     set: &CandSet,
+    names: &Names<'_>,
     told: &[Stmt],
     body: Option<Body>,
 ) -> Result<Option<Body>, AllocError>
-    ensures { IfOk result (λ x. optional v.body_of x ≡ optional (s.told_body set.now (sts_in told.now)) (optional v.body_of body)) }
+    ensures { IfOk result (λ x. optional v.body_of x ≡ optional (s.told_body set.now (names_of names.now) (sts_in told.now)) (optional v.body_of body)) }
 {
     match body {
         None => Ok(None),
-        Some(body) => Ok(Some(kept_body(alloc, set, told, body)?)),
+        Some(body) => Ok(Some(kept_body(alloc, set, names, told, body)?)),
     }
 }
 
@@ -106,7 +165,7 @@ fn kept_procedure(
     at: Behind,
     q: Procedure,
 ) -> Result<Procedure, AllocError>
-    ensures { IfOk result (λ x. v.proc_of x ≡ s.told_procedure set.now (drop at.procedures (map proc_of program.now.procedures.items)) (drop at.implementations (map impl_of program.now.implementations.items)) (v.proc_of q)) }
+    ensures { IfOk result (λ x. v.proc_of x ≡ s.told_procedure set.now (map declared_of program.now.globals.items) (drop at.procedures (map proc_of program.now.procedures.items)) (drop at.implementations (map impl_of program.now.implementations.items)) (v.proc_of q)) }
 {
     let Procedure {
         pos,
@@ -120,9 +179,15 @@ fn kept_procedure(
         requires_: requires_at(&program.procedures, at.procedures),
         ensures_: ensures_at(&program.procedures, at.procedures),
     };
-    let specs = kept_parts(alloc, set, &clauses, &mut specs)?;
+    let names = procedure_names(&program.globals, &program.procedures, at.procedures);
+    let specs = kept_parts(alloc, set, &names, &clauses, &mut specs)?;
     let told = block_at(&program.implementations, at.implementations);
-    let body = kept_option(alloc, set, told, body)?;
+    let names = implementation_names(
+        &program.globals,
+        &program.implementations,
+        at.implementations,
+    );
+    let body = kept_option(alloc, set, &names, told, body)?;
     Ok(Procedure {
         pos,
         attributes,
@@ -141,7 +206,7 @@ fn kept_implementation(
     at: Behind,
     m: Implementation,
 ) -> Result<Implementation, AllocError>
-    ensures { IfOk result (λ x. v.impl_of x ≡ s.told_implementation set.now (drop at.implementations (map impl_of program.now.implementations.items)) (v.impl_of m)) }
+    ensures { IfOk result (λ x. v.impl_of x ≡ s.told_implementation set.now (map declared_of program.now.globals.items) (drop at.implementations (map impl_of program.now.implementations.items)) (v.impl_of m)) }
 {
     let Implementation {
         pos,
@@ -151,7 +216,12 @@ fn kept_implementation(
         body,
     } = m;
     let told = block_at(&program.implementations, at.implementations);
-    let body = kept_body(alloc, set, told, body)?;
+    let names = implementation_names(
+        &program.globals,
+        &program.implementations,
+        at.implementations,
+    );
+    let body = kept_body(alloc, set, &names, told, body)?;
     Ok(Implementation {
         pos,
         attributes,
@@ -180,7 +250,7 @@ fn push_decl(
     d: Decl,
     out: &mut Vec<Decl>,
 ) -> Result<(), AllocError>
-    ensures { OnOk result (map v.decl_of out.new.items ≡ map v.decl_of out.old.items ++ s.told_decl set.now (drop at.procedures (map proc_of program.now.procedures.items)) (drop at.implementations (map impl_of program.now.implementations.items)) (v.decl_of d)) }
+    ensures { OnOk result (map v.decl_of out.new.items ≡ map v.decl_of out.old.items ++ s.told_decl set.now (map declared_of program.now.globals.items) (drop at.procedures (map proc_of program.now.procedures.items)) (drop at.implementations (map impl_of program.now.implementations.items)) (v.decl_of d)) }
 {
     match d {
         Decl::Constants(c) => push_constants(c, out),
@@ -241,7 +311,7 @@ fn kept_decls(
     program: &Resolved,
     decls: &mut [Decl],
 ) -> Result<Vec<Decl>, AllocError>
-    ensures { IfOk result (λ made. map v.decl_of made.items ≡ s.told_decls set.now (map proc_of program.now.procedures.items) (map impl_of program.now.implementations.items) (map v.decl_of decls.old)) }
+    ensures { IfOk result (λ made. map v.decl_of made.items ≡ s.told_decls set.now (map declared_of program.now.globals.items) (map proc_of program.now.procedures.items) (map impl_of program.now.implementations.items) (map v.decl_of decls.old)) }
 {
     let mut made = Vec::new(alloc);
     let mut at = Behind {
@@ -260,7 +330,7 @@ fn kept_decls(
 
 /// The program with the annotations of the candidates of this set, where `program` is what its names mean: candidates aren't
 /// declared, a clause of a candidate in the set is its right side, and a clause of another candidate isn't there. Nothing else is
-/// changed.
+/// changed. Where `program` is that with its guesses, each guess of the set stands as a clause behind the clauses of its place.
 ///
 /// Only want of memory is an error.
 pub fn keep(
@@ -269,8 +339,8 @@ pub fn keep(
     program: &Resolved,
     set: &CandSet,
 ) -> Result<Vec<Decl>, AllocError>
-    requires { program_of program.now ≡ named (v.decls_of decls.items) }
-    ensures { IfOk result (λ made. v.decls_of made.items ≡ kept set.now (v.decls_of decls.items)) }
+    ensures kept { IfOk result (λ made. program_of program.now ≡ named (v.decls_of decls.items) → v.decls_of made.items ≡ kept set.now (v.decls_of decls.items)) }
+    ensures guesses { IfOk result (λ made. program_of program.now ≡ guessed (named (v.decls_of decls.items)) → v.decls_of made.items ≡ kept_guessing set.now (v.decls_of decls.items)) }
 {
     let mut decls = decls;
     kept_decls(alloc, set, program, &mut decls)

@@ -4,10 +4,12 @@ ghost use Rattle.bg_text.specs.Trees as t;
 ghost use Rattle.bg_text.specs.Views as v;
 ghost use Rattle.bg_text.specs.Views.{option_of as optional};
 ghost use Rattle.bg_ast.specs.Views.{candidate_of, clause_of, st_of, sts_in, arms_from, arm_view};
+ghost use Rattle.bg_keep.specs.Guesses.{names_of};
 ghost use Rattle.bg_keep.specs.Told as s;
 ghost use Rattle.bg_keep.specs.Views.{listed};
 
 use crate::clauses::{kept_clause, kept_clauses};
+use crate::guesses::Names;
 use bg_ast::resolved::{Arm, Clause, Stmt};
 use bg_base::{CandId, Pos};
 use bg_text::{TreeArm, TreeClause, TreeStmt};
@@ -94,26 +96,27 @@ fn push(a: TreeStmt, out: &mut Vec<TreeStmt>) -> Result<(), AllocError>
 fn push_stmt(
     alloc: Global,
     set: &CandSet,
+    names: &Names<'_>,
     a: &mut TreeStmt,
     b: &Stmt,
     out: &mut Vec<TreeStmt>,
 ) -> Result<(), AllocError>
-    ensures { OnOk result (map v.st_of out.new.items ≡ map v.st_of out.old.items ++ s.told_st set.now (v.st_of a.old) (st_of b.now)) }
+    ensures { OnOk result (map v.st_of out.new.items ≡ map v.st_of out.old.items ++ s.told_st set.now (names_of names.now) (v.st_of a.old) (st_of b.now)) }
 {
     match std::mem::replace(a, TreeStmt::Return(Pos { line: 0, column: 0 })) {
         TreeStmt::Assert(k) => push_assert(alloc, set, candidate_in(b), k, out),
         TreeStmt::If(pos, mut arms) => {
-            keep_arms(alloc, set, &mut arms, arms_in(b))?;
+            keep_arms(alloc, set, names, &mut arms, arms_in(b))?;
             push(TreeStmt::If(pos, arms), out)
         }
         TreeStmt::IfElse(pos, mut arms, mut otherwise) => {
-            keep_arms(alloc, set, &mut arms, arms_in(b))?;
-            keep_block(alloc, set, &mut otherwise, block_in(b))?;
+            keep_arms(alloc, set, names, &mut arms, arms_in(b))?;
+            keep_block(alloc, set, names, &mut otherwise, block_in(b))?;
             push(TreeStmt::IfElse(pos, arms, otherwise), out)
         }
         TreeStmt::While(pos, guard, mut invariants, mut body) => {
-            let invariants = kept_clauses(alloc, set, invariants_in(b), &mut invariants)?;
-            keep_block(alloc, set, &mut body, block_in(b))?;
+            let invariants = kept_clauses(alloc, set, names, invariants_in(b), &mut invariants)?;
+            keep_block(alloc, set, names, &mut body, block_in(b))?;
             push(TreeStmt::While(pos, guard, invariants, body), out)
         }
         other => push(other, out),
@@ -125,12 +128,13 @@ fn push_stmt(
 pub fn keep_block(
     alloc: Global,
     set: &CandSet,
+    names: &Names<'_>,
     ss: &mut Vec<TreeStmt>,
     told: &[Stmt],
 ) -> Result<(), AllocError>
-    ensures { OnOk result (v.sts_in ss.new.items ≡ s.told_sts set.now (v.sts_in ss.old.items) (sts_in told.now)) }
+    ensures { OnOk result (v.sts_in ss.new.items ≡ s.told_sts set.now (names_of names.now) (v.sts_in ss.old.items) (sts_in told.now)) }
 {
-    let made = kept_stmts(alloc, set, ss, told)?;
+    let made = kept_stmts(alloc, set, names, ss, told)?;
     *ss = made;
     Ok(())
 }
@@ -140,13 +144,14 @@ pub fn keep_block(
 fn keep_arms(
     alloc: Global,
     set: &CandSet,
+    names: &Names<'_>,
     arms: &mut Vec<TreeArm>,
     told: &[Arm],
 ) -> Result<(), AllocError>
-    ensures { OnOk result (v.arms_from (map v.arm_view arms.new.items) ≡ s.told_arms set.now (v.arms_from (map v.arm_view arms.old.items)) (arms_from (map arm_view told.now))) }
+    ensures { OnOk result (v.arms_from (map v.arm_view arms.new.items) ≡ s.told_arms set.now (names_of names.now) (v.arms_from (map v.arm_view arms.old.items)) (arms_from (map arm_view told.now))) }
 {
     for i in 0..arms.len() {
-        keep_block(alloc, set, &mut arms[i].block, body_at(told, i))?;
+        keep_block(alloc, set, names, &mut arms[i].block, body_at(told, i))?;
     }
     Ok(())
 }
@@ -156,14 +161,15 @@ fn keep_arms(
 fn kept_stmts(
     alloc: Global,
     set: &CandSet,
+    names: &Names<'_>,
     ss: &mut [TreeStmt],
     told: &[Stmt],
 ) -> Result<Vec<TreeStmt>, AllocError>
-    ensures { IfOk result (λ made. v.sts_in made.items ≡ s.told_sts set.now (v.sts_in ss.old) (sts_in told.now)) }
+    ensures { IfOk result (λ made. v.sts_in made.items ≡ s.told_sts set.now (names_of names.now) (v.sts_in ss.old) (sts_in told.now)) }
 {
     let mut made = Vec::new(alloc);
     for i in 0..ss.len().min(told.len()) {
-        push_stmt(alloc, set, &mut ss[i], &told[i], &mut made)?;
+        push_stmt(alloc, set, names, &mut ss[i], &told[i], &mut made)?;
     }
     Ok(made)
 }

@@ -1,6 +1,7 @@
 use Rattle.std.proofs.Common.{map, arith}
 use Rattle.bg_text.specs.Views.{spec_of}
 use Rattle.bg_ast.specs.Views.{clause_of}
+use Rattle.bg_keep.specs.Guesses.{names_of}
 use Rattle.bg_keep.proofs.Rows.{at_place}
 use Rattle.bg_keep.proofs.Turns.{specs_turn}
 use Rattle.bg_keep.proofs.parts.kept_parts.Goals as goal
@@ -12,6 +13,7 @@ loop-i-preserved c =
     let at = c.loop-i.at in
     specs_turn
     c.args.set.now
+    (names_of c.args.names.now)
     (map clause_of c.args.clauses.now.requires_.now)
     (map clause_of c.args.clauses.now.ensures_.now)
     (map spec_of c.loop-i.made.items)

@@ -1,6 +1,6 @@
 use Rattle.std.proofs.Common.{map, arith}
 use Rattle.bg_text.specs.Views.{decl_of}
-use Rattle.bg_ast.specs.Views.{proc_of, impl_of}
+use Rattle.bg_ast.specs.Views.{declared_of, proc_of, impl_of}
 use Rattle.bg_keep.proofs.Rows.{at_place}
 use Rattle.bg_keep.proofs.Turns.{decls_turn}
 use Rattle.bg_keep.proofs.program.kept_decls.Goals as goal
@@ -12,6 +12,7 @@ loop-i-preserved c =
     let at = c.loop-i.at in
     decls_turn
     c.args.set.now
+    (map declared_of c.args.program.now.globals.items)
     (map proc_of c.args.program.now.procedures.items)
     (map impl_of c.args.program.now.implementations.items)
     (map decl_of c.loop-i.made.items)
