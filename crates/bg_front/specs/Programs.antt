@@ -79,6 +79,10 @@ pub record IsProgramOf (guess : Bool) (bytes : List ℕ) (program : r.Program) :
   pub is : program ≡ with_guesses guess written
   pub within : limit_of program ≡ None
 
+-- the same, where the bytes spell these declarations
+abbrev pub IsProgramFrom : Bool → List ℕ → List Decl → r.Program → Type 0
+IsProgramFrom guess bytes decls program = (p : IsProgramOf guess bytes program) × (p.spelled.decls ≡ decls)
+
 -- what isn't judged yet: the first token that isn't, at this position and written so; or, where all tokens are, the word `const` of the
 -- first declaration of constants that are no candidates
 abbrev pub IsLater : List Tok → List Decl → Pos → List ℕ → Type 0

@@ -9,7 +9,8 @@ ghost use Rattle.bg_sense.specs.Typed.{IsTyped};
 ghost use Rattle.bg_sense.specs.Recursion.{HasNoRecursion};
 ghost use Rattle.bg_sense.specs.Resolved.{IsResolved};
 ghost use Rattle.bg_front.specs.Later.{AreJudged, IsUnjudged};
-ghost use Rattle.bg_front.specs.Programs.{IsProgramOf, IsRefusedBy};
+ghost use Rattle.bg_resolve.specs.Program.{named};
+ghost use Rattle.bg_front.specs.Programs.{IsProgramFrom, IsProgramOf, IsRefusedBy, with_guesses};
 ghost use Rattle.bg_front.specs.Refusals.{Refusal};
 ghost use Rattle.bg_front.specs.Trees.{IsTreeOf, HasNoTree};
 
@@ -64,3 +65,8 @@ pub fn programs_are_resolved()
     bg_meant::laws::programs_are_resolved();
     bg_guess::laws::guesses_are_resolved();
 }
+
+/// The program of a text is what the names of its declarations mean, with its guesses where these are asked for.
+pub fn programs_are_named()
+    ensures { (guess : Bool) (bytes : List ℕ) (ds : List Decl) (p : Program) → IsProgramFrom guess bytes ds p → p ≡ with_guesses guess (named ds) }
+{}

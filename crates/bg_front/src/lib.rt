@@ -16,5 +16,5 @@ pub use later::first_unjudged;
 pub use limits::{MOST_BYTES, MOST_CANDIDATES, MOST_IMPLEMENTATIONS};
 pub use others::first_other;
 pub use refusal::{ReadError, Refusal};
-pub use text::read_program;
+pub use text::{Written, read_program, read_text};
 pub use tree::{Read, tree_of};

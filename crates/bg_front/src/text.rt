@@ -7,7 +7,7 @@ ghost use Rattle.bg_typed.specs.Rules.{KeepsTypes};
 ghost use Rattle.bg_front.specs.Later.{AreJudged};
 ghost use Rattle.bg_front.specs.Limits.{most_bytes};
 ghost use Rattle.bg_front.specs.Others.{AreCandidates};
-ghost use Rattle.bg_front.specs.Programs.{IsMeaningFrom, IsProgramOf, IsRefused};
+ghost use Rattle.bg_front.specs.Programs.{IsMeaningFrom, IsProgramFrom, IsProgramOf, IsRefused};
 ghost use Rattle.bg_front.specs.Trees.{IsTreeOf};
 
 use crate::later::first_unjudged;
@@ -19,6 +19,7 @@ use crate::tree::{Read, tree_of};
 use bg_ast::resolved::Resolved;
 use bg_meant::laws::names_mean_a_program;
 use bg_named::laws::resolved_programs_are_named;
+use bg_parse::Tree;
 use bg_resolve::{ResolveError, resolve};
 use bg_text::{Decl, Token};
 use bg_typed::laws::faultless_programs_keep_the_rules;
@@ -92,7 +93,7 @@ fn counted<'a>(
     requires typed { KeepsTypes (program_of typed.program) }
     requires judged { AreJudged (views tokens.now) }
     requires candidates { AreCandidates (decls_of decls.now) }
-    ensures program { IfOk result (λ t. IsProgramOf guess bytes.now (program_of t.program)) }
+    ensures program { IfOk result (λ t. IsProgramFrom guess bytes.now (decls_of decls.now) (program_of t.program)) }
     ensures refused { IfErr result (λ e. IsRefused guess bytes.now e) }
 {
     let program = within_limits(alloc, typed.program, guess)?;
@@ -110,7 +111,7 @@ fn judged<'a>(
 ) -> Result<Typed, ReadError<'a>>
     requires meant { IsMeaningFrom bytes.now (views tokens.now) (decls_of decls.now) (program_of typed.program) }
     requires typed { KeepsTypes (program_of typed.program) }
-    ensures program { IfOk result (λ t. IsProgramOf guess bytes.now (program_of t.program)) }
+    ensures program { IfOk result (λ t. IsProgramFrom guess bytes.now (decls_of decls.now) (program_of t.program)) }
     ensures refused { IfErr result (λ e. IsRefused guess bytes.now e) }
 {
     if let Some((pos, word)) = first_unjudged(tokens) {
@@ -122,7 +123,14 @@ fn judged<'a>(
     }
 }
 
-/// The program of a text, with its guesses where these are asked for.
+/// The tree of a text, and its program, with its guesses where these are asked for.
+#[derive(Drop)]
+pub struct Written {
+    pub tree: Tree,
+    pub typed: Typed,
+}
+
+/// The tree and the program of a text, with its guesses where these are asked for.
 ///
 /// # Errors
 /// `Refused` with the first of these that holds: there are too many bytes (`TooLong`); the bytes hold no tokens (`Bytes`);
@@ -131,12 +139,25 @@ fn judged<'a>(
 /// their word `const`); there are too many implementations (`Implementations`) or candidates (`Candidates`), the guesses that
 /// are asked for among them and counted before they are made, or an implementation has with them too many places (`Places`)
 /// or too many expression nodes (`Expanded`). `Memory` where memory ran out. Positions are lines and byte columns from 1.
-pub fn read_program<'a>(alloc: Global, bytes: &'a [u8], guess: bool) -> Result<Typed, ReadError<'a>>
-    ensures program { IfOk result (λ t. IsProgramOf guess bytes.now (program_of t.program)) }
+pub fn read_text<'a>(alloc: Global, bytes: &'a [u8], guess: bool) -> Result<Written, ReadError<'a>>
+    ensures program { IfOk result (λ w. IsProgramFrom guess bytes.now (decls_of w.tree.decls.items) (program_of w.typed.program)) }
     ensures refused { IfErr result (λ e. IsRefused guess bytes.now e) }
 {
     let read = read(alloc, bytes)?;
     let program = meaning(alloc, bytes, &read.tokens, &read.tree.decls)?;
     let typed = typed(alloc, bytes, &read.tokens, &read.tree.decls, program)?;
-    judged(alloc, bytes, &read.tokens, &read.tree.decls, typed, guess)
+    let made = judged(alloc, bytes, &read.tokens, &read.tree.decls, typed, guess)?;
+    Ok(Written {
+        tree: read.tree,
+        typed: made,
+    })
+}
+
+/// The program of a text: that of `read_text`, and its errors.
+pub fn read_program<'a>(alloc: Global, bytes: &'a [u8], guess: bool) -> Result<Typed, ReadError<'a>>
+    ensures program { IfOk result (λ t. IsProgramOf guess bytes.now (program_of t.program)) }
+    ensures refused { IfErr result (λ e. IsRefused guess bytes.now e) }
+{
+    let written = read_text(alloc, bytes, guess)?;
+    Ok(written.typed)
 }

@@ -13,14 +13,16 @@ returns-in_err-program-clause-refused c =
     search (rules, why)
 
 pub returns-clause-program : goal.returns-clause-program
-returns-clause-program c =
-    record {
-      tokens = views c.args.tokens.now;
-      written = program_of c.args.typed.program;
-      spelled = c.requires.meant.0;
-      typed = c.requires.typed;
-      judged = c.requires.judged;
-      candidates = subst AreCandidates (sym c.requires.meant.1) c.requires.candidates;
-      is = c.in_ok-program.ensures.made;
-      within = subst (λ (p : Program). limit_of p ≡ None) (sym c.in_ok-program.ensures.made) c.in_ok-program.ensures.within;
-    }
+returns-clause-program c = (
+  record {
+    tokens = views c.args.tokens.now;
+    written = program_of c.args.typed.program;
+    spelled = c.requires.meant.0;
+    typed = c.requires.typed;
+    judged = c.requires.judged;
+    candidates = subst AreCandidates (sym c.requires.meant.1) c.requires.candidates;
+    is = c.in_ok-program.ensures.made;
+    within = subst (λ (p : Program). limit_of p ≡ None) (sym c.in_ok-program.ensures.made) c.in_ok-program.ensures.within;
+  },
+  c.requires.meant.1,
+)

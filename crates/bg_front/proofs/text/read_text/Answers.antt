@@ -2,8 +2,8 @@ use Rattle.std.proofs.Common.{rules, sym, subst}
 use Rattle.bg_text.specs.Tokens.{views}
 use Rattle.bg_text.specs.Views.{decls_of}
 use Rattle.bg_ast.specs.Views.{program_of}
-use Rattle.bg_front.specs.Programs.{IsMeaningFrom}
-use Rattle.bg_front.proofs.text.read_program.Goals as goal
+use Rattle.bg_front.specs.Programs.{IsMeaningFrom, IsProgramFrom}
+use Rattle.bg_front.proofs.text.read_text.Goals as goal
 
 pub typed-requires : goal.typed-requires
 typed-requires c =
@@ -34,3 +34,7 @@ returns-in_err-program-clause-refused c = let why = c.in_err-program.ensures.ref
 
 pub returns-in_err-typed-clause-refused : goal.returns-in_err-typed-clause-refused
 returns-in_err-typed-clause-refused c = let why = c.in_err-typed.ensures.refused c.args.guess in search (rules, why)
+
+pub returns-clause-program : goal.returns-clause-program
+returns-clause-program c =
+    subst (λ ds. IsProgramFrom c.args.guess c.args.bytes.now (decls_of ds) (program_of c.in_ok-made.made.program)) c.deref-6.ensures.value c.in_ok-made.ensures.program
