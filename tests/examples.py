@@ -3,8 +3,9 @@
 
 usage: examples.py --bg COMMAND
 
-A program's first line may name options: `// --guess` and the like. A text that begins with `error: ` is expected on the error stream,
-with status 3; any other one on the output, with the status that its lines tell. The last line is `N passed, M failed`.
+A program's first line may name options: `// --guess` and the like, and before them the command `annotate`; else it is `verify`. A text
+that begins with `error: ` is expected on the error stream, with status 3; any other one on the output, with the status that its lines
+tell, 0 for a program. The last line is `N passed, M failed`.
 """
 import argparse
 import glob
@@ -26,10 +27,14 @@ def wanted(text):
 
 
 def words_of(source):
-    """Returns the options that the program's first line names."""
+    """Returns the command and the options that the program's first line names."""
     with open(source, encoding="latin-1") as file:
-        words = file.readline().split()
-    return words[1:] if words[:1] == ["//"] and all(word.startswith("--") or word.isdigit() for word in words[1:]) else []
+        mark, *words = file.readline().split() or [""]
+    command = words[:1] if words[:1] == ["annotate"] else []
+    options = words[len(command) :]
+    if mark != "//" or not all(word.startswith("--") or word.isdigit() for word in options):
+        return ["verify"]
+    return (command or ["verify"]) + options
 
 
 def main():
@@ -42,7 +47,7 @@ def main():
     for source in sorted(glob.glob(os.path.join(TOP, "examples", "*.bpl"))):
         with open(source[: -len("bpl")] + "expected", "rb") as file:
             out, err, status = wanted(file.read())
-        ran = subprocess.run([*shlex.split(args.bg), "verify", *words_of(source), source], capture_output=True, timeout=600)
+        ran = subprocess.run([*shlex.split(args.bg), *words_of(source), source], capture_output=True, timeout=600)
         if (ran.stdout, ran.stderr, ran.returncode) == (out, err, status):
             passed += 1
             continue

@@ -219,7 +219,7 @@ def trials():
     for source in sorted(glob.glob(os.path.join(TOP, "examples", "*.bpl"))):
         with open(source, encoding="latin-1") as file, open(source[: -len("bpl")] + "expected", encoding="latin-1") as other:
             text, report = file.read(), other.read()
-        if not report.startswith("error: ") and not text.startswith("// --"):
+        if not report.startswith("error: ") and not text.startswith(("// --", "// annotate")):
             yield f"right: {os.path.basename(source)}", text, report, None
     for name, text, report, part, other, phrase in DOCTORED:
         assert part in report, name

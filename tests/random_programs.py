@@ -3,10 +3,11 @@
 
 usage: random_programs.py --bg COMMAND [--count N] [--seed K] [--runs N] [--truths] [--candidates] [--workers N..] [--budget N] [--jobs N] [--keep FOLDER]
 
-Of each implementation N runs are tried. With --truths there are no whole numbers. With --candidates most programs declare some. With
---workers each program is judged once with each of these numbers of workers: where no report has an unknown, their verdict lines are the
-same. With --budget the program gets as many inner nodes and rows. With --keep programs and reports are written to a folder, and left
-there. The last line is `N passed, M failed`.
+Of each implementation N runs are tried. With --truths there are no whole numbers. With --candidates most programs declare some; what
+`annotate` writes of them, with guesses and without, has the same words for its implementations, and is annotated as it is. With --workers
+each program is judged once with each of these numbers of workers: where no report has an unknown, their verdict lines are the same. With
+--budget the program gets as many inner nodes and rows. With --keep programs and reports are written to a folder, and left there. The last
+line is `N passed, M failed`.
 """
 import argparse
 import collections
@@ -283,6 +284,32 @@ def reported(args, folder, number, text, workers):
     return report, judge.faults_in(text, report, args.runs, args.seed, **budgets)
 
 
+# What a search may use up in programs that are annotated: with guesses they have many candidates.
+FEW = ["--nodes", "300", "--rows", "300"]
+
+
+def written(args, command, options, source):
+    """What a command writes of a program, and its status."""
+    ran = subprocess.run([*shlex.split(args.bg), command, *options, *FEW, source], capture_output=True, timeout=600)
+    return ran.stdout.decode("latin-1"), ran.returncode
+
+
+def annotation_faults(args, folder, number, options):
+    """What is wrong with the annotated program: its implementations have the words that the program's have, and it is its own annotated one."""
+    report, status = written(args, "verify", options, os.path.join(folder, f"{number}.bpl"))
+    text, same = written(args, "annotate", options, os.path.join(folder, f"{number}.bpl"))
+    source = os.path.join(folder, f"{number}.annotated.bpl")
+    with open(source, "w", encoding="latin-1") as file:
+        file.write(text)
+    again, other = written(args, "verify", [], source)
+    words = [re.findall(r"^implementation (\S+) \S+ (\w+)$", it, re.M) for it in (report, again)]
+    if " unknown" in report + again:
+        return []
+    if (status, status, words[0], text) != (same, other, words[1], written(args, "annotate", [], source)[0]):
+        return [f"the program that annotate writes {' '.join(options)} is another one"]
+    return []
+
+
 def judged(args, folder, number):
     """What is wrong with the reports of one program, a list of lines, and the words that they say of candidates and implementations."""
     rng = random.Random(args.seed * 1_000_003 + number)
@@ -295,6 +322,8 @@ def judged(args, folder, number):
     is_known = not any(re.search(r" unknown", report) for report in reports)
     if is_known and any(verdict_lines(report) != verdict_lines(reports[0]) for report in reports):
         faults.append(f"the verdict lines of {args.workers} workers differ")
+    if args.candidates:
+        faults += annotation_faults(args, folder, number, []) + annotation_faults(args, folder, number, ["--guess"])
     return faults, re.findall(r"^(?:candidate|implementation) \S+ (?:\d+:\d+ )?(\w+)", "\n".join(reports), re.M)
 
 

@@ -1,5 +1,5 @@
 -- What a parse of the command says of the words.
-use Rattle.std.proofs.Common.{◌≡◌, ◌≢◌, sym, ap, subst, refl, ◌∙◌, inl, inr, true, map, unwrap_or, option_map, ℕ, List, [], ◌∷◌, Option, Some, None, Bor}
+use Rattle.std.proofs.Common.{◌≡◌, ◌≢◌, ◌||◌, Bool, sym, ap, subst, refl, ◌∙◌, inl, inr, true, false, map, unwrap_or, option_map, ℕ, List, [], ◌∷◌, Option, Some, None, Bor}
 use Rattle.clap.specs.Words.{rows_of, found_of, fault_of, is_simple_and_free}
 use Rattle.clap.specs.Walk.{Text, Row}
 use Rattle.clap.specs.Simple.{App, is_simple, subcommand_of}
@@ -9,7 +9,7 @@ use Rattle.clap.specs.declared.parser.matches.ArgMatches.{ArgMatches}
 use Rattle.clap.specs.declared.error.Error.{Error}
 use Rattle.clap.specs.declared.error.kind.ErrorKind.TheVariants.{OutOfMemory}
 use Rattle.clap.proofs.OnLiterals.{clap_on_literals}
-use Rattle.bg_cli.specs.Cli.{cli, IsTaken, rows_in}
+use Rattle.bg_cli.specs.Cli.{cli, IsTaken, rows_in, is_annotate, annotates_in}
 
 pub is_plain : is_simple_and_free cli ≡ true
 unfolding clap_on_literals cli
@@ -54,3 +54,19 @@ entered_rows (Some x) s v h k = let e : x ≡ v = cc in rw (sym e) (ap (λ y. un
 pub no_rows : (r : Option Entered) (s : Option (Text × List Row)) → rows_at r ≡ option_map (λ p. p.1) s → r ≡ None → [] ≡ unwrap_or (option_map (λ p. p.1) s) []
 no_rows None s h k = ap (λ y. unwrap_or y []) h
 no_rows (Some x) s h k = absurd cc
+
+-- the name that a parse entered
+pub name_is : (a : App) (ws : List Text) (s : Option (Text × List Row)) → a ≡ cli → (is_simple a ≡ true → s ≡ subcommand_of a ws) → is_annotate (option_map (λ p. p.0) s) ≡ annotates_in ws
+name_is a ws s same h = ap (λ x. is_annotate (option_map (λ p. p.0) x)) (h (ap is_simple same ∙ is_simple_too) ∙ ap (λ x. subcommand_of x ws) same)
+
+pub entered_name : (r : Option Entered) (s : Option Text) (v : Entered) → option_map (λ p. p.0.now) r ≡ s → r ≡ Some v → is_annotate (Some v.0.now) ≡ is_annotate s
+entered_name None s v h k = absurd cc
+entered_name (Some x) s v h k = let e : x ≡ v = cc in rw (sym e) (ap is_annotate h)
+
+pub no_name : (r : Option Entered) (s : Option Text) → option_map (λ p. p.0.now) r ≡ s → r ≡ None → false ≡ is_annotate s
+no_name None s h k = ap is_annotate h
+no_name (Some x) s h k = absurd cc
+
+-- an argument that isn't global leaves a command without global ones
+pub none_global : (a b c : Bool) → a ≡ (b || c) → b ≡ false → c ≡ false → a ≡ false
+none_global a b c h e f = h ∙ ap (λ x. x || c) e ∙ f

@@ -14,7 +14,7 @@ use Rattle.clap.specs.ValueTests.{accepts, is_numeral, fits_i64}
 use Rattle.clap.proofs.FaultLemmas.{stopped_fault}
 use Rattle.clap.proofs.OnLiterals.{clap_on_literals}
 use Rattle.std.proofs.lemmas.Bool.{le-leb}
-use Rattle.bg_cli.specs.Cli.{cli, workers, nodes, most_rows, files, verify, IsTaken, Plain, AllPlain, IsNumberTo, IsBudget, IsWorkers, rows_in, files_in, workers_in, nodes_in, most_rows_in, files_of, workers_of, as_workers, nodes_of, most_rows_of, guess, history, guess_of, history_of, guess_in, history_in, number_or}
+use Rattle.bg_cli.specs.Cli.{cli, workers, nodes, most_rows, files, verify, IsTaken, Plain, AllPlain, IsNumberTo, IsBudget, IsWorkers, rows_in, files_in, workers_in, nodes_in, most_rows_in, files_of, workers_of, as_workers, nodes_of, most_rows_of, guess, history, guess_of, history_of, guess_in, history_in, number_or, annotate, is_annotate, annotates_in}
 
 abbrev rules : List Rule
 rules = filled_from 1 (workers ∷ nodes ∷ most_rows ∷ guess ∷ history ∷ files ∷ help_rule ∷ [])
@@ -440,3 +440,99 @@ both_guess own n m f fs k l h = ap guess_of (both_rows own n m f fs k l h)
 
 pub both_history : (own n m f : Text) (fs : List Text) → IsBudget n → IsBudget m → AllPlain (f ∷ fs) → history_in (own ∷ codes "verify" ∷ asks_both n m (f ∷ fs)) ≡ false
 both_history own n m f fs k l h = ap history_of (both_rows own n m f fs k l h)
+
+pub plain_annotates : (own f : Text) (fs : List Text) → AllPlain (f ∷ fs) → annotates_in (own ∷ codes "verify" ∷ f ∷ fs) ≡ false
+unfolding cli
+plain_annotates own f fs h = ap (λ w. is_annotate (option_map (λ p. p.0) (entered command w.stopped))) (top_walk (f ∷ fs))
+
+-- the same for `annotate`, which has a flag less
+abbrev fewer : List Rule
+fewer = filled_from 1 (workers ∷ nodes ∷ most_rows ∷ guess ∷ files ∷ help_rule ∷ [])
+
+next_file : (xs : List Text) (word : Text) → Plain word → walked fewer [] (reading [] xs) word ≡ reading [] (xs ++ word ∷ [])
+unfolding clap_on_literals
+next_file xs [] h = absurd h
+next_file xs (b ∷ bs) h = simp h refl
+
+one_file : (word : Text) → Plain word → walked fewer [] (walk_from nothing_held) word ≡ reading [] (word ∷ [])
+unfolding clap_on_literals
+one_file [] h = absurd h
+one_file (b ∷ bs) h = simp h refl
+
+next_files : (xs ws : List Text) → AllPlain ws → fold (walked fewer []) (reading [] xs) ws ≡ reading [] (xs ++ ws)
+next_files xs [] h = ap (reading []) (sym (append-nil xs))
+next_files xs (w ∷ ws) h =
+    ap (λ s. fold (walked fewer []) s ws) (next_file xs w h.0) ∙ next_files (xs ++ w ∷ []) ws h.1 ∙ ap (reading []) (append_assoc xs (w ∷ []) ws)
+
+abbrev other : Shape
+other = record (marked_built annotate.top) { rules = fewer; disable_help_subcommand = true }
+
+next_fine : (xs : List Text) (word : Text) → Plain word → turn_fault other [] (reading [] xs) word ≡ []
+unfolding clap_on_literals
+next_fine xs [] h = absurd h
+next_fine xs (b ∷ bs) h = simp h refl
+
+one_fine : (word : Text) → Plain word → turn_fault other [] (walk_from nothing_held) word ≡ []
+unfolding clap_on_literals
+one_fine [] h = absurd h
+one_fine (b ∷ bs) h = simp h refl
+
+others_fine : (xs ws : List Text) → AllPlain ws → walk_fault other [] (reading [] xs) ws ≡ []
+unfolding walk_fault
+others_fine xs [] h = refl
+others_fine xs (w ∷ ws) h =
+    ap₂ or_else (next_fine xs w h.0) (ap (λ s. walk_fault other [] s ws) (next_file xs w h.0) ∙ others_fine (xs ++ w ∷ []) ws h.1)
+
+some_files : (f : Text) (fs : List Text) → AllPlain (f ∷ fs) → walk fewer [] nothing_held (f ∷ fs) ≡ reading [] (f ∷ fs)
+some_files f fs h = ap (λ s. fold (walked fewer []) s fs) (one_file f h.0) ∙ next_files (f ∷ []) fs h.1
+
+abbrev behind_words : Kinds → Walk → Kinds
+behind_words first w =
+    or_else first
+    (or_else [] (or_else (settle_fault fewer other.args_override_self w.held)
+    (or_else (defaults_fault (settled fewer w.held).rows fewer) (check_fault other (finished fewer w.held) false))))
+
+some_settled : (f : Text) (fs : List Text) → length (f ∷ fs) ≤ usize_max → settle_fault fewer false (reading [] (f ∷ fs)).held ≡ []
+some_settled f fs n = ap₂ or_else (many_pass (length (f ∷ fs)) (omega arith) n) (texts_pass (f ∷ fs))
+
+other_fine : (f : Text) (fs : List Text) → AllPlain (f ∷ fs) → length (f ∷ fs) ≤ usize_max → level_fault other [] nothing_held (f ∷ fs) false [] ≡ []
+unfolding walk_fault defaults_fault
+other_fine f fs h n =
+    let first : walk_fault other [] (walk_from nothing_held) (f ∷ fs) ≡ [] =
+    ap₂ or_else (one_fine f h.0) (ap (λ s. walk_fault other [] s fs) (one_file f h.0) ∙ others_fine (f ∷ []) fs h.1) in
+    ap₂ behind_words first (some_files f fs h) ∙ ap (λ k. or_else k []) (some_settled f fs n)
+
+abbrev halted_at : List Text → Walk
+halted_at ws = record (walk_from nothing_held) { stopped = Some (codes "annotate", ws) }
+
+halt_more : (c : List Rule) (names : Names) (xs ws : List Text) → fold (walked c names) (halted_at xs) ws ≡ halted_at (xs ++ ws)
+unfolding walked
+halt_more c names xs [] = ap halted_at (sym (append-nil xs))
+halt_more c names xs (w ∷ ws) = halt_more c names (xs ++ w ∷ []) ws ∙ ap halted_at (append_assoc xs (w ∷ []) ws)
+
+halt_walk : (ws : List Text) → walk command.top.rules (names_of command) nothing_held (codes "annotate" ∷ ws) ≡ halted_at ws
+unfolding clap_on_literals cli
+halt_walk ws = halt_more command.top.rules (names_of command) [] ws
+
+halt_first : (ws : List Text) → walk_fault command.top (names_of command) (walk_from nothing_held) (codes "annotate" ∷ ws) ≡ []
+unfolding clap_on_literals cli
+halt_first ws = stopped_fault command.top (names_of command) (walk_from nothing_held) (codes "annotate", []) ws
+
+pub annotate_taken : (own f : Text) (fs : List Text) → AllPlain (f ∷ fs) → length (f ∷ fs) ≤ usize_max → IsTaken (own ∷ codes "annotate" ∷ f ∷ fs)
+unfolding defaults_fault cli
+annotate_taken own f fs h n = ap₂ whole (halt_first (f ∷ fs)) (halt_walk (f ∷ fs)) ∙ ap (λ k. or_else k []) (other_fine f fs h n)
+
+annotate_rows : (own f : Text) (fs : List Text) → AllPlain (f ∷ fs) → rows_in (own ∷ codes "annotate" ∷ f ∷ fs) ≡ finished fewer (reading [] (f ∷ fs)).held
+unfolding cli
+annotate_rows own f fs h =
+    ap (λ w. unwrap_or (option_map (λ p. p.1) (entered command w.stopped)) []) (halt_walk (f ∷ fs)) ∙ ap (λ w. finished fewer w.held) (some_files f fs h)
+
+pub annotate_files : (own f : Text) (fs : List Text) → AllPlain (f ∷ fs) → files_in (own ∷ codes "annotate" ∷ f ∷ fs) ≡ f ∷ fs
+annotate_files own f fs h = ap files_of (annotate_rows own f fs h)
+
+pub annotate_guess : (own f : Text) (fs : List Text) → AllPlain (f ∷ fs) → guess_in (own ∷ codes "annotate" ∷ f ∷ fs) ≡ false
+annotate_guess own f fs h = ap guess_of (annotate_rows own f fs h)
+
+pub annotate_annotates : (own f : Text) (fs : List Text) → AllPlain (f ∷ fs) → annotates_in (own ∷ codes "annotate" ∷ f ∷ fs) ≡ true
+unfolding cli
+annotate_annotates own f fs h = ap (λ w. is_annotate (option_map (λ p. p.0) (entered command w.stopped))) (halt_walk (f ∷ fs))

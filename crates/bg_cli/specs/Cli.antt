@@ -1,5 +1,6 @@
 -- The command line: which words are taken, and what they ask.
 use Rattle.std.specs.Prelude.{◌≡◌, ◌==◌, ◌&&◌, nat_le, Bool, ℕ, pos, true, false, if◌then◌else◌, List, [], ◌∷◌, map, codes, Option, Some, None, option_map, unwrap_or, String, string_bytes}
+use Rattle.std.specs.Str.{bytes_eq}
 use Rattle.std.specs.Str.Parse.{digits_value, without_leading_plus}
 use Rattle.std.specs.declared.alloc.Global.{Global}
 use Rattle.clap.specs.ValueTests.{accepts}
@@ -63,12 +64,16 @@ files =
 abbrev pub verify : App
 verify = with_rule (with_rule (with_rule (with_rule (with_rule (with_rule (new_app (codes "verify")) workers) nodes) most_rows) guess) history) files
 
+-- the same without `--history`
+abbrev pub annotate : App
+annotate = with_rule (with_rule (with_rule (with_rule (with_rule (new_app (codes "annotate")) workers) nodes) most_rows) guess) files
+
 abbrev pub required : App → App
 required a = record a { top = record a.top { subcommand_required = true } }
 
--- the command: `bg verify [--workers N] [--nodes N] [--rows N] [--guess] [--history] FILE..`
+-- the commands: `bg verify [--workers N] [--nodes N] [--rows N] [--guess] [--history] FILE..`, and `bg annotate` without `--history`
 unfoldable pub cli : App
-cli = with_subcommand (required (new_app (codes "bg"))) verify.top
+cli = with_subcommand (with_subcommand (required (new_app (codes "bg"))) verify.top) annotate.top
 
 -- the bytes of the words
 abbrev pub texts_of : List (String Global) → List Text
@@ -78,11 +83,11 @@ texts_of = map string_bytes
 abbrev pub IsTaken : List Text → Type 0
 IsTaken words = fault_of cli words ≡ []
 
--- what a parse finds for `verify`
+-- what a parse finds for the command
 abbrev pub rows_in : List Text → List Row
 rows_in words = unwrap_or (option_map (λ p. p.1) (subcommand_of cli words)) []
 
--- what a parse found for `verify`
+-- what a parse found for the command
 abbrev pub rows_for : ArgMatches → List Row
 rows_for m = unwrap_or (option_map (λ p. p.1) (subcommand_rows_of m)) []
 
@@ -134,6 +139,19 @@ guess_of rows = flag_of (codes "guess") rows
 -- whether the history is asked for
 abbrev pub history_of : List Row → Bool
 history_of rows = flag_of (codes "history") rows
+
+-- whether this is the name of the command `annotate`
+abbrev pub is_annotate : Option Text → Bool
+is_annotate None = false
+is_annotate (Some name) = bytes_eq name (codes "annotate")
+
+-- whether the program with its annotations is asked for, and no report
+abbrev pub annotates_in : List Text → Bool
+annotates_in words = is_annotate (option_map (λ p. p.0) (subcommand_of cli words))
+
+-- the same of what a parse found
+abbrev pub annotates_for : ArgMatches → Bool
+annotates_for m = is_annotate (option_map (λ p. p.0) (subcommand_rows_of m))
 
 abbrev pub files_in : List Text → List Text
 files_in words = files_of (rows_in words)

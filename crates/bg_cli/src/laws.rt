@@ -1,9 +1,10 @@
 //! Plain words are taken, and ask what they say.
-ghost use Rattle.std.specs.Prelude.{◌≡◌, false, ◌≤◌, ◌^◌, ◌-◌, List, ℕ, ◌∷◌, length, codes};
+ghost use Rattle.std.specs.Prelude.{◌≡◌, true, false, ◌≤◌, ◌^◌, ◌-◌, List, ℕ, ◌∷◌, length, codes};
 ghost use Rattle.std.specs.Str.Parse.{digits_value, without_leading_plus};
-ghost use Rattle.bg_cli.specs.Cli.{AllPlain, IsBudget, IsWorkers, IsTaken, files_in, workers_in, nodes_in, most_rows_in, guess_in, history_in};
+ghost use Rattle.bg_cli.specs.Cli.{AllPlain, IsBudget, IsWorkers, IsTaken, files_in, workers_in, nodes_in, most_rows_in, guess_in, history_in, annotates_in};
 
-/// `verify` and plain words: these are the files, and the numbers of nodes, rows and workers are the usual ones; neither guesses nor the history are asked for.
+/// `verify` and plain words: these are the files, and the numbers of nodes, rows and workers are the usual ones; neither guesses nor the
+/// history nor annotations are asked for.
 pub fn plain_words_are_taken()
     ensures taken { (own f : List ℕ) (fs : List (List ℕ)) → AllPlain (f ∷ fs) → length (f ∷ fs) ≤ 2 ^ 64 - 1 → IsTaken (own ∷ codes "verify" ∷ f ∷ fs) }
     ensures files { (own f : List ℕ) (fs : List (List ℕ)) → AllPlain (f ∷ fs) → files_in (own ∷ codes "verify" ∷ f ∷ fs) ≡ f ∷ fs }
@@ -12,6 +13,15 @@ pub fn plain_words_are_taken()
     ensures workers { (own f : List ℕ) (fs : List (List ℕ)) → AllPlain (f ∷ fs) → workers_in (own ∷ codes "verify" ∷ f ∷ fs) ≡ 4 }
     ensures guess { (own f : List ℕ) (fs : List (List ℕ)) → AllPlain (f ∷ fs) → guess_in (own ∷ codes "verify" ∷ f ∷ fs) ≡ false }
     ensures history { (own f : List ℕ) (fs : List (List ℕ)) → AllPlain (f ∷ fs) → history_in (own ∷ codes "verify" ∷ f ∷ fs) ≡ false }
+    ensures annotates { (own f : List ℕ) (fs : List (List ℕ)) → AllPlain (f ∷ fs) → annotates_in (own ∷ codes "verify" ∷ f ∷ fs) ≡ false }
+{}
+
+/// `annotate` and plain words: these are the files, and the program with its annotations is asked for, without guesses.
+pub fn plain_words_of_annotate_are_taken()
+    ensures taken { (own f : List ℕ) (fs : List (List ℕ)) → AllPlain (f ∷ fs) → length (f ∷ fs) ≤ 2 ^ 64 - 1 → IsTaken (own ∷ codes "annotate" ∷ f ∷ fs) }
+    ensures files { (own f : List ℕ) (fs : List (List ℕ)) → AllPlain (f ∷ fs) → files_in (own ∷ codes "annotate" ∷ f ∷ fs) ≡ f ∷ fs }
+    ensures guess { (own f : List ℕ) (fs : List (List ℕ)) → AllPlain (f ∷ fs) → guess_in (own ∷ codes "annotate" ∷ f ∷ fs) ≡ false }
+    ensures annotates { (own f : List ℕ) (fs : List (List ℕ)) → AllPlain (f ∷ fs) → annotates_in (own ∷ codes "annotate" ∷ f ∷ fs) ≡ true }
 {}
 
 /// `verify --nodes` with a number, and plain words.

@@ -1,9 +1,9 @@
 //! From the words of a command line to what is asked.
-ghost use Rattle.std.specs.Prelude.{◌≡◌, ◌≢◌, ◌<◌, ◌≤◌, IfOk, IsErrOf, map, codes, false};
+ghost use Rattle.std.specs.Prelude.{◌≡◌, ◌≢◌, ◌<◌, ◌≤◌, IfOk, IsErrOf, map, codes, false, Some};
 ghost use Rattle.clap.specs.Walk.{rule_of};
 ghost use Rattle.clap.specs.Words.{app_of, found_of, kind_of, rows_of};
 ghost use Rattle.bg_cli.specs.declared.line.LineError.TheVariants.{Memory};
-ghost use Rattle.bg_cli.specs.Cli.{cli, workers, budget, files, texts_of, IsTaken, files_in, workers_in, nodes_in, most_rows_in, files_of, workers_of, as_workers, nodes_of, most_rows_of, flag, flag_of, guess_of, history_of, guess_in, history_in, rows_for};
+ghost use Rattle.bg_cli.specs.Cli.{cli, workers, budget, files, texts_of, IsTaken, files_in, workers_in, nodes_in, most_rows_in, files_of, workers_of, as_workers, nodes_of, most_rows_of, flag, flag_of, guess_of, history_of, guess_in, history_in, rows_for, is_annotate, annotates_for, annotates_in};
 
 use clap::error::ErrorKind;
 use clap::{Arg, ArgAction, ArgMatches, Command, Error, value_parser};
@@ -19,8 +19,8 @@ pub const ROWS: u32 = 20_000;
 pub const WORKERS: u32 = 4;
 
 /// What a command line asks: the files in order, how many workers check places of candidates, how many nodes of a certificate's tree
-/// may count, and the most rows that an elimination keeps; whether the program is judged with its guesses; and whether the history of
-/// the candidates that went is asked for.
+/// may count, and the most rows that an elimination keeps; whether the program is judged with its guesses; whether the history of
+/// the candidates that went is asked for; and whether the program with its annotations is asked for, and no report.
 #[derive(Drop)]
 pub struct Line<'a> {
     pub files: Vec<&'a str>,
@@ -29,6 +29,7 @@ pub struct Line<'a> {
     pub rows: u32,
     pub guess: bool,
     pub history: bool,
+    pub annotates: bool,
 }
 
 /// Why nothing is asked.
@@ -83,7 +84,8 @@ fn files<'a>(alloc: Global) -> Arg<'a>
         .action(ArgAction::Append)
 }
 
-/// The command `bg verify [--workers N] [--nodes N] [--rows N] [--guess] [--history] FILE..`.
+/// The commands `bg verify [--workers N] [--nodes N] [--rows N] [--guess] [--history] FILE..`, and `bg annotate` without
+/// `--history`.
 pub fn cli<'a>(alloc: Global) -> Result<Command<'a>, AllocError>
     ensures { IfOk result (λ c. app_of c ≡ cli) }
 {
@@ -94,9 +96,16 @@ pub fn cli<'a>(alloc: Global) -> Result<Command<'a>, AllocError>
         .arg(flag(alloc, "guess"))?
         .arg(flag(alloc, "history"))?
         .arg(files(alloc))?;
+    let annotate = Command::new(alloc, "annotate")
+        .arg(workers(alloc))?
+        .arg(budget(alloc, "nodes"))?
+        .arg(budget(alloc, "rows"))?
+        .arg(flag(alloc, "guess"))?
+        .arg(files(alloc))?;
     Command::new(alloc, "bg")
         .subcommand_required(true)
-        .subcommand(verify)
+        .subcommand(verify)?
+        .subcommand(annotate)
 }
 
 /// Why a parse failed.
@@ -110,7 +119,7 @@ fn fault_of(error: &Error) -> LineError
     }
 }
 
-/// The files that the matches of `verify` hold.
+/// The files that the matches of the command hold.
 fn files_of<'a>(alloc: Global, verify: &ArgMatches<'a>) -> Result<Vec<&'a str>, AllocError>
     ensures { IfOk result (λ files. map (λ file. file.now) files.items ≡ files_of (rows_of (found_of verify.now))) }
 {
@@ -120,14 +129,14 @@ fn files_of<'a>(alloc: Global, verify: &ArgMatches<'a>) -> Result<Vec<&'a str>, 
     }
 }
 
-/// The number of nodes that the matches of `verify` hold.
+/// The number of nodes that the matches of the command hold.
 fn nodes_of(verify: &ArgMatches<'_>) -> u32
     ensures { result ≡ nodes_of (rows_of (found_of verify.now)) }
 {
     verify.get_one::<u32>("nodes").unwrap_or(NODES)
 }
 
-/// The number of rows that the matches of `verify` hold.
+/// The number of rows that the matches of the command hold.
 fn most_rows_of(verify: &ArgMatches<'_>) -> u32
     ensures { result ≡ most_rows_of (rows_of (found_of verify.now)) }
 {
@@ -142,7 +151,7 @@ fn as_workers(n: u32) -> u32
     if 1 <= n && n <= 16 { n } else { WORKERS }
 }
 
-/// The number of workers that the matches of `verify` hold.
+/// The number of workers that the matches of the command hold.
 fn workers_of(verify: &ArgMatches<'_>) -> u32
     ensures is { result ≡ workers_of (rows_of (found_of verify.now)) }
     ensures some { (0 < result) × (result ≤ 16) }
@@ -150,11 +159,18 @@ fn workers_of(verify: &ArgMatches<'_>) -> u32
     as_workers(verify.get_one::<u32>("workers").unwrap_or(WORKERS))
 }
 
-/// Whether the matches of `verify` have a flag.
+/// Whether the matches of the command have a flag.
 fn flag_of(verify: &ArgMatches<'_>, name: &str) -> bool
     ensures { result ≡ flag_of name.now (rows_of (found_of verify.now)) }
 {
     verify.get_one::<bool>(name).unwrap_or(false)
+}
+
+/// Whether this is the name of the command `annotate`.
+fn is_annotate(name: &str) -> bool
+    ensures { result ≡ is_annotate (Some name.now) }
+{
+    name == "annotate"
 }
 
 /// What the matches ask.
@@ -166,8 +182,9 @@ fn line_of<'a>(alloc: Global, matches: &ArgMatches<'a>) -> Result<Line<'a>, Allo
     ensures rows { IfOk result (λ line. line.rows ≡ most_rows_of (rows_for matches.now)) }
     ensures guess { IfOk result (λ line. line.guess ≡ guess_of (rows_for matches.now)) }
     ensures history { IfOk result (λ line. line.history ≡ history_of (rows_for matches.now)) }
+    ensures annotates { IfOk result (λ line. line.annotates ≡ annotates_for matches.now) }
 {
-    let Some((_, verify)) = matches.subcommand() else {
+    let Some((name, verify)) = matches.subcommand() else {
         return Ok(Line {
             files: Vec::new(alloc),
             workers: WORKERS,
@@ -175,6 +192,7 @@ fn line_of<'a>(alloc: Global, matches: &ArgMatches<'a>) -> Result<Line<'a>, Allo
             rows: ROWS,
             guess: false,
             history: false,
+            annotates: false,
         });
     };
     Ok(Line {
@@ -184,6 +202,7 @@ fn line_of<'a>(alloc: Global, matches: &ArgMatches<'a>) -> Result<Line<'a>, Allo
         rows: most_rows_of(verify),
         guess: flag_of(verify, "guess"),
         history: flag_of(verify, "history"),
+        annotates: is_annotate(name),
     })
 }
 
@@ -200,6 +219,7 @@ pub fn read_line<'a>(alloc: Global, words: &'a [String]) -> Result<Line<'a>, Lin
     ensures rows { IfOk result (λ line. line.rows ≡ most_rows_in (texts_of words.now)) }
     ensures guess { IfOk result (λ line. line.guess ≡ guess_in (texts_of words.now)) }
     ensures history { IfOk result (λ line. line.history ≡ history_in (texts_of words.now)) }
+    ensures annotates { IfOk result (λ line. line.annotates ≡ annotates_in (texts_of words.now)) }
     ensures refused { IsErrOf result LineError.Usage → IsTaken (texts_of words.now) → ⊥ }
 {
     let matches = match cli(alloc)?.try_get_matches_from(words) {

@@ -11,7 +11,7 @@ use Rattle.bg_tool.specs.declared.status.Status.{Status}
 use Rattle.bg_tool.specs.declared.status.Status.TheVariants as status
 use Rattle.bg_tool.specs.Statuses.{refusal_status, is_report, is_refused}
 use Rattle.bg_tool.specs.Reports.{IsTrueText, Wrote}
-use Rattle.bg_tool.specs.Answers.{IsReport, WroteSome, Reported, ReportedSome, RefusedFor, Judges}
+use Rattle.bg_tool.specs.Answers.{IsReport, IsAnnotation, IsAnswer, IsAnswerWhere, WroteSome, Answered, AnsweredSome, RefusedFor, Judges}
 
 -- the status of a refusal is one of refusals
 abbrev status_with : Bool → Status
@@ -45,6 +45,21 @@ long_text None names n h =
     (replicate (suc n) byte, (tt, omega (arith, e)))
 long_text (Some held) names n h = (joined_text held names, (refl, h))
 
+-- an answer is a report where no annotations are asked for, and the program with its annotations where they are
+abbrev WroteWhere : Bool → Asked → Option (List ℕ → List ℕ) → List (List ℕ) → Status → Option (List ℕ) → Option (List ℕ) → Type 0
+WroteWhere annotates asked = Wrote (IsAnswerWhere annotates asked)
+
+pub wrote_report : (asked : Asked) (contents : Option (List ℕ → List ℕ)) (names : List (List ℕ)) (ends : Status) (before now : Option (List ℕ)) → asked.annotates ≡ false → Wrote (IsAnswer asked) contents names ends before now → Wrote (IsReport asked) contents names ends before now
+wrote_report asked contents names ends before now is w = subst (λ b. WroteWhere b asked contents names ends before now) is w
+
+pub wrote_annotation : (asked : Asked) (contents : Option (List ℕ → List ℕ)) (names : List (List ℕ)) (ends : Status) (before now : Option (List ℕ)) → asked.annotates ≡ true → Wrote (IsAnswer asked) contents names ends before now → Wrote (IsAnnotation asked) contents names ends before now
+wrote_annotation asked contents names ends before now is w = subst (λ b. WroteWhere b asked contents names ends before now) is w
+
+-- an answer is one of a program that the bytes spell
+answer_spells : (annotates : Bool) (asked : Asked) (bytes : List ℕ) (ends : Status) (text : List ℕ) → IsAnswerWhere annotates asked bytes ends text → (p : Program) × IsProgramOf asked.guess bytes p
+answer_spells false asked bytes ends text a = (a.sound.report.program, a.sound.report.spelled)
+answer_spells true asked bytes ends text a = (a.program, a.spelled.0)
+
 -- a report is true of the bytes
 pub wrote_true : (asked : Asked) (contents : Option (List ℕ → List ℕ)) (names : List (List ℕ)) (ends : Status) (before now : Option (List ℕ)) → Wrote (IsReport asked) contents names ends before now → Wrote (IsTrueText asked.guess asked.history) contents names ends before now
 wrote_true asked contents names ends before now w =
@@ -54,10 +69,10 @@ wrote_true asked contents names ends before now w =
       written = w.written;
     }
 
-pub wrote_some : (asked : Asked) (contents : Option (List ℕ → List ℕ)) (names : List (List ℕ)) (bytes : List ℕ) (before now : Option (List ℕ)) → IsTextOf contents names bytes → ReportedSome asked bytes before now → WroteSome asked contents names before now
+pub wrote_some : (asked : Asked) (contents : Option (List ℕ → List ℕ)) (names : List (List ℕ)) (bytes : List ℕ) (before now : Option (List ℕ)) → IsTextOf contents names bytes → AnsweredSome asked bytes before now → WroteSome asked contents names before now
 wrote_some asked contents names bytes before now r (inl e) = inl e
 wrote_some asked contents names bytes before now r (inr f) =
-    inr (record { ends = f.ends; text = f.text; may = record { bytes = bytes; read = r; report = f.report }; count = f.count; written = f.written })
+    inr (record { ends = f.ends; text = f.text; may = record { bytes = bytes; read = r; report = f.answer }; count = f.count; written = f.written })
 
 held_is : (contents : Option (List ℕ → List ℕ)) (held : List ℕ → List ℕ) (names : List (List ℕ)) (bytes : List ℕ) → contents ≡ Some held → IsTextOf contents names bytes → bytes ≡ joined_text held names
 held_is contents held names bytes told r = subst (λ c. IsTextOf c names bytes) told r
@@ -92,10 +107,10 @@ judges k guess contents names bytes ends read s = record {
 
 module _ {A B : Type 0} (asked : Asked) (bytes : List ℕ) (before now lines line : Option (List ℕ)) where
   -- what the answer over a text within the limit says of it
-  pub said : (ends : Status) → (IsTrue (is_report ends) → Reported asked bytes ends before now) → (IsTrue (is_refused ends) → RefusedFor asked.guess bytes ends lines line) → (ends ≡ status.Write → A ⊎ B) → (A → ⊥) → (B → ⊥) → (ends ≢ status.Usage) × (ends ≢ status.Read) → Said asked.guess bytes ends
-  said status.Verified r f w a b o = let q = r refl in Spelled q.report.sound.report.program q.report.sound.report.spelled refl
-  said status.Refuted r f w a b o = let q = r refl in Spelled q.report.sound.report.program q.report.sound.report.spelled refl
-  said status.Unknown r f w a b o = let q = r refl in Spelled q.report.sound.report.program q.report.sound.report.spelled refl
+  pub said : (ends : Status) → (IsTrue (is_report ends) → Answered asked bytes ends before now) → (IsTrue (is_refused ends) → RefusedFor asked.guess bytes ends lines line) → (ends ≡ status.Write → A ⊎ B) → (A → ⊥) → (B → ⊥) → (ends ≢ status.Usage) × (ends ≢ status.Read) → Said asked.guess bytes ends
+  said status.Verified r f w a b o = let q = r refl in let p = answer_spells asked.annotates asked bytes status.Verified q.text q.answer in Spelled p.0 p.1 refl
+  said status.Refuted r f w a b o = let q = r refl in let p = answer_spells asked.annotates asked bytes status.Refuted q.text q.answer in Spelled p.0 p.1 refl
+  said status.Unknown r f w a b o = let q = r refl in let p = answer_spells asked.annotates asked bytes status.Unknown q.text q.answer in Spelled p.0 p.1 refl
   said status.Text r f w a b o = let q = f refl in Denied q.reason q.refused q.gives
   said status.Limit r f w a b o = let q = f refl in Denied q.reason q.refused q.gives
   said status.Usage r f w a b o = absurd (o.0 refl)

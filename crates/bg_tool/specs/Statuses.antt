@@ -20,7 +20,7 @@ number_of status.Limit = 8
 abbrev pub refusal_status : Refusal → Status
 refusal_status r = if is_limit r then status.Limit else status.Text
 
--- whether the status says that a report was written
+-- whether the status says that a report was written, or a program with its annotations
 abbrev pub is_report : Status → Bool
 is_report status.Verified = true
 is_report status.Refuted = true

@@ -1,19 +1,20 @@
 //! The top call.
-ghost use Rattle.std.specs.Prelude.{◌≡◌, ◌⊎◌, ◌<◌, ◌≤◌, ℕ, Bool, true, List, ◌++◌, IsTrue, IfOk, map, string_bytes, codes, length, ◌≢◌};
+ghost use Rattle.std.specs.Prelude.{◌≡◌, ◌⊎◌, ◌<◌, ◌≤◌, ℕ, Bool, true, false, List, ◌++◌, IsTrue, IfOk, IfErr, map, string_bytes, codes, length, ◌≢◌};
 ghost use Rattle.bg_io.specs.Causes.{Rose, joined, IsTextOf, IsTextOver};
-ghost use Rattle.bg_cli.specs.Cli.{IsTaken, texts_of, files_in, guess_in, history_in};
+ghost use Rattle.bg_cli.specs.Cli.{IsTaken, texts_of, files_in, guess_in, history_in, annotates_in};
 ghost use Rattle.bg_ast.specs.Views.{program_of};
 ghost use Rattle.bg_ast.specs.Meaning.{meaning_of};
 ghost use Rattle.bg_sense.specs.Typed.{IsTyped};
 ghost use Rattle.bg_sense.specs.Resolved.{IsResolved};
 ghost use Rattle.bg_fits.specs.Scalars.{is_over_scalars};
-ghost use Rattle.bg_front.specs.Programs.{IsProgramOf, IsRefusedBy};
+ghost use Rattle.bg_text.specs.Views.{decls_of};
+ghost use Rattle.bg_front.specs.Programs.{IsProgramOf, IsProgramFrom, IsRefused, IsRefusedBy};
 ghost use Rattle.bg_front.specs.Refusals.{refusal_of};
 ghost use Rattle.bg_front.specs.Lines.{line_of};
 ghost use Rattle.bg_told.specs.Views.{status_in};
 ghost use Rattle.bg_tool.specs.Statuses.{number_of, refusal_status, is_report, is_refused, is_refusal};
 ghost use Rattle.bg_tool.specs.Reports.{IsTrueText, Wrote};
-ghost use Rattle.bg_tool.specs.Answers.{asked_in, AreSome, Reported, ReportedSome, RefusedFor, IsReport, WroteSome, Refuses, usage_line, NamesFile, Judges, Completes};
+ghost use Rattle.bg_tool.specs.Answers.{asked_in, AreSome, Answered, AnsweredSome, RefusedFor, IsReport, IsAnnotation, IsAnswer, WroteSome, Refuses, usage_line, NamesFile, Judges, Completes};
 
 use crate::asked::Asked;
 use crate::report::text_of;
@@ -22,13 +23,16 @@ use bg_ast::resolved::Resolved;
 use bg_claims::Gate;
 use bg_cli::{Line, LineError, read_line};
 use bg_front::laws::{
-    a_text_has_one_program_or_one_refusal, programs_are_resolved, programs_are_typed,
+    a_text_has_one_program_or_one_refusal, programs_are_named, programs_are_resolved,
+    programs_are_typed,
 };
-use bg_front::{MOST_BYTES, ReadError as TextError, Refusal, read_program};
+use bg_front::{MOST_BYTES, ReadError as TextError, Refusal, Written, read_program, read_text};
 use bg_houdini::infer;
 use bg_houdini::laws::true_outcomes_are_sound;
 use bg_io::{Files, ReadError, Sink, read_all, write_all};
 use bg_judged::laws::judged_programs_are_over_scalars;
+use bg_keep::keep;
+use bg_print::print;
 use bg_told::{Word, word_of};
 use bg_tree::Budget;
 use std::alloc::{AllocError, Global};
@@ -74,6 +78,86 @@ fn report_of<R: Threads + Sync, G: Gate>(
     true_outcomes_are_sound();
     let text = text_of(how.alloc, program, &outcome, how.asked.history)?;
     Ok((status_of(word_of(&outcome)), text))
+}
+
+/// The program with its retained annotations, printed, and the status that its verdicts give.
+fn annotation_of<R: Threads + Sync, G: Gate>(
+    how: &Manner<'_, R, G>,
+    written: Written,
+) -> Result<(Status, Vec<u8>), AllocError>
+    requires workers { AreSome how.now.workers }
+    requires typed { IsTyped (meaning_of (program_of written.typed.program)) }
+    requires scalars { is_over_scalars true (meaning_of (program_of written.typed.program)) ≡ true }
+    requires resolved { IsResolved (meaning_of (program_of written.typed.program)) }
+    ensures annotation { IfOk result (λ r. (bytes : List ℕ) → IsProgramFrom how.now.asked.guess bytes (decls_of written.tree.decls.items) (program_of written.typed.program) → IsAnnotation how.now.asked bytes r.0 r.1.items) }
+    ensures ends { IfOk result (λ r. IsTrue (is_report r.0)) }
+{
+    let Written { tree, typed } = written;
+    let budget = how.asked.budget;
+    let program = typed.program;
+    let outcome = infer(how.rt, how.alloc, &program, budget, how.workers, how.gate)?;
+    true_outcomes_are_sound();
+    programs_are_named();
+    let kept = keep(how.alloc, tree.decls, &program, &outcome.inferred.retained)?;
+    let text = print(how.alloc, &kept)?;
+    Ok((status_of(word_of(&outcome)), text))
+}
+
+/// The report of a text, and the status that its verdicts give.
+fn report_on<'t, R: Threads + Sync, G: Gate>(
+    how: &Manner<'_, R, G>,
+    bytes: &'t [u8],
+) -> Result<(Status, Vec<u8>), TextError<'t>>
+    requires { AreSome how.now.workers }
+    ensures report { IfOk result (λ r. IsReport how.now.asked bytes.now r.0 r.1.items) }
+    ensures ends { IfOk result (λ r. IsTrue (is_report r.0)) }
+    ensures refused { IfErr result (λ e. IsRefused how.now.asked.guess bytes.now e) }
+{
+    let typed = read_program(how.alloc, bytes, how.asked.guess)?;
+    programs_are_typed();
+    programs_are_resolved();
+    judged_programs_are_over_scalars();
+    match report_of(how, &typed.program) {
+        Ok(answer) => Ok(answer),
+        Err(_) => Err(TextError::Memory),
+    }
+}
+
+/// The program of a text with its retained annotations, printed, and the status that its verdicts give.
+fn annotation_on<'t, R: Threads + Sync, G: Gate>(
+    how: &Manner<'_, R, G>,
+    bytes: &'t [u8],
+) -> Result<(Status, Vec<u8>), TextError<'t>>
+    requires { AreSome how.now.workers }
+    ensures annotation { IfOk result (λ r. IsAnnotation how.now.asked bytes.now r.0 r.1.items) }
+    ensures ends { IfOk result (λ r. IsTrue (is_report r.0)) }
+    ensures refused { IfErr result (λ e. IsRefused how.now.asked.guess bytes.now e) }
+{
+    let written = read_text(how.alloc, bytes, how.asked.guess)?;
+    programs_are_typed();
+    programs_are_resolved();
+    judged_programs_are_over_scalars();
+    match annotation_of(how, written) {
+        Ok(answer) => Ok(answer),
+        Err(_) => Err(TextError::Memory),
+    }
+}
+
+/// What is asked of a text, and the status that its verdicts give.
+fn answer_on<'t, R: Threads + Sync, G: Gate>(
+    how: &Manner<'_, R, G>,
+    bytes: &'t [u8],
+) -> Result<(Status, Vec<u8>), TextError<'t>>
+    requires { AreSome how.now.workers }
+    ensures answer { IfOk result (λ r. IsAnswer how.now.asked bytes.now r.0 r.1.items) }
+    ensures ends { IfOk result (λ r. IsTrue (is_report r.0)) }
+    ensures refused { IfErr result (λ e. IsRefused how.now.asked.guess bytes.now e) }
+{
+    if how.asked.annotates {
+        annotation_on(how, bytes)
+    } else {
+        report_on(how, bytes)
+    }
 }
 
 /// Writes a line, and ends so; where the sink fails, it ends with `Write`.
@@ -142,40 +226,33 @@ fn refuse_bytes<E: Sink>(alloc: Global, refusal: &Refusal<'_>, err: &mut E) -> S
     refuse_text(alloc, refusal, err)
 }
 
-/// Judges the program of a text, and writes its report.
-fn verify<R: Threads + Sync, G: Gate, S: Sink, E: Sink>(
+/// Judges the program of a text, and writes what is asked.
+fn judge_text<R: Threads + Sync, G: Gate, S: Sink, E: Sink>(
     how: &Manner<'_, R, G>,
     bytes: &[u8],
     out: &mut S,
     err: &mut E,
 ) -> Status
     requires { AreSome how.now.workers }
-    ensures report { IsTrue (is_report result) → Reported how.now.asked bytes.now result (S.written out.old) (S.written out.new) }
+    ensures answer { IsTrue (is_report result) → Answered how.now.asked bytes.now result (S.written out.old) (S.written out.new) }
     ensures quiet { (IsTrue (is_report result) ⊎ (result ≡ Status.Memory)) → E.written err.new ≡ E.written err.old }
     ensures refused { IsTrue (is_refused result) → RefusedFor how.now.asked.guess bytes.now result (E.written err.old) (E.written err.new) }
     ensures still { IsTrue (is_refused result) → S.written out.new ≡ S.written out.old }
-    ensures part { ((result ≡ Status.Write) ⊎ (result ≡ Status.Memory)) → ReportedSome how.now.asked bytes.now (S.written out.old) (S.written out.new) }
+    ensures part { ((result ≡ Status.Write) ⊎ (result ≡ Status.Memory)) → AnsweredSome how.now.asked bytes.now (S.written out.old) (S.written out.new) }
     ensures cause { result ≡ Status.Write → Rose (S.faults out.old) (S.faults out.new) ⊎ Rose (E.faults err.old) (E.faults err.new) }
     ensures others { (result ≢ Status.Usage) × (result ≢ Status.Read) }
 {
-    let typed = match read_program(how.alloc, bytes, how.asked.guess) {
-        Ok(typed) => typed,
-        Err(TextError::Memory) => return Status::Memory,
-        Err(TextError::Refused(refusal)) => return refuse_bytes(how.alloc, &refusal, err),
-    };
-    programs_are_typed();
-    programs_are_resolved();
-    judged_programs_are_over_scalars();
-    let Ok((ends, text)) = report_of(how, &typed.program) else {
-        return Status::Memory;
-    };
-    match write_all(out, &text) {
-        Ok(()) => ends,
-        Err(_) => Status::Write,
+    match answer_on(how, bytes) {
+        Err(TextError::Memory) => Status::Memory,
+        Err(TextError::Refused(refusal)) => refuse_bytes(how.alloc, &refusal, err),
+        Ok((ends, text)) => match write_all(out, &text) {
+            Ok(()) => ends,
+            Err(_) => Status::Write,
+        },
     }
 }
 
-/// Judges the program of these files, and writes its report to `out`; a refusal is one line on `err`.
+/// Judges the program of these files, and writes what is asked to `out`; a refusal is one line on `err`.
 fn judge<R: Threads + Sync, G: Gate, F: Files, S: Sink, E: Sink>(
     how: &Manner<'_, R, G>,
     names: &[String],
@@ -184,7 +261,7 @@ fn judge<R: Threads + Sync, G: Gate, F: Files, S: Sink, E: Sink>(
     err: &mut E,
 ) -> Status
     requires { AreSome how.now.workers }
-    ensures report { IsTrue (is_report result) → Wrote (IsReport how.now.asked) (F.contents files.old) (map string_bytes names.now) result (S.written out.old) (S.written out.new) }
+    ensures answer { IsTrue (is_report result) → Wrote (IsAnswer how.now.asked) (F.contents files.old) (map string_bytes names.now) result (S.written out.old) (S.written out.new) }
     ensures quiet { (IsTrue (is_report result) ⊎ (result ≡ Status.Memory)) → E.written err.new ≡ E.written err.old }
     ensures refused { IsTrue (is_refused result) → Refuses how.now.asked.guess (F.contents files.old) (map string_bytes names.now) result (E.written err.old) (E.written err.new) }
     ensures read { result ≡ Status.Read → Rose (F.faults files.old) (F.faults files.new) }
@@ -200,13 +277,13 @@ fn judge<R: Threads + Sync, G: Gate, F: Files, S: Sink, E: Sink>(
         Err(ReadError::ReadFault { file }) => refuse_file(err, names[file].as_str()),
         Err(ReadError::TooLong { .. }) => refuse_bytes(how.alloc, &Refusal::TooLong, err),
         Err(ReadError::Memory) => Status::Memory,
-        Ok(bytes) => verify(how, &bytes, out, err),
+        Ok(bytes) => judge_text(how, &bytes, out, err),
     }
 }
 
 /// What is asked, as the words say.
 fn asked_by(line: &Line<'_>) -> Asked
-    ensures { result ≡ record { budget = record { nodes = line.now.nodes; rows = line.now.rows }; guess = line.now.guess; history = line.now.history } }
+    ensures { result ≡ record { budget = record { nodes = line.now.nodes; rows = line.now.rows }; guess = line.now.guess; history = line.now.history; annotates = line.now.annotates } }
 {
     let budget = Budget {
         nodes: line.nodes,
@@ -216,6 +293,7 @@ fn asked_by(line: &Line<'_>) -> Asked
         budget,
         guess: line.guess,
         history: line.history,
+        annotates: line.annotates,
     }
 }
 
@@ -230,7 +308,8 @@ fn names_of(alloc: Global, files: &[&str]) -> Result<Vec<String>, AllocError>
     Ok(names)
 }
 
-/// Judges the program of the files that the words name, and writes its report to `out`; a refusal is one line on `err`.
+/// Judges the program of the files that the words name, and writes its report to `out`, or the program with its retained annotations
+/// where the words ask for that; a refusal is one line on `err`.
 /// What such a report tells is true of the program that the files spell (`sound`): with status 0 some interpretation meets it, and no
 /// execution of any implementation fails (`bg_sound`'s law `status_zero_is_safe`); two reports of one program agree where they should
 /// (`greatest_sets_agree`, `settled_words_agree`); and its bytes decide what it tells of sets and implementations (`bg_told`'s laws).
@@ -245,8 +324,9 @@ pub fn run<R: AllocGlobal + Threads + Sync, F: Files, S: Sink, E: Sink, G: Gate>
     gate: &G,
 ) -> Status
     ensures taken { (IsTrue (is_report result) ⊎ (IsTrue (is_refused result) ⊎ (result ≡ Status.Read))) → IsTaken (texts_of words.now) }
-    ensures sound { IsTrue (is_report result) → Wrote (IsTrueText (guess_in (texts_of words.now)) (history_in (texts_of words.now))) (F.contents files.old) (files_in (texts_of words.now)) result (S.written out.old) (S.written out.new) }
-    ensures report { IsTrue (is_report result) → Wrote (IsReport (asked_in (texts_of words.now))) (F.contents files.old) (files_in (texts_of words.now)) result (S.written out.old) (S.written out.new) }
+    ensures sound { annotates_in (texts_of words.now) ≡ false → IsTrue (is_report result) → Wrote (IsTrueText (guess_in (texts_of words.now)) (history_in (texts_of words.now))) (F.contents files.old) (files_in (texts_of words.now)) result (S.written out.old) (S.written out.new) }
+    ensures report { annotates_in (texts_of words.now) ≡ false → IsTrue (is_report result) → Wrote (IsReport (asked_in (texts_of words.now))) (F.contents files.old) (files_in (texts_of words.now)) result (S.written out.old) (S.written out.new) }
+    ensures annotation { annotates_in (texts_of words.now) ≡ true → IsTrue (is_report result) → Wrote (IsAnnotation (asked_in (texts_of words.now))) (F.contents files.old) (files_in (texts_of words.now)) result (S.written out.old) (S.written out.new) }
     ensures quiet { (IsTrue (is_report result) ⊎ (result ≡ Status.Memory)) → E.written err.new ≡ E.written err.old }
     ensures text { IsTrue (is_refused result) → Refuses (guess_in (texts_of words.now)) (F.contents files.old) (files_in (texts_of words.now)) result (E.written err.old) (E.written err.new) }
     ensures usage { result ≡ Status.Usage → IsTaken (texts_of words.now) → ⊥ }

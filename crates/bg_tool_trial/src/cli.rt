@@ -10,7 +10,7 @@ type Case = (
     Option<(&'static str, u32, u32, u32)>,
 );
 
-const WORDS: [Case; 25] = [
+const WORDS: [Case; 27] = [
     (
         &["bg", "verify", "a.bpl"],
         Some(("a.bpl", 4, 20_000, 20_000)),
@@ -47,6 +47,11 @@ const WORDS: [Case; 25] = [
         &["bg", "verify", "--guess", "--history", "a"],
         Some(("a", 4, 20_000, 20_000)),
     ),
+    (
+        &["bg", "annotate", "--guess", "--nodes", "7", "a"],
+        Some(("a", 4, 7, 20_000)),
+    ),
+    (&["bg", "annotate", "--history", "a"], None),
     (&["bg", "verify", "--guess", "--guess", "a"], None),
     (&["bg", "verify", "--workers", "17", "a"], None),
     (&["bg", "verify", "--workers", "0", "a"], None),

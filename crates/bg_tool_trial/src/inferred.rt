@@ -2,6 +2,7 @@
 use crate::made::{stored, words};
 use bg_claims::{FreeGate, Gate, MeetGate};
 use bg_io::{MemFiles, MemSink};
+use bg_rounds_trial::CountGate;
 use bg_tool::{Status, run};
 use std::alloc::AllocError;
 use std::test::Fail;
@@ -66,7 +67,47 @@ retained set: greatest\n\
 implementation C 3:1 verified\n\
 summary: 1 retained, 0 dropped; 1 verified, 0 refuted, 0 unknown\n";
 
-/// The same without candidates, and so without an invariant of its own.
+/// `b0` goes at its first check; the proof of the place of `b1` uses no candidate.
+const KEPT: &str = "const {:existential true} b0: bool;\n\
+const {:existential true} b1: bool;\n\
+procedure P(x: int) { assert b0 ==> x == 0; }\n\
+procedure Q(x: int) { assume x == 1; assert b1 ==> x == 1; }\n";
+
+const KEPT_REPORT: &str = "axioms: consistent\n\
+candidate b0 dropped\n\
+candidate b1 retained\n\
+retained set: greatest\n\
+implementation P 3:1 verified\n\
+implementation Q 4:1 verified\n\
+summary: 1 retained, 1 dropped; 2 verified, 0 refuted, 0 unknown\n";
+
+/// The place of `b1` is the first, and its first proof uses `b0`, which goes behind it.
+const FALLS: &str = "const {:existential true} b0: bool;\n\
+const {:existential true} b1: bool;\n\
+procedure Q() { var x: int; call x := R(); assert b1 ==> x == 0; }\n\
+procedure R() returns (x: int); ensures b0 ==> x == 0;\n\
+implementation R() returns (x: int) { havoc x; }\n";
+
+const FALLS_REPORT: &str = "axioms: consistent\n\
+candidate b0 dropped\n\
+candidate b1 dropped\n\
+retained set: greatest\n\
+implementation Q 3:1 verified\n\
+implementation R 5:1 verified\n\
+summary: 0 retained, 2 dropped; 2 verified, 0 refuted, 0 unknown\n";
+
+/// A text and its report, how many workers, how many checks of places of candidates begin, and how many those of one place are.
+type Looks = (&'static str, &'static str, &'static str, (u64, u64));
+
+/// Of `FALLS` the first place is checked once more when `b0` went.
+const LOOKS: [Looks; 4] = [
+    (KEPT, KEPT_REPORT, "1", (2, 1)),
+    (KEPT, KEPT_REPORT, "2", (2, 1)),
+    (KEPT, KEPT_REPORT, "16", (2, 1)),
+    (FALLS, FALLS_REPORT, "1", (3, 2)),
+];
+
+/// `COUNT` without candidates, and so without an invariant of its own.
 const BARE: &str = "procedure Count(n: int) returns (i: int)\n\
 \x20 requires 0 <= n;\n\
 \x20 ensures i == n;\n\
@@ -129,6 +170,17 @@ fn two_workers_meet_at_a_gate(rt: HostRuntime) -> Result<(), Fail> {
     for (workers, met) in [("2", true), ("1", false)] {
         let gate = MeetGate::new(10_000_000);
         assert!(rt; tells(&rt, ["--workers", workers], TWO, &gate, verified)? && gate.met() == met);
+    }
+    Ok(())
+}
+
+#[test]
+fn a_place_is_checked_again_where_its_proof_falls(rt: HostRuntime) -> Result<(), Fail> {
+    for (text, report, workers, counts) in &LOOKS {
+        let gate = CountGate::new(rt.alloc(), 8)?;
+        let wanted = (Status::Verified, *report);
+        assert!(rt; tells(&rt, ["--workers", *workers], *text, &gate, wanted)?);
+        assert!(rt; gate.counts() == *counts);
     }
     Ok(())
 }

@@ -2,6 +2,8 @@
 #![tactic(auto)]
 
 #[cfg(test)]
+mod annotated;
+#[cfg(test)]
 mod cli;
 #[cfg(test)]
 mod inferred;

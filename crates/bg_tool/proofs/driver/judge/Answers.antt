@@ -28,13 +28,13 @@ returns-in-Err-TooLong-clause-complete g c = λ quiet_files quiet_out quiet_err.
 
 pub returns-in-Ok-clause-prefix : goal.returns-in-Ok-clause-prefix
 returns-in-Ok-clause-prefix g c = λ is.
-    let part = rw c.deref.ensures.value at (c.verify.ensures.part is) in
+    let part = rw c.deref.ensures.value at (c.judge_text.ensures.part is) in
     wrote_some c.args.how.now.asked _ _ _ _ _ c.in-Ok.ensures.text part
 
 pub returns-in-Ok-clause-complete : goal.returns-in-Ok-clause-complete
 returns-in-Ok-clause-complete g c = λ quiet_files quiet_out quiet_err.
     let known : Known = record { both = c.a_text_has_one_program_or_one_refusal.ensures.both; refusal = c.a_text_has_one_program_or_one_refusal.ensures.refusal } in
-    let report = rw c.deref.ensures.value at c.verify.ensures.report in
-    let refused = rw c.deref.ensures.value at c.verify.ensures.refused in
-    judges known c.args.how.now.asked.guess (g.F.Files.contents c.args.files.now) (map string_bytes c.args.names.now) c.in-Ok.bytes.items c.verify.result c.in-Ok.ensures.text
-    (said c.args.how.now.asked c.in-Ok.bytes.items _ _ _ _ c.verify.result report refused c.verify.ensures.cause quiet_out quiet_err c.verify.ensures.others)
+    let report = rw c.deref.ensures.value at c.judge_text.ensures.answer in
+    let refused = rw c.deref.ensures.value at c.judge_text.ensures.refused in
+    judges known c.args.how.now.asked.guess (g.F.Files.contents c.args.files.now) (map string_bytes c.args.names.now) c.in-Ok.bytes.items c.judge_text.result c.in-Ok.ensures.text
+    (said c.args.how.now.asked c.in-Ok.bytes.items _ _ _ _ c.judge_text.result report refused c.judge_text.ensures.cause quiet_out quiet_err c.judge_text.ensures.others)
