@@ -1,4 +1,5 @@
 use Rattle.std.proofs.Common.{[], ◌++◌, map, flat_map, sym, ap, ◌∙◌}
+use Rattle.std.proofs.lemmas.List.{take_all, at_drop_all}
 use Rattle.bg_ast.specs.Resolved as r
 use Rattle.bg_ast.specs.Views.{ex_of, exs_of, bracket_view, link_view}
 use Rattle.bg_text.specs.Views.{id_of}
@@ -137,3 +138,33 @@ link-returns-clause-made t c = ap (λ x. (c.args.link.now.pos, c.args.link.now.s
 
 pub link-returns-clause-first : goal.link-returns-clause-first
 link-returns-clause-first t c = c.in_ok-operand.ensures.first
+
+pub exprs-returns-clause-made : goal.exprs-returns-clause-made
+exprs-returns-clause-made t c =
+    let s = scope_of c.args.scope.now in
+    c.loop-e.invariant.0 ∙ ap (map (named_expr s)) (take_all c.loop-e.e-index c.args.es.now c.loop-e-test.false)
+
+pub exprs-returns-clause-first : goal.exprs-returns-clause-first
+exprs-returns-clause-first t c =
+    let s = scope_of c.args.scope.now in
+    sym (at_drop_all (λ l. better (first_of c.loop-e.notes) (flat_map (expr_faults s) l)) c.args.es.now c.loop-e.e-index c.loop-e-test.false) ∙ c.loop-e.invariant.1
+
+pub brackets_behind-returns-clause-made : goal.brackets_behind-returns-clause-made
+brackets_behind-returns-clause-made t c =
+    let s = scope_of c.args.scope.now in
+    c.loop-b.invariant.0 ∙ ap (map (named_bracket s)) (take_all c.loop-b.b-index c.args.brackets.now c.loop-b-test.false)
+
+pub brackets_behind-returns-clause-first : goal.brackets_behind-returns-clause-first
+brackets_behind-returns-clause-first t c =
+    let s = scope_of c.args.scope.now in
+    sym (at_drop_all (λ l. better (first_of c.loop-b.notes) (flat_map (bracket_faults s) l)) c.args.brackets.now c.loop-b.b-index c.loop-b-test.false) ∙ c.loop-b.invariant.1
+
+pub links_behind-returns-clause-made : goal.links_behind-returns-clause-made
+links_behind-returns-clause-made t c =
+    let s = scope_of c.args.scope.now in
+    c.loop-l.invariant.0 ∙ ap (map (named_link s)) (take_all c.loop-l.l-index c.args.links.now c.loop-l-test.false)
+
+pub links_behind-returns-clause-first : goal.links_behind-returns-clause-first
+links_behind-returns-clause-first t c =
+    let s = scope_of c.args.scope.now in
+    sym (at_drop_all (λ l. better (first_of c.loop-l.notes) (flat_map (link_faults s) l)) c.args.links.now c.loop-l.l-index c.loop-l-test.false) ∙ c.loop-l.invariant.1

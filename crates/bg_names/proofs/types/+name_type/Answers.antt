@@ -1,4 +1,5 @@
 use Rattle.std.proofs.Common.{map, flat_map, sym, ap, ◌∙◌}
+use Rattle.std.proofs.lemmas.List.{take_all, at_drop_all}
 use Rattle.bg_ast.specs.Resolved as r
 use Rattle.bg_ast.specs.Views.{type_of, tys_of, index_view}
 use Rattle.bg_names.specs.Faults.{better}
@@ -58,3 +59,23 @@ pub index-returns-clause-first : goal.index-returns-clause-first
 index-returns-clause-first t c =
     let s = listed c.args.types.now in
     c.in_ok-indices.ensures.first ∙ ap (better (first_of c.args.notes.now)) (ap (flat_map (type_faults s)) c.deref.ensures.value ∙ sym (tys_faults-of s c.args.bracket.now.indices.items))
+
+pub tys-returns-clause-made : goal.tys-returns-clause-made
+tys-returns-clause-made t c =
+    let s = listed c.args.types.now in
+    c.loop-e.invariant.0 ∙ ap (map (named_type s)) (take_all c.loop-e.e-index c.args.es.now c.loop-e-test.false)
+
+pub tys-returns-clause-first : goal.tys-returns-clause-first
+tys-returns-clause-first t c =
+    let s = listed c.args.types.now in
+    sym (at_drop_all (λ l. better (first_of c.loop-e.notes) (flat_map (type_faults s) l)) c.args.es.now c.loop-e.e-index c.loop-e-test.false) ∙ c.loop-e.invariant.1
+
+pub indices-returns-clause-made : goal.indices-returns-clause-made
+indices-returns-clause-made t c =
+    let s = listed c.args.types.now in
+    c.loop-b.invariant.0 ∙ ap (map (named_type_bracket s)) (take_all c.loop-b.b-index c.args.brackets.now c.loop-b-test.false)
+
+pub indices-returns-clause-first : goal.indices-returns-clause-first
+indices-returns-clause-first t c =
+    let s = listed c.args.types.now in
+    sym (at_drop_all (λ l. better (first_of c.loop-b.notes) (flat_map (bracket_type_faults s) l)) c.args.brackets.now c.loop-b.b-index c.loop-b-test.false) ∙ c.loop-b.invariant.1
