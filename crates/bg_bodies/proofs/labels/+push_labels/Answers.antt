@@ -1,4 +1,5 @@
-use Rattle.std.proofs.Common.{◌++◌, map, refl, sym, ap, ◌∙◌, append_assoc}
+use Rattle.std.proofs.Common.{◌++◌, map, refl, sym, ap, ◌∙◌, append_assoc, append-nil}
+use Rattle.std.proofs.lemmas.List.{at_drop_all}
 use Rattle.bg_text.specs.Views as v
 use Rattle.bg_bodies.specs.Bodies.{st_labels, sts_labels, arms_labels}
 use Rattle.bg_names.specs.Views.{id_in}
@@ -33,3 +34,13 @@ of_arms-loop-a-preserved t c =
 pub push_labels-loop-s-preserved : goal.push_labels-loop-s-preserved
 push_labels-loop-s-preserved t c =
     labels_step (λ l. sts_labels (tree_sts l)) (st_labels (v.st_of c.s-item.result)) (map id_in c.loop-s.out.items) _ c.args.ss.now c.loop-s.s-index c.s-item.result _ c.loop-s-test.true c.s-item.is refl c.loop-s.invariant c.in_ok-of_stmt.ensures.ok
+
+pub of_arms-returns-clause-ok : goal.of_arms-returns-clause-ok
+of_arms-returns-clause-ok t c =
+    let old = map id_in c.loop-a.out.items in
+    sym (append-nil old) ∙ sym (at_drop_all (λ l. old ++ arms_labels (tree_arms l)) c.args.arms.now c.loop-a.a-index c.loop-a-test.false) ∙ c.loop-a.invariant
+
+pub push_labels-returns-clause-ok : goal.push_labels-returns-clause-ok
+push_labels-returns-clause-ok t c =
+    let old = map id_in c.loop-s.out.items in
+    sym (append-nil old) ∙ sym (at_drop_all (λ l. old ++ sts_labels (tree_sts l)) c.args.ss.now c.loop-s.s-index c.loop-s-test.false) ∙ c.loop-s.invariant
