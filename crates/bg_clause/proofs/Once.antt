@@ -9,8 +9,7 @@ use Rattle.bg_forms.proofs.Meaning.{not_not}
 use Rattle.bg_clause.specs.Emitted.{is_among, clashes}
 use Rattle.std.proofs.lemmas.List.{reverse-append}
 use mathlib.Core.Bool.{beq}
-use Rattle.bg_clause.specs.declared.clause.Once.{Once}
-use Rattle.bg_clause.specs.Signs.{sign_in, sign_among, IsOnce}
+use Rattle.bg_clause.specs.Signs.{sign_among, IsOnceBy}
 
 -- whether the sign of an atom is this one
 abbrev pub says : Option Bool → Bool → Bool
@@ -56,15 +55,15 @@ clash_behind (x ∷ xs) ys h = or_true (is_among (xs ++ ys) (opposite x)) (clash
 pub absent : (ls : List Literal) (l : Literal) (o : Option Bool) → clashes ls ≡ false → sign_among ls l.atom ≡ o → is_among ls l ≡ says o l.sign
 absent ls l o h e = among ls l h ∙ ap (λ x. says x l.sign) e
 
-pub keep_new : (o n : Once) (l : Literal) (ls : List Literal) → IsOnce o ls → sign_in o.signs l.atom ≡ None → n.kept.items ≡ o.kept.items ++ l ∷ [] → ((a : ℕ) → sign_in n.signs a ≡ (if l.atom == a then Some l.sign else sign_in o.signs a)) → (true ≡ not (is_among ls (opposite l))) × (true ≡ true → IsOnce n (l ∷ ls))
-keep_new o n l ls h free kept signs =
+pub keep_new : (f g : ℕ → Option Bool) (k n : List Literal) (l : Literal) (ls : List Literal) → IsOnceBy f k ls → f l.atom ≡ None → n ≡ k ++ l ∷ [] → ((a : ℕ) → g a ≡ (if l.atom == a then Some l.sign else f a)) → (true ≡ not (is_among ls (opposite l))) × (true ≡ true → IsOnceBy g n (l ∷ ls))
+keep_new f g k n l ls h free kept signs =
     let none = sym (h.known l.atom) ∙ free in
     let here = absent ls l None h.apart none in
     let there = absent ls (opposite l) None h.apart none in (
       ap not (sym there),
       λ _. record {
         apart = rw (there) h.apart;
-        once = ap reverse kept ∙ (reverse-append o.kept.items (l ∷ []) ∙ (ap (λ x. l ∷ x) h.once ∙ rw (here) refl));
+        once = ap reverse kept ∙ (reverse-append k (l ∷ []) ∙ (ap (λ x. l ∷ x) h.once ∙ rw (here) refl));
         known = λ a. signs a ∙ ap (λ x. if l.atom == a then Some l.sign else x) (h.known a);
       },
     )
@@ -94,8 +93,8 @@ known_old : (ls : List Literal) (l : Literal) (b : Bool) (a : ℕ) → (l.atom =
 known_old ls l true a e h = subst (λ n. sign_among ls n ≡ Some l.sign) (eqb-true l.atom a e) h
 known_old ls l false a e h = refl
 
-pub keep_old : (o : Once) (l : Literal) (ls : List Literal) (s : Bool) → IsOnce o ls → sign_in o.signs l.atom ≡ Some s → (beq s l.sign ≡ not (is_among ls (opposite l))) × (beq s l.sign ≡ true → IsOnce o (l ∷ ls))
-keep_old o l ls s h is =
+pub keep_old : (f : ℕ → Option Bool) (k : List Literal) (l : Literal) (ls : List Literal) (s : Bool) → IsOnceBy f k ls → f l.atom ≡ Some s → (beq s l.sign ≡ not (is_among ls (opposite l))) × (beq s l.sign ≡ true → IsOnceBy f k (l ∷ ls))
+keep_old f k l ls s h is =
     let some = sym (h.known l.atom) ∙ is in
     let there = absent ls (opposite l) (Some s) h.apart some in (
       same_signs s l.sign ∙ ap not (sym there),
@@ -110,6 +109,23 @@ keep_old o l ls s h is =
             known = λ a. h.known a ∙ known_old ls l (l.atom == a) a refl own;
           },
     )
+
+behind : (xs : List Literal) (l : Literal) (a : ℕ) → sign_among xs l.atom ≡ None → sign_among (xs ++ l ∷ []) a ≡ (if l.atom == a then Some l.sign else sign_among xs a)
+behind [] l a free = refl
+behind (x ∷ xs) l a free = by (x.atom == a) refl (x.atom == l.atom) refl free (λ h. behind xs l a h)
+  where
+    apart : x.atom ≡ a → (x.atom == l.atom) ≡ false → (d : Bool) → (l.atom == a) ≡ d → Some x.sign ≡ (if d then Some l.sign else Some x.sign)
+    apart e f false g = refl
+    apart e f true g = absurd (let same : x.atom ≡ l.atom = e ∙ sym (eqb-true l.atom a g) in let bad : ⊥ = cc in bad)
+
+    by : (b : Bool) → (x.atom == a) ≡ b → (c : Bool) → (x.atom == l.atom) ≡ c → (if c then Some x.sign else sign_among xs l.atom) ≡ None → (sign_among xs l.atom ≡ None → sign_among (xs ++ l ∷ []) a ≡ (if l.atom == a then Some l.sign else sign_among xs a)) → (if b then Some x.sign else sign_among (xs ++ l ∷ []) a) ≡ (if l.atom == a then Some l.sign else (if b then Some x.sign else sign_among xs a))
+    by b e true f h more = absurd (let bad : ⊥ = cc in bad)
+    by false e false f h more = more h
+    by true e false f h more = apart (eqb-true x.atom a e) f (l.atom == a) refl
+
+-- one literal more behind others, whose atom has no sign among them
+pub sign_behind : (xs : List Literal) (l : Literal) (n : List Literal) → sign_among xs l.atom ≡ None → n ≡ xs ++ l ∷ [] → (a : ℕ) → sign_among n a ≡ (if l.atom == a then Some l.sign else sign_among xs a)
+sign_behind xs l n free e a = ap (λ x. sign_among x a) e ∙ behind xs l a free
 
 -- a literal whose denial was gone through
 pub clash_at : (b : Bool) (xs : List Literal) (l : Literal) (done ls left : List Literal) → left ≡ xs ++ l ∷ [] → left ++ done ≡ ls → b ≡ not (is_among done (opposite l)) → not b ≡ true → clashes ls ≡ true

@@ -15,8 +15,16 @@ abbrev pub sign_among : List Literal → ℕ → Option Bool
 sign_among [] a = None
 sign_among (l ∷ ls) a = if l.atom == a then Some l.sign else sign_among ls a
 
--- what was gone through is these literals, of which none stands beside its denial
-pub record IsOnce (o : Once) (ls : List Literal) : Type 0 where
+-- what was gone through is these literals, of which none stands beside its denial, where the signs of atoms are these
+pub record IsOnceBy (signs : ℕ → Option Bool) (kept ls : List Literal) : Type 0 where
   pub apart : clashes ls ≡ false
-  pub once : reverse o.kept.items ≡ distinct ls
-  pub known : (a : ℕ) → sign_in o.signs a ≡ sign_among ls a
+  pub once : reverse kept ≡ distinct ls
+  pub known : (a : ℕ) → signs a ≡ sign_among ls a
+
+-- the same, with a map of the signs
+abbrev pub IsOnce : Once → List Literal → Type 0
+IsOnce o ls = IsOnceBy (sign_in o.signs) o.kept.items ls
+
+-- the same, where the signs are those of what is kept
+abbrev pub AreOnce : List Literal → List Literal → Type 0
+AreOnce kept ls = IsOnceBy (sign_among kept) kept ls

@@ -6,9 +6,13 @@ ghost use Rattle.bg_clause.specs.Emitted.{is_among, clashes, distinct, clause_of
 ghost use Rattle.bg_clause.specs.Signs.{IsOnce};
 ghost use Rattle.bg_clause.specs.Views.{clauses_in};
 
+use crate::few::distinct_few;
 use crate::signs::{Signs, no_signs, note, sign_of};
 use bg_formula::Literal;
 use std::alloc::{AllocError, Global};
+
+/// How many literals are gone through without a map of their atoms.
+const FEW: usize = 12;
 
 /// What was gone through, from the last literal back: each literal once, and the signs of their atoms.
 #[derive(Drop)]
@@ -42,7 +46,7 @@ fn keep(once: &mut Once, l: Literal) -> Result<bool, AllocError>
 }
 
 /// Each literal once, unless some literal stands beside its denial.
-fn distinct(alloc: Global, ls: &[Literal]) -> Result<Option<Vec<Literal>>, AllocError>
+fn distinct_many(alloc: Global, ls: &[Literal]) -> Result<Option<Vec<Literal>>, AllocError>
     ensures { IfOk result (λ made. MatchOption made (clashes ls.now ≡ true) (λ c. (clashes ls.now ≡ false) × (c.items ≡ distinct ls.now))) }
 {
     let mut once = nothing(alloc);
@@ -56,6 +60,17 @@ fn distinct(alloc: Global, ls: &[Literal]) -> Result<Option<Vec<Literal>>, Alloc
     let mut kept = once.kept;
     kept.reverse();
     Ok(Some(kept))
+}
+
+/// Each literal once, unless some literal stands beside its denial.
+fn distinct(alloc: Global, ls: &[Literal]) -> Result<Option<Vec<Literal>>, AllocError>
+    ensures { IfOk result (λ made. MatchOption made (clashes ls.now ≡ true) (λ c. (clashes ls.now ≡ false) × (c.items ≡ distinct ls.now))) }
+{
+    if ls.len() <= FEW {
+        distinct_few(alloc, ls)
+    } else {
+        distinct_many(alloc, ls)
+    }
 }
 
 /// One clause more, if it says anything.

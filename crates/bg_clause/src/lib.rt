@@ -4,6 +4,7 @@
 mod clause;
 mod emit;
 mod fails;
+mod few;
 pub mod laws;
 mod naming;
 mod pairs;

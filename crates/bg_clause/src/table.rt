@@ -21,9 +21,9 @@ pub fn table(alloc: Global, first: u32, named: &[bool]) -> Result<Tabled, AllocE
     let mut next = first;
     for is_named in named {
         if *is_named {
-            units.push(Some(take_next(&mut next)?))?;
+            units.push_reserved(Some(take_next(&mut next)?));
         } else {
-            units.push(None)?;
+            units.push_reserved(None);
         }
     }
     Ok(Tabled { units, next })

@@ -84,7 +84,7 @@ fn formula(
         clauses,
         next,
     } = tell_entry(alloc, &units, target, free, blocks)?;
-    let mut atoms = Vec::new(alloc);
+    let mut atoms = Vec::with_capacity(alloc, next as usize)?;
     add_truths(&mut atoms, 0, names.first)?;
     add_rows(alloc, &mut atoms, names.rows)?;
     add_truths(&mut atoms, base, next)?;

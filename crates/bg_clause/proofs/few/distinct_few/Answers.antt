@@ -1,6 +1,6 @@
 use Rattle.std.proofs.Common.{rules, ◌≡◌, ◌++◌, [], ◌∷◌, true, not, sym, ap, ◌∙◌, append_assoc}
 use Rattle.bg_clause.proofs.Once.{clash_at}
-use Rattle.bg_clause.proofs.clause.distinct.Goals as goal
+use Rattle.bg_clause.proofs.few.distinct_few.Goals as goal
 
 pub returns-then-not-branch : goal.returns-then-not-branch
 returns-then-not-branch c =

@@ -1,7 +1,7 @@
 use Rattle.std.proofs.Common.{◌≡◌, ◌++◌, List, length}
 use Rattle.bg_formula.specs.declared.atom.Literal.{Literal}
 use Rattle.bg_clause.specs.Signs.{IsOnce}
-use Rattle.bg_clause.proofs.clause.distinct.Given as goal
+use Rattle.bg_clause.proofs.clause.distinct_many.Given as goal
 
 abbrev pub invariant-loop-last : goal.invariant-loop-last
 invariant-loop-last l = (done : List Literal) × (l.left ++ done ≡ l.ls) × IsOnce l.once done
