@@ -70,7 +70,7 @@ fn slice_cmds(
 ) -> Result<Vec<FormCmd>, AllocError>
     ensures { IfOk result (λ made. form_cmds_of made.items ≡ slice_cmds (spot_of target) (form_cmds_of cmds.now) (use_of u)) }
 {
-    let mut made = Vec::new(alloc);
+    let mut made = Vec::with_capacity(alloc, cmds.len())?;
     let mut behind = u;
     let mut left: &[FormCmd] = cmds;
     while let Some((last, before)) = left.split_last() {
@@ -103,7 +103,7 @@ fn slice_edges(
 ) -> Result<Vec<FormEdge>, AllocError>
     ensures { IfOk result (λ made. map form_edge_of made.items ≡ slice_edges (spot_of target) (map use_of later.now.items) (map form_edge_of edges.now)) }
 {
-    let mut made = Vec::new(alloc);
+    let mut made = Vec::with_capacity(alloc, edges.len())?;
     for e in edges {
         let x = slice_edge(alloc, target, later, e)?;
         made.push(x)?;
@@ -134,7 +134,7 @@ pub fn sliced(
     ensures { IfOk result (λ made. map form_block_of made.items ≡ sliced (spot_of target) (map form_block_of blocks.now)) }
 {
     let mut later = uses(alloc, target, blocks)?;
-    let mut made = Vec::new(alloc);
+    let mut made = Vec::with_capacity(alloc, blocks.len())?;
     for b in blocks {
         let _ = later.pop_front();
         let x = slice_block(alloc, target, &later, b)?;

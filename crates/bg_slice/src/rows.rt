@@ -50,7 +50,7 @@ pub fn marked_rows(
 ) -> Result<Vec<Linear>, AllocError>
     ensures { IfOk result (λ made. map view_linear made.items ≡ marked_rows marks.now (map view_linear rows.now)) }
 {
-    let mut made = Vec::new(alloc);
+    let mut made = Vec::with_capacity(alloc, rows.len())?;
     let mut left: &[bool] = marks;
     for a in rows {
         let named = match left.split_first() {
