@@ -4,7 +4,7 @@ use Rattle.std.specs.Prelude.{slice_set}
 use Rattle.std.proofs.lemmas.Bool.{ltb-true, ltb-false}
 use Rattle.std.proofs.lemmas.List.{length-set, get_or-set_same, get_or-set_other}
 use Rattle.std.proofs.Math.Seq.{take-suc}
-use Rattle.bg_words.specs.Sets.{Numbers, has}
+use Rattle.bg_words.specs.Sets.{Numbers, has, IsSubset}
 use Rattle.bg_words.proofs.Words.{same_set}
 
 -- one truth value more
@@ -53,3 +53,15 @@ next n c truths made new l h e = on (has truths c) refl e
 
 pub whole : (n : ℕ) (truths made : Numbers) → length truths ≡ n → IsBegun n n truths made → made ≡ truths
 whole n truths made long h = same_set made truths (h.count ∙ sym long) (λ d l. h.done d (let k = h.count in omega (arith, k, l)))
+
+same_value : (x y : Bool) → (x ≡ true → y ≡ true) → (y ≡ true → x ≡ true) → x ≡ y
+same_value true y f g = sym (f refl)
+same_value false true f g = g refl
+same_value false false f g = refl
+
+-- sets of which each lies in the other
+pub both_ways : (s t : Numbers) → length s ≡ length t → IsSubset s t → IsSubset t s → s ≡ t
+both_ways s t long f g = same_set s t long (λ d l. same_value (has s d) (has t d) (f d) (g d))
+
+pub inside_same : (s t : Numbers) → s ≡ t → IsSubset s t
+inside_same s t e c h = subst (λ (x : Numbers). has x c ≡ true) e h

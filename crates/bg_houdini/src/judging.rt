@@ -9,7 +9,7 @@ ghost use Rattle.bg_houdini.specs.Checkers.{IsJudging, meaning_in};
 
 use crate::Reason;
 use crate::answer::answer;
-use crate::sets::truths_of;
+use crate::desk::{Desk, lay, new_desk};
 use bg_ast::resolved::Resolved;
 use bg_base::{CandId, TargetId};
 use bg_cert::Node;
@@ -32,14 +32,11 @@ pub struct Judging<'p> {
     pub budget: Budget,
 }
 
-/// What one worker needs for its checks: nothing beside the checker.
-#[derive(Drop)]
-pub struct Desk;
-
 /// What is known of a task under a set of candidates that has the task's own.
 fn verdict_on(
     alloc: Global,
     judging: &Judging<'_>,
+    desk: &mut Desk,
     t: TargetId,
     set: &CandSet,
 ) -> Result<Verdict, AllocError>
@@ -50,13 +47,13 @@ fn verdict_on(
 {
     placed_are_places();
     let place = &judging.tasks[t.0 as usize];
-    let truths = truths_of(alloc, set)?;
+    lay(alloc, desk, set)?;
     let prepared = &judging.prepared[place.implementation];
     let question = Question {
         program: judging.program,
         prepared,
         place,
-        set: &truths,
+        set: &desk.truths,
     };
     check_place(alloc, question, judging.budget)
 }
@@ -91,18 +88,18 @@ impl<'p> Checker<Vec<Node>, Reason, Desk> for Judging<'p> {
         }
     }
 
-    fn desk(&self, _alloc: Global) -> Result<Desk, AllocError> {
-        Ok(Desk)
+    fn desk(&self, alloc: Global) -> Result<Desk, AllocError> {
+        new_desk(alloc, self.candidates)
     }
 
     fn check(
         &self,
         alloc: Global,
-        _desk: &mut Desk,
+        desk: &mut Desk,
         t: TargetId,
         set: &CandSet,
     ) -> Result<Answer<Vec<Node>, Reason>, AllocError> {
-        let verdict = verdict_on(alloc, self, t, set)?;
+        let verdict = verdict_on(alloc, self, desk, t, set)?;
         answer(alloc, verdict, self.candidates)
     }
 

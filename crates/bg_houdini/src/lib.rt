@@ -2,6 +2,7 @@
 #![tactic(auto)]
 
 mod answer;
+mod desk;
 mod inference;
 mod judging;
 pub mod laws;

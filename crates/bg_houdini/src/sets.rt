@@ -11,7 +11,7 @@ pub fn truths_of(alloc: Global, set: &CandSet) -> Result<Vec<bool>, AllocError>
 {
     let mut made = Vec::with_capacity(alloc, set.declared() as usize)?;
     for c in 0..set.declared() {
-        made.push(set.has(CandId(c)))?;
+        made.push_reserved(set.has(CandId(c)));
     }
     Ok(made)
 }
