@@ -52,7 +52,7 @@ use Rattle.bg_faithful.specs.Sorted.{sorts_in}
 use Rattle.bg_faithful.specs.Encoded.{Encoding, Encodes, IsEncoding}
 use Rattle.bg_check.specs.declared.cut.Cut.{Cut}
 use Rattle.bg_check.specs.declared.prepared.Prepared.{Prepared}
-use Rattle.bg_check.specs.Prepared.{IsPassive, IsPrepared, encoding_over, frame_declared}
+use Rattle.bg_check.specs.Prepared.{IsPrepared, encoding_over, frame_declared, firsts_of}
 use Rattle.bg_check.specs.Verdicts.{HasOutside}
 use Rattle.bg_check.specs.Cuts.{IsOwn, HasOwnClauses}
 use Rattle.bg_check.specs.Slices.{IsSliceFor, encoding_in}
@@ -90,6 +90,11 @@ there p n l t =
     let y = mapped (proc_of named) (slice_get p.procedures x.0.procedure) one.procedure (sym (slice_get-map (proc_of named) p.procedures x.0.procedure) ∙ one.is_there) in
     record { implementation = x.0; procedure = y.0; impl_there = x.1; proc_there = y.1 }
 
+-- blocks of a program made passive, in this frame
+pub record IsPassive (p : r.Program) (rs : List r.Declared) (bs : List Block) (w : Passive) : Type 0 where
+  pub blocks : map passive_block_of w.blocks.items ≡ passives (arrived (meaning_of p) (frame_of p rs) (map (block_of p) bs)).arrivals (map (block_of p) bs)
+  pub firsts : w.firsts.items ≡ firsts_of p rs bs
+
 -- what was prepared, on the meaning of the program
 module _ (p : r.Program) (n : ℕ) (w : Prepared) (h : IsPrepared p n w) where
   abbrev named : ℕ → Ty
@@ -125,15 +130,9 @@ module _ (p : r.Program) (n : ℕ) (w : Prepared) (h : IsPrepared p n w) where
   pub blocks_are : bs ≡ blocks_in (meaning_of p) n impl proc
   blocks_are = h.blocks
 
-  pub passives_are : map passive_block_of w.passive.blocks.items ≡ passives_in (meaning_of p) n impl proc
-  passives_are =
-      h.passive.blocks
-      ∙ (ap (λ ds. passives (arrived (meaning_of p) ds bs).arrivals bs) frame_is
-      ∙ ap (λ l. passives (arrived (meaning_of p) (frame_decls impl proc) l).arrivals l) blocks_are)
-
-  pub firsts_are : w.passive.firsts.items ≡ map next_in (arrivals_in (meaning_of p) n impl proc).arrivals
+  pub firsts_are : w.firsts.items ≡ map next_in (arrivals_in (meaning_of p) n impl proc).arrivals
   firsts_are =
-      h.passive.firsts
+      h.firsts
       ∙ (ap (λ ds. map next_in (arrived (meaning_of p) ds bs).arrivals) frame_is
       ∙ ap (λ l. map next_in (arrived (meaning_of p) (frame_decls impl proc) l).arrivals) blocks_are)
 

@@ -149,7 +149,7 @@ module _ (bodies : BodyLaw) (fits : FitLaw) (whole : WholeLaw) (values : ValueLa
         values P n M Q t o (impl_at p n w h) (proc_at p n w h) (value_of leaf.spots.items) (λ j. T (rank S j))
 
     -- what is made of the implementation, with these values
-    set_up : SetUp P (map (block_of p) w.blocks.items) w.frame w.passive.firsts.items X n M Q (first_state P (frame_decls M Q) X) (arrivals_in P n M Q).made (arrivals_in P n M Q).arrivals
+    set_up : SetUp P (map (block_of p) w.blocks.items) w.frame w.firsts.items X n M Q (first_state P (frame_decls M Q) X) (arrivals_in P n M Q).made (arrivals_in P n M Q).arrivals
     set_up =
         let a = arrivals_in P n M Q in
         let start = first_state P (frame_decls M Q) X in
@@ -180,7 +180,7 @@ module _ (bodies : BodyLaw) (fits : FitLaw) (whole : WholeLaw) (values : ValueLa
         let there = blocks_kept P (set_of set) spot T (passive_scope P no_interp X) kept (passives (arrivals_in P n M Q).arrivals (map (block_of p) w.blocks.items)) A.blocks said placed in
         ap not (blocks_fewer (A.first + length A.rows) (bools_at A.named) (set_of set) (there_in f.candidates V.truths) members spot T A.blocks encoding.below there 0 e)
 
-    failure : (cex : Counterexample) → IsCounterexample P (map (block_of p) w.blocks.items) w.frame w.passive.firsts.items A.blocks (set_of set) spot T X cex → IsFailure P (has set) (record { implementation = n; spot = spot; candidate = candidate }) cex
+    failure : (cex : Counterexample) → IsCounterexample P (map (block_of p) w.blocks.items) w.frame w.firsts.items A.blocks (set_of set) spot T X cex → IsFailure P (has set) (record { implementation = n; spot = spot; candidate = candidate }) cex
     failure cex c =
         let a = arrivals_in P n M Q in
         let start = first_state P (frame_decls M Q) X in
@@ -199,7 +199,7 @@ module _ (bodies : BodyLaw) (fits : FitLaw) (whole : WholeLaw) (values : ValueLa
     W x = walk_over x spot T
 
     -- it is the run of the leaf
-    run_of_leaf : (cex : Counterexample) → IsCounterexample P (map (block_of p) w.blocks.items) w.frame w.passive.firsts.items A.blocks (set_of set) spot T X cex → HasLeaf P (has set) (record { implementation = n; spot = spot; candidate = candidate }) cex
+    run_of_leaf : (cex : Counterexample) → IsCounterexample P (map (block_of p) w.blocks.items) w.frame w.firsts.items A.blocks (set_of set) spot T X cex → HasLeaf P (has set) (record { implementation = n; spot = spot; candidate = candidate }) cex
     run_of_leaf cex c =
         let a = arrivals_in P n M Q in
         record {
@@ -212,8 +212,8 @@ module _ (bodies : BodyLaw) (fits : FitLaw) (whole : WholeLaw) (values : ValueLa
                 state = sym (c.starts n M Q (first_state P (frame_decls M Q) X) a.made a.arrivals set_up);
                 choices =
                     c.choices
-                    ∙ ap (λ x. taken (W x) X (map (block_of p) w.blocks.items) A.blocks w.passive.firsts.items (turns (W x) A.blocks) 0) (set_same set)
-                    ∙ ap (λ bs. taken (W (has set)) X bs A.blocks w.passive.firsts.items (turns (W (has set)) A.blocks) 0) (blocks_are p n w h)
+                    ∙ ap (λ x. taken (W x) X (map (block_of p) w.blocks.items) A.blocks w.firsts.items (turns (W x) A.blocks) 0) (set_same set)
+                    ∙ ap (λ bs. taken (W (has set)) X bs A.blocks w.firsts.items (turns (W (has set)) A.blocks) 0) (blocks_are p n w h)
                     ∙ ap (λ ns. taken (W (has set)) X (blocks_in P n M Q) A.blocks ns (turns (W (has set)) A.blocks) 0) (firsts_are p n w h);
               };
         }
@@ -228,11 +228,11 @@ module _ (bodies : BodyLaw) (fits : FitLaw) (whole : WholeLaw) (values : ValueLa
     Told bs ns forms ts vs got =
         IsTold (is_denied (set_of set) spot (bools_at ts) forms) got (IsCounterexample P (map (block_of p) bs) w.frame ns forms (set_of set) spot (bools_at ts) vs)
 
-    pub refutes : (bs : List Block) (ns : List ℕ) (forms : List FormBlock) (ts : List Bool) (vs : List Val) (got : Option Counterexample) → bs ≡ w.blocks.items → ns ≡ w.passive.firsts.items → forms ≡ A.blocks → ts ≡ leaf_bools f leaf → vs ≡ X → Told bs ns forms ts vs got → IsRefuted got
+    pub refutes : (bs : List Block) (ns : List ℕ) (forms : List FormBlock) (ts : List Bool) (vs : List Val) (got : Option Counterexample) → bs ≡ w.blocks.items → ns ≡ w.firsts.items → forms ≡ A.blocks → ts ≡ leaf_bools f leaf → vs ≡ X → Told bs ns forms ts vs got → IsRefuted got
     refutes bs ns forms ts vs got eb en ef et ev told =
-        on got (subst (λ x. Told x w.passive.firsts.items A.blocks (leaf_bools f leaf) X got) eb (subst (λ x. Told bs x A.blocks (leaf_bools f leaf) X got) en (subst (λ x. Told bs ns x (leaf_bools f leaf) X got) ef (subst (λ x. Told bs ns forms x X got) et (subst (λ x. Told bs ns forms ts x got) ev told)))))
+        on got (subst (λ x. Told x w.firsts.items A.blocks (leaf_bools f leaf) X got) eb (subst (λ x. Told bs x A.blocks (leaf_bools f leaf) X got) en (subst (λ x. Told bs ns x (leaf_bools f leaf) X got) ef (subst (λ x. Told bs ns forms x X got) et (subst (λ x. Told bs ns forms ts x got) ev told)))))
       where
-        on : (x : Option Counterexample) → Told w.blocks.items w.passive.firsts.items A.blocks (leaf_bools f leaf) X x → IsRefuted x
+        on : (x : Option Counterexample) → Told w.blocks.items w.firsts.items A.blocks (leaf_bools f leaf) X x → IsRefuted x
         on None d = absurd (let bad : true ≡ false = sym denied ∙ d in let worse : ⊥ = cc in worse)
         on (Some cex) d = (run_of_leaf cex d.1, failure cex d.1)
 

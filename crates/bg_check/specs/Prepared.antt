@@ -9,21 +9,17 @@ use Rattle.bg_blocks.specs.EmittedViews.{frame_of}
 use Rattle.bg_blocks.specs.Whole.{AreBlocks}
 use Rattle.bg_blocks.specs.declared.block.Block.{Block}
 use Rattle.bg_places.specs.Placed.{Placed}
-use Rattle.bg_passive.specs.Incarnations.{passives}
 use Rattle.bg_passive.specs.Arrivals.{arrived}
-use Rattle.bg_incarnate.specs.Views.{passive_block_of}
 use Rattle.bg_incarnate.specs.Walked.{next_in}
-use Rattle.bg_incarnate.specs.declared.blocks.Passive.{Passive}
 use Rattle.bg_atoms.specs.declared.product.Atoms.{Atoms}
 use Rattle.bg_faithful.specs.Sorted.{sorts_in}
 use Rattle.bg_faithful.specs.Encoded.{Encoding}
 use Rattle.bg_check.specs.Cuts.{IsOwn}
 use Rattle.bg_check.specs.declared.prepared.Prepared.{Prepared}
 
--- blocks of a program made passive, in this frame
-pub record IsPassive (p : r.Program) (rs : List r.Declared) (bs : List Block) (w : Passive) : Type 0 where
-  pub blocks : map passive_block_of w.blocks.items ≡ passives (arrived (meaning_of p) (frame_of p rs) (map (block_of p) bs)).arrivals (map (block_of p) bs)
-  pub firsts : w.firsts.items ≡ map next_in (arrived (meaning_of p) (frame_of p rs) (map (block_of p) bs)).arrivals
+-- the first new incarnation at each arrival, where blocks of a program are made passive in this frame
+abbrev pub firsts_of : r.Program → List r.Declared → List Block → List ℕ
+firsts_of p rs bs = map next_in (arrived (meaning_of p) (frame_of p rs) (map (block_of p) bs)).arrivals
 
 -- what atoms are, as data, where these candidates may guard commands
 abbrev pub encoding_of : List Bool → Atoms → Encoding
@@ -38,7 +34,7 @@ encoding_over candidates a = encoding_of (replicate candidates true) a
 abbrev pub frame_declared : r.Impl → r.Proc → List r.Declared
 frame_declared m q = q.params ++ (q.results ++ m.locals)
 
--- the blocks of the implementation with this number, the same made passive, the sorts of their incarnations, and their blocks of forms
+-- the blocks of the implementation with this number, the first new incarnations at their arrivals, the sorts of the incarnations, and the blocks of forms
 pub record IsPrepared (p : r.Program) (number : ℕ) (w : Prepared) : Type 0 where
   pub implementation : r.Impl
   pub procedure : r.Proc
@@ -46,7 +42,7 @@ pub record IsPrepared (p : r.Program) (number : ℕ) (w : Prepared) : Type 0 whe
   pub proc_there : slice_get p.procedures implementation.procedure ≡ Some procedure
   pub frame : w.frame ≡ length (frame_declared implementation procedure)
   pub blocks : AreBlocks p number implementation procedure w.blocks.items
-  pub passive : IsPassive p (frame_declared implementation procedure) w.blocks.items w.passive
+  pub firsts : w.firsts.items ≡ firsts_of p (frame_declared implementation procedure) w.blocks.items
   pub sorts : w.sorts.items ≡ sorts_in (meaning_of p) number (impl_of (named_of p.types) implementation) (proc_of (named_of p.types) procedure)
   pub own : IsOwn (meaning_of p) number (impl_of (named_of p.types) implementation) (proc_of (named_of p.types) procedure) (encoding_over (meaning_of p).candidates w.atoms)
 

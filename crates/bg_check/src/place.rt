@@ -105,7 +105,7 @@ fn failing<'q, 'p>(
         program: question.program,
         frame: prepared.frame,
         blocks: &prepared.blocks,
-        firsts: &prepared.passive.firsts,
+        firsts: &prepared.firsts,
         forms: &cut.atoms.blocks,
     };
     let valuation = Valuation {
@@ -136,7 +136,11 @@ fn search_place(
 {
     clauses_over_scalars_are_whole();
     match search(alloc, f, question.set, budget)? {
-        Outcome::Closed(nodes) => Ok(Verdict::Proved(nodes)),
+        Outcome::Closed(nodes) => {
+            let mut kept = nodes;
+            kept.shrink_to_fit();
+            Ok(Verdict::Proved(kept))
+        }
         Outcome::Unknown(why) => Ok(Verdict::Unknown(Cause::Search(why))),
         Outcome::Leaf(leaf) => {
             let cex = failing(alloc, question, cut, f, &leaf)?;

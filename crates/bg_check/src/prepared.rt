@@ -19,12 +19,12 @@ use bg_linear::Sort;
 use bg_sorts::{frame_sorts, sorts};
 use std::alloc::{AllocError, Global};
 
-/// The blocks of an implementation, the same made passive, the sorts of their incarnations, their blocks of forms, and how many
-/// variables its frame has.
+/// The blocks of an implementation, the first new incarnation at each arrival where they are made passive, the sorts of the
+/// incarnations, the blocks of forms, and how many variables the frame has.
 #[derive(Drop)]
 pub struct Prepared<'p> {
     pub blocks: Vec<Block<'p>>,
-    pub passive: Passive,
+    pub firsts: Vec<u32>,
     pub sorts: Vec<Sort>,
     pub atoms: Atoms,
     pub frame: usize,
@@ -79,9 +79,15 @@ pub fn prepare<'p>(
     let Some(atoms) = atoms(alloc, &sorts, candidates, &passive.blocks)? else {
         unreachable!()
     };
+    let Passive {
+        blocks: _,
+        arrivals: _,
+        firsts,
+        count: _,
+    } = passive;
     Ok(Prepared {
         blocks,
-        passive,
+        firsts,
         sorts,
         atoms,
         frame: frame.len(),

@@ -37,13 +37,11 @@ use Rattle.bg_places.proofs.place.Group.TheSendSync as group
 use Rattle.bg_places.proofs.place.Place.TheSendSync as place
 use Rattle.bg_linear.proofs.scalar.Sort.TheSendSync as sort
 use Rattle.bg_tree.proofs.outcome.Budget.TheSendSync as budget
-use Rattle.bg_incarnate.proofs.blocks.Incarnations.TheSendSync as incarnations
 use Rattle.bg_forms.proofs.form.Form.TheLaws.TheKnot as knot_form
 use Rattle.bg_blocks.proofs.block.Kept.TheSendSync as kept
 use Rattle.bg_blocks.specs.contracts.block.Cmd as cmd
 use Rattle.bg_blocks.specs.contracts.block.Exit as exit
 use Rattle.bg_blocks.specs.contracts.block.Block as block
-use Rattle.bg_incarnate.specs.contracts.blocks.Passive as passive
 use Rattle.bg_atoms.specs.contracts.product.Atoms as atoms
 use Rattle.bg_check.specs.contracts.prepared.Prepared as prepared
 use Rattle.bg_houdini.specs.contracts.judging.Judging as judging
@@ -120,14 +118,11 @@ exit_field a = search (guard_sync, parts) depth 60 fits 20000
 block_sync : (a : NamedLft) → IsSync (block.the_row a)
 block_sync a = search (cmd_sync, exit_field, parts) depth 60 fits 20000
 
-passive_field : IsSync (passive.the_field).row
-passive_field = search (incarnations.the_sync, knot_expr.crosses, parts) depth 60 fits 20000
-
 atoms_field : IsSync (atoms.the_field).row
 atoms_field = search (knot_form.crosses, knot_expr.crosses, parts) depth 60 fits 20000
 
 pub prepared_sync : (a : NamedLft) → IsSync (prepared.the_row a)
-prepared_sync a = search (block_sync, passive_field, sort.the_sync, atoms_field, parts) depth 60 fits 20000
+prepared_sync a = search (block_sync, sort.the_sync, atoms_field, parts) depth 60 fits 20000
 
 pub judging_sync : (a : NamedLft) → IsSync (judging.the_row a)
 judging_sync a = search (resolved_sync, prepared_sync, place.the_sync, budget.the_field_sync, parts) depth 60 fits 20000

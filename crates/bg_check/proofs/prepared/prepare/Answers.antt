@@ -55,7 +55,7 @@ returns c =
       proc_there = t.proc_there;
       frame = omega (arith, c.len-2.ensures, c.in_ok-frame.frame.ok.0, declared);
       blocks = made;
-      passive = x.0;
+      firsts = x.0.firsts;
       sorts = x.1;
       own = own_here (meaning_of p) c.args.number (mean.impl_of (named_of p.types) t.implementation) (mean.proc_of (named_of p.types) t.procedure) c.deref-4.result.now c.in_ok-candidates.candidates (map passive_block_of c.deref-5.result.now) c.in-Some.atoms sorts c.in_ok-candidates.ensures passives encoding exact sources apart;
     }
