@@ -73,6 +73,12 @@ decided_snoc v xs (e ∷ ds) d h k =
     let t = both (decision_true v xs e) (decided_true v xs ds) h in
     and_of _ _ t.0 (decided_snoc v xs ds d t.1 k)
 
+pub decided_append : (v : Valuation) (xs : List AtomOf) (ds es : List Decision) → decided_true v xs ds ≡ true → decided_true v xs es ≡ true → decided_true v xs (ds ++ es) ≡ true
+decided_append v xs [] es h k = k
+decided_append v xs (d ∷ ds) es h k =
+    let t = both (decision_true v xs d) (decided_true v xs ds) h in
+    and_of _ _ t.0 (decided_append v xs ds es t.1 k)
+
 -- ---- what a path decides
 
 pub opposite_signs : (v : Valuation) (a : Option AtomOf) (s : Bool) → signed v a s ≡ true → signed v a (not s) ≡ true → ⊥

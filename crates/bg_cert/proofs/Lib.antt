@@ -5,6 +5,9 @@ pub mod Uses
 pub mod Places
 pub mod Counts
 pub mod Stacks
+pub mod Literals
 pub mod Tells
 pub mod Untouched
 pub mod Members
+pub mod Turns
+pub mod Tableless

@@ -3,3 +3,4 @@ pub mod Counts
 pub mod Certs
 pub mod Walks
 pub mod Causes
+pub mod Tours

@@ -8,11 +8,12 @@ use Rattle.bg_formula.specs.Instances.{SignedAtom, with_clauses, numbered}
 use Rattle.bg_cert.specs.declared.cert.Decision.{Decision}
 use Rattle.bg_cert.specs.declared.cert.Decision.TheVariants.{Atom, AtMost}
 
--- a path: the formula with the instances that it added, and what it decided, in order
+-- a path: the formula with the instances that it added, what it decided, in order, and the lemmas that are known on it
 pub record PathOf : Type 0 where
   pub atoms : List AtomOf
   pub clauses : List (List Literal)
   pub decided : List Decision
+  pub lemmas : List (List Literal)
 
 abbrev pub with_decision : PathOf → Decision → PathOf
 with_decision p d = record p { decided = p.decided ++ (d ∷ []) }
@@ -20,6 +21,18 @@ with_decision p d = record p { decided = p.decided ++ (d ∷ []) }
 abbrev pub with_added : PathOf → List (List SignedAtom) → PathOf
 with_added p cs =
     record p { atoms = with_clauses p.atoms cs; clauses = p.clauses ++ numbered p.atoms cs }
+
+-- each literal the other way, in order
+abbrev pub denials : List Literal → List Decision
+denials [] = []
+denials (l ∷ ls) = Atom l.atom (not l.sign) ∷ denials ls
+
+-- the two paths below a lemma: on one all its literals are false, on the other it is known
+abbrev pub with_denied : PathOf → List Literal → PathOf
+with_denied p ls = record p { decided = p.decided ++ denials ls }
+
+abbrev pub with_lemma : PathOf → List Literal → PathOf
+with_lemma p ls = record p { lemmas = p.lemmas ++ (ls ∷ []) }
 
 -- ---- what a path decides
 

@@ -1,5 +1,5 @@
--- The checker's state, as the paths that are open.
-use Rattle.std.specs.Prelude.{◌≡◌, ℕ, ◌+◌, ◌≤◌, Bool, false, ◌&&◌, cond, List, [], ◌∷◌, ◌++◌, take, length, slice_index_or, Option, None}
+-- A walk through a tree without lemmas, as the paths that are open.
+use Rattle.std.specs.Prelude.{ℕ, ◌+◌, ◌≤◌, Bool, false, cond, List, [], ◌∷◌, ◌++◌, take, length, slice_index_or, Option, None}
 use Rattle.bg_formula.specs.Formulas.{Formula}
 use Rattle.bg_formula.specs.Instances.{Instance, SignedAtom}
 use Rattle.bg_cert.specs.declared.cert.Decision.{Decision}
@@ -7,7 +7,6 @@ use Rattle.bg_cert.specs.declared.walk.Waiting.{Waiting}
 use Rattle.bg_cert.specs.declared.walk.Walk.{Walk}
 use Rattle.bg_cert.specs.Paths.{PathOf}
 use Rattle.bg_cert.specs.Counts.{Fits}
-use Rattle.bg_cert.specs.Certs.{NodeOf, accepts, closes}
 
 -- a set of candidates that is kept as a list of truth values; those past its end are no members
 abbrev pub has : List Bool → ℕ → Bool
@@ -18,7 +17,7 @@ abbrev pub no_instance : Instance → Option (List (List SignedAtom))
 no_instance i = None
 
 abbrev pub path_of : Formula → List Decision → PathOf
-path_of f trail = record { atoms = f.atoms; clauses = f.clauses; decided = trail }
+path_of f trail = record { atoms = f.atoms; clauses = f.clauses; decided = trail; lemmas = [] }
 
 abbrev pub waiting_path : Formula → List Decision → Waiting → PathOf
 waiting_path f trail w = path_of f (take w.depth trail ++ (w.last ∷ []))
@@ -61,19 +60,6 @@ pub record IsWalk (w : Walk) : Type 0 where
   pub rising : Rising 0 w.waiting.items
   pub within : AtMostDeep (length (decided_on w)) w.waiting.items
   pub fits : AllFit (atoms_on w) w.waiting.items
-
--- what a leaf tells of the certificates that begin with it
-abbrev pub TellsLeaf : Formula → (ℕ → Bool) → Walk → Walk → NodeOf → Bool → Type 0
-TellsLeaf f set old new n done =
-    (rest : List NodeOf) →
-    (closes f set (path_of f (decided_on old)) n && accepts f set no_instance (others_of f old) rest)
-    ≡ (done && accepts f set no_instance (stack_of f new) rest)
-
--- what a node tells of the certificates that begin with it
-abbrev pub Tells : Formula → (ℕ → Bool) → Walk → Walk → NodeOf → Bool → Type 0
-Tells f set old new n done =
-    (rest : List NodeOf) →
-    accepts f set no_instance (stack_of f old) (n ∷ rest) ≡ (done && accepts f set no_instance (stack_of f new) rest)
 
 -- how many paths are open
 abbrev pub paths_open : Walk → ℕ

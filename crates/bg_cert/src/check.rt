@@ -1,37 +1,55 @@
 //! The checker: it walks once over the nodes, with the open path and the paths that wait.
-ghost use Rattle.std.specs.Prelude.{◌≡◌, map, IfOk, ◌∷◌, [], IsTrue, length};
+ghost use Rattle.std.specs.Prelude.{◌≡◌, ◌≤◌, ◌+◌, ◌++◌, ℕ, List, IfOk, OnOk, ◌∷◌, [], IsTrue, length, Some};
+ghost use Rattle.bg_formula.specs.Atoms.{at};
 ghost use Rattle.bg_formula.specs.Formulas.{formula_of};
-ghost use Rattle.bg_cert.specs.Certs.{node_of, closes, accepts, root};
-ghost use Rattle.bg_cert.specs.Walks.{IsWalk, has, no_instance, path_of, decided_on, atoms_on, Tells, TellsLeaf};
+ghost use Rattle.bg_cert.specs.declared.cert.Decision.{Decision};
+ghost use Rattle.bg_cert.specs.Counts.{Fits};
+ghost use Rattle.bg_cert.specs.Paths.{PathOf, denials};
+ghost use Rattle.bg_cert.specs.Certs.{node_of, cert_of, lemma_of, closes, accepts, root_with, is_accepted};
+ghost use Rattle.bg_cert.specs.Walks.{has, no_instance};
+ghost use Rattle.bg_cert.specs.Tours.{IsTour, path_in, decided_on, known_on, atoms_on, stack_of, others_of, Tells, TellsLeaf, all_below};
 
-use crate::cert::{Decision, Node};
+use crate::cert::{Cert, Decision, Named, Node};
 use crate::leaf::{names_false, unit_false};
-use crate::rows::rows_on;
-use crate::trail::Trail;
-use crate::walk::{Walk, close, first_walk, open_both};
+use crate::lemma::{deny_all, known_false};
+use crate::table::{rows_with, table_below};
+use crate::tour::{Tour, Turn, end_path, first_tour, wait};
+use crate::trail::decide;
 use bg_formula::Clauses;
 use bg_rows::derives;
 use std::alloc::{AllocError, Global};
 
 /// Whether a leaf's claim about the path holds; no other node makes one.
+#[tactic(auto, using(crate::proofs::Places::at_map_there, crate::proofs::Places::at_map_missing))]
 fn closes(
     alloc: Global,
     f: &Clauses,
     set: &[bool],
-    trail: &Trail,
+    cert: &Cert,
+    tour: &Tour,
     node: &Node,
 ) -> Result<bool, AllocError>
-    ensures { IfOk result (λ yes. yes ≡ closes (formula_of f.now) (has set.now) (path_of (formula_of f.now) trail.now.decisions.items) (node_of node.now)) }
+    requires sized { atoms_on tour.now ≡ length f.now.atoms.items + length cert.now.table.items }
+    ensures { IfOk result (λ yes. yes ≡ closes (formula_of f.now) (has set.now) (path_in (formula_of f.now) cert.now (decided_on tour.now) (known_on tour.now)) (node_of node.now)) }
 {
     match node {
-        Node::Clause(c) => Ok(names_false(trail, &f.clauses, *c)),
+        Node::Clause(c) => Ok(names_false(&tour.trail, &f.clauses, *c)),
         Node::Unit(c) => {
             let c = *c;
             let is_member = c < set.len() as u128 && set[c as usize];
-            Ok(is_member && unit_false(trail, &f.candidates, c))
+            Ok(is_member && unit_false(&tour.trail, &f.candidates, c))
+        }
+        Node::Known(i) => {
+            let i = *i;
+            if i < tour.lemmas.len() as u128 {
+                let k = tour.lemmas[i as usize];
+                Ok(known_false(&tour.trail, f.atoms.len(), &cert.nodes, k))
+            } else {
+                Ok(false)
+            }
         }
         Node::Rows(steps) => {
-            let path = rows_on(alloc, &f.atoms, &trail.decisions)?;
+            let path = rows_with(alloc, &f.atoms, &cert.table, &tour.trail.decisions)?;
             derives(alloc, &path, steps)
         }
         _ => Ok(false),
@@ -43,44 +61,88 @@ fn leaf(
     alloc: Global,
     f: &Clauses,
     set: &[bool],
-    walk: &mut Walk,
+    cert: &Cert,
+    tour: &mut Tour,
     node: &Node,
 ) -> Result<bool, AllocError>
-    requires is_walk { IsWalk walk.old }
-    requires is_open { IsTrue walk.old.is_open }
-    ensures walks { IfOk result (λ yes. IsTrue yes → IsWalk walk.new) }
-    ensures sized { IfOk result (λ yes. IsTrue yes → atoms_on walk.new ≡ atoms_on walk.old) }
-    ensures told { IfOk result (λ yes. TellsLeaf (formula_of f.now) (has set.now) walk.old walk.new (node_of node.now) yes) }
+    requires is_tour { IsTour tour.old }
+    requires is_open { IsTrue tour.old.is_open }
+    requires sized { atoms_on tour.old ≡ length f.now.atoms.items + length cert.now.table.items }
+    ensures tours { IfOk result (λ yes. IsTrue yes → IsTour tour.new) }
+    ensures sized { IfOk result (λ yes. IsTrue yes → atoms_on tour.new ≡ atoms_on tour.old) }
+    ensures told { IfOk result (λ yes. TellsLeaf (formula_of f.now) (has set.now) cert.now tour.old tour.new (node_of node.now) yes) }
 {
-    if closes(alloc, f, set, &walk.trail, node)? {
-        close(walk)?;
+    if closes(alloc, f, set, cert, tour, node)? {
+        end_path(tour)?;
         Ok(true)
     } else {
         Ok(false)
     }
 }
 
-/// One node: whether it may stand here, and which paths are open after it.
+/// Decides both ways.
+fn both_ways(tour: &mut Tour, first: Decision, second: Decision) -> Result<(), AllocError>
+    requires is_tour { IsTour tour.old }
+    requires is_open { IsTrue tour.old.is_open }
+    requires fits_first { Fits (atoms_on tour.old) first }
+    requires fits_second { Fits (atoms_on tour.old) second }
+    ensures tours { OnOk result (IsTour tour.new) }
+    ensures sized { OnOk result (atoms_on tour.new ≡ atoms_on tour.old) }
+    ensures stack { OnOk result ((path : List Decision → List ℕ → PathOf) → stack_of path tour.new ≡ path (decided_on tour.old ++ (first ∷ [])) (known_on tour.old) ∷ path (decided_on tour.old ++ (second ∷ [])) (known_on tour.old) ∷ others_of path tour.old) }
+{
+    wait(tour, Turn::Decides(second))?;
+    decide(&mut tour.trail, first)?;
+    Ok(())
+}
+
+/// Denies a lemma's literals, and lets the path wait that knows it.
+fn learn(tour: &mut Tour, atoms: usize, lemma: &[Named], k: usize) -> Result<bool, AllocError>
+    requires is_tour { IsTour tour.old }
+    requires is_open { IsTrue tour.old.is_open }
+    requires few { atoms ≤ atoms_on tour.old }
+    ensures there { IfOk result (λ yes. yes ≡ all_below (atoms_on tour.old) (lemma_of atoms lemma.now)) }
+    ensures tours { IfOk result (λ yes. IsTrue yes → IsTour tour.new) }
+    ensures sized { IfOk result (λ yes. IsTrue yes → atoms_on tour.new ≡ atoms_on tour.old) }
+    ensures stack { IfOk result (λ yes. IsTrue yes → (path : List Decision → List ℕ → PathOf) → stack_of path tour.new ≡ path (decided_on tour.old ++ denials (lemma_of atoms lemma.now)) (known_on tour.old) ∷ path (decided_on tour.old) (known_on tour.old ++ (k ∷ [])) ∷ others_of path tour.old) }
+{
+    wait(tour, Turn::Learns(k))?;
+    deny_all(&mut tour.trail, atoms, lemma)
+}
+
+/// One node, the k-th: whether it may stand here, and which paths are open after it.
 fn step(
     alloc: Global,
     f: &Clauses,
     set: &[bool],
-    walk: &mut Walk,
+    cert: &Cert,
+    tour: &mut Tour,
     node: &Node,
+    k: usize,
 ) -> Result<bool, AllocError>
-    requires is_walk { IsWalk walk.old }
-    requires is_open { IsTrue walk.old.is_open }
-    requires sized { atoms_on walk.old ≡ length f.now.atoms.items }
-    ensures walks { IfOk result (λ yes. IsTrue yes → IsWalk walk.new) }
-    ensures sized { IfOk result (λ yes. IsTrue yes → atoms_on walk.new ≡ atoms_on walk.old) }
-    ensures told { IfOk result (λ yes. Tells (formula_of f.now) (has set.now) walk.old walk.new (node_of node.now) yes) }
+    requires is_tour { IsTour tour.old }
+    requires is_open { IsTrue tour.old.is_open }
+    requires sized { atoms_on tour.old ≡ length f.now.atoms.items + length cert.now.table.items }
+    requires is_node { at cert.now.nodes.items k ≡ Some node.now }
+    ensures tours { IfOk result (λ yes. IsTrue yes → IsTour tour.new) }
+    ensures sized { IfOk result (λ yes. IsTrue yes → atoms_on tour.new ≡ atoms_on tour.old) }
+    ensures told { IfOk result (λ yes. Tells (formula_of f.now) (has set.now) cert.now tour.old tour.new (node_of node.now) yes) }
 {
     match node {
         Node::Split(a) => {
             let a = *a;
-            if a < f.atoms.len() as u128 {
+            if a < tour.trail.counts.len() as u128 {
                 let a = a as usize;
-                open_both(walk, Decision::Atom(a, true), Decision::Atom(a, false))?;
+                both_ways(tour, Decision::Atom(a, true), Decision::Atom(a, false))?;
+                Ok(true)
+            } else {
+                Ok(false)
+            }
+        }
+        Node::Cut(r) => {
+            let r = *r;
+            if r < cert.table.len() as u128 {
+                let a = f.atoms.len() + r as usize;
+                both_ways(tour, Decision::Atom(a, true), Decision::Atom(a, false))?;
                 Ok(true)
             } else {
                 Ok(false)
@@ -93,32 +155,46 @@ fn step(
                 let x = x as u32;
                 let first = Decision::AtMost(x, k, true);
                 let second = Decision::AtMost(x, k, false);
-                open_both(walk, first, second)?;
+                both_ways(tour, first, second)?;
                 Ok(true)
             } else {
                 Ok(false)
             }
         }
-        Node::Clause(_) => leaf(alloc, f, set, walk, node),
-        Node::Unit(_) => leaf(alloc, f, set, walk, node),
-        Node::Rows(_) => leaf(alloc, f, set, walk, node),
+        Node::Lemma(lemma) => learn(tour, f.atoms.len(), lemma, k),
+        Node::Clause(_) => leaf(alloc, f, set, cert, tour, node),
+        Node::Unit(_) => leaf(alloc, f, set, cert, tour, node),
+        Node::Known(_) => leaf(alloc, f, set, cert, tour, node),
+        Node::Rows(_) => leaf(alloc, f, set, cert, tour, node),
     }
 }
 
-/// Whether the certificate is accepted: its nodes are one case tree whose leaves' claims all hold,
-/// where the candidates of the set are units. Takes time for each node, each literal that is looked
-/// at, and each path's rows where a leaf asks for them.
-pub fn accepts(alloc: Global, f: &Clauses, set: &[bool], cert: &[Node]) -> Result<bool, AllocError>
-    ensures { IfOk result (λ yes. yes ≡ accepts (formula_of f.now) (has set.now) no_instance (root (formula_of f.now) ∷ []) (map node_of cert.now)) }
+/// Whether the nodes are one case tree whose leaves' claims all hold.
+fn is_tree(alloc: Global, f: &Clauses, set: &[bool], cert: &Cert) -> Result<bool, AllocError>
+    ensures { IfOk result (λ yes. yes ≡ accepts (formula_of f.now) (has set.now) no_instance (root_with (formula_of f.now) (cert_of cert.now).table ∷ []) (cert_of cert.now).nodes) }
 {
-    let mut walk = first_walk(alloc, f.atoms.len())?;
-    for node in cert {
-        if !walk.is_open {
+    let mut tour = first_tour(alloc, f.atoms.len() + cert.table.len())?;
+    for k in 0..cert.nodes.len() {
+        if !tour.is_open {
             return Ok(false);
         }
-        if !step(alloc, f, set, &mut walk, node)? {
+        if !step(alloc, f, set, cert, &mut tour, &cert.nodes[k], k)? {
             return Ok(false);
         }
     }
-    Ok(!walk.is_open)
+    Ok(!tour.is_open)
+}
+
+/// Whether the certificate is accepted: its table's rows are over the formula's terms, and its nodes
+/// are one case tree whose leaves' claims all hold, where the candidates of the set are units. Takes
+/// time for each row of the table, each node, each literal that is looked at, and each path's rows
+/// where a leaf asks for them.
+pub fn accepts(alloc: Global, f: &Clauses, set: &[bool], cert: &Cert) -> Result<bool, AllocError>
+    ensures { IfOk result (λ yes. yes ≡ is_accepted (formula_of f.now) (has set.now) no_instance (cert_of cert.now)) }
+{
+    if table_below(f.terms, &cert.table) {
+        is_tree(alloc, f, set, cert)
+    } else {
+        Ok(false)
+    }
 }

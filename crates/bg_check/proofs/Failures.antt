@@ -1,5 +1,5 @@
 -- A place with an accepted certificate has no failing run.
-use Rattle.std.proofs.Common.{◌≡◌, ℕ, Bool, true, List, map}
+use Rattle.std.proofs.Common.{◌≡◌, ℕ, Bool, true, List}
 use Rattle.bg_ast.specs.Syntax.{Prog}
 use Rattle.bg_ast.specs.Execution.{Interp, State, Choice, Place}
 use Rattle.bg_sense.specs.Flow.{Failed}
@@ -12,8 +12,9 @@ use Rattle.bg_passive.specs.Incarnations.{passive_scope}
 use Rattle.bg_block_types.specs.Typed.{arrivals_in, passives_in}
 use Rattle.bg_formula.specs.Formulas.{Formula}
 use Rattle.bg_formula.specs.Meaning.{Valuation, clauses_true}
-use Rattle.bg_cert.specs.declared.cert.Node.{Node}
-use Rattle.bg_cert.specs.Certs.{node_of, uses}
+use Rattle.bg_cert.specs.declared.cert.Cert.{Cert}
+use Rattle.bg_cert.specs.Certs.{cert_of, uses}
+use Rattle.bg_cert.proofs.Sound.{table_agrees}
 use Rattle.bg_cert.specs.Walks.{no_instance}
 use Rattle.bg_fits.specs.Scalars.{is_over_scalars}
 use Rattle.bg_forms.specs.Worth.{bools_at}
@@ -38,13 +39,13 @@ module _ (functions : FunctionLaw) (bodies : BodyLaw) (runs : PassiveLaw) (fits 
       (y.0, (y.1.1.1, y.1.1.0))
 
   module _ (certs : CertLaw) (used : UsedLaw) (units : UnitAtomLaw) (named : NamedUnitLaw) where
-    pub no_failure : (set other : ℕ → Bool) (u : Place) (nodes : List Node) → HasCertificate p set u nodes → ((c : ℕ) → uses (map node_of nodes) c ≡ true → other c ≡ true) → (i : Interp) (s : State) (choices : List Choice) → Fails p other u i s choices → ⊥
-    no_failure set other u nodes c us i s choices fails =
+    pub no_failure : (set other : ℕ → Bool) (u : Place) (cert : Cert) → HasCertificate p set u cert → ((c : ℕ) → uses (cert_of cert).nodes c ≡ true → other c ≡ true) → (i : Interp) (s : State) (choices : List Choice) → Fails p other u i s choices → ⊥
+    no_failure set other u cert c us i s choices fails =
         let f = c.formula in
         let h = c.is.clauses in
         let a = h.encoding in
         let plain = plain_formula a.first a.terms a.named a.rows u.spot a.blocks f h.clauses in
         let v = valued other u f h i s choices fails.meets fails.state fails.fails in
         let met = meets_units f a.named (units a.first a.terms a.named a.rows u.spot a.blocks f h.clauses) (named a.first a.terms a.named a.rows u.spot a.blocks f h.clauses) v.0 other v.1.1 in
-        certs f other no_instance (map node_of nodes) (plain_agree a.first a.rows f h.is_encoding.denials plain) (λ j cs g. absurd (let bad : ⊥ = cc in bad)) (used f set other no_instance (map node_of nodes) c.accepted us)
+        certs f other no_instance (cert_of cert) (plain_agree a.first a.rows f h.is_encoding.denials plain) (table_agrees cert.table.items) (λ j cs g. absurd (let bad : ⊥ = cc in bad)) (used f set other no_instance (cert_of cert) c.accepted us)
         v.0 v.1.0 met (λ j cs g. absurd (let bad : ⊥ = cc in bad))

@@ -33,7 +33,7 @@ use Rattle.bg_formula.specs.Formulas.{Formula, unit_atom, is_whole}
 use Rattle.bg_formula.specs.Meaning.{Valuation, signed, clauses_true, MeetsUnits, AtomsAgree}
 use Rattle.bg_formula.specs.Instances.{Instance, SignedAtom, atoms_of}
 use Rattle.bg_cert.specs.Paths.{decides}
-use Rattle.bg_cert.specs.Certs.{NodeOf, Accepts, HasNoValuation, uses}
+use Rattle.bg_cert.specs.Certs.{CertOf, Accepts, HasNoValuation, uses}
 use Rattle.bg_point.specs.Points.{value_of}
 use Rattle.bg_tree.specs.declared.outcome.Leaf.{Leaf}
 use Rattle.bg_tree.specs.Ends.{IsLeaf, TruthsAgree}
@@ -202,18 +202,18 @@ CheckLaw =
 
 abbrev pub CertLaw : Type 0
 CertLaw =
-    (f : Formula) (set : ℕ → Bool) (adds : Instance → Option (List (List SignedAtom))) (cert : List NodeOf) →
-    AtomsAgree f.atoms → ((i : Instance) (cs : List (List SignedAtom)) → adds i ≡ Some cs → AtomsAgree (atoms_of cs)) → Accepts f set adds cert → HasNoValuation f set adds
+    (f : Formula) (set : ℕ → Bool) (adds : Instance → Option (List (List SignedAtom))) (cert : CertOf) →
+    AtomsAgree f.atoms → AtomsAgree cert.table → ((i : Instance) (cs : List (List SignedAtom)) → adds i ≡ Some cs → AtomsAgree (atoms_of cs)) → Accepts f set adds cert → HasNoValuation f set adds
 
 abbrev pub UsedLaw : Type 0
 UsedLaw =
-    (f : Formula) (set other : ℕ → Bool) (adds : Instance → Option (List (List SignedAtom))) (cert : List NodeOf) →
-    Accepts f set adds cert → ((c : ℕ) → uses cert c ≡ true → other c ≡ true) → Accepts f other adds cert
+    (f : Formula) (set other : ℕ → Bool) (adds : Instance → Option (List (List SignedAtom))) (cert : CertOf) →
+    Accepts f set adds cert → ((c : ℕ) → uses cert.nodes c ≡ true → other c ≡ true) → Accepts f other adds cert
 
 abbrev pub InsideLaw : Type 0
 InsideLaw =
-    (f : Formula) (set : ℕ → Bool) (adds : Instance → Option (List (List SignedAtom))) (cert : List NodeOf) →
-    Accepts f set adds cert → (c : ℕ) → uses cert c ≡ true → set c ≡ true
+    (f : Formula) (set : ℕ → Bool) (adds : Instance → Option (List (List SignedAtom))) (cert : CertOf) →
+    Accepts f set adds cert → (c : ℕ) → uses cert.nodes c ≡ true → set c ≡ true
 
 abbrev pub EvenLaw : Type 0
 EvenLaw =

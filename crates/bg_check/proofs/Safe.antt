@@ -13,8 +13,8 @@ use Rattle.bg_sense.specs.Clauses.{is_kept}
 use Rattle.bg_sense.proofs.Bools.{and_left, and_right}
 use Rattle.bg_sense.proofs.Members.{In, member}
 use Rattle.bg_places.specs.Placed.{Placed, place_in, placed_impl}
-use Rattle.bg_cert.specs.declared.cert.Node.{Node}
-use Rattle.bg_cert.specs.Certs.{node_of}
+use Rattle.bg_cert.specs.declared.cert.Cert.{Cert}
+use Rattle.bg_cert.specs.Certs.{cert_of}
 use Rattle.bg_cert.specs.Walks.{no_instance}
 use Rattle.bg_fits.specs.Scalars.{is_over_scalars}
 use Rattle.bg_tree.specs.declared.outcome.Budget.{Budget}
@@ -29,11 +29,11 @@ use Rattle.bg_check.proofs.Numbered.{has}
 
 -- a certificate of a place
 pub record Proof (p : Prog) (set : ℕ → Bool) (t : Place) : Type 0 where
-  pub nodes : List Node
-  pub certificate : HasCertificate p set t nodes
+  pub cert : Cert
+  pub certificate : HasCertificate p set t cert
 
 proof_of : (budget : Budget) (p : Prog) (set : ℕ → Bool) (t : Place) (v : Verdict) → IsRight budget p set t v → is_proved v ≡ true → Proof p set t
-proof_of budget p set t (Proved nodes) h e = record { nodes = nodes.items; certificate = h }
+proof_of budget p set t (Proved cert) h e = record { cert = cert; certificate = h }
 proof_of budget p set t (Refuted cex) h e = absurd (let bad : ⊥ = cc in bad)
 proof_of budget p set t (Unknown cause) h e = absurd (let bad : ⊥ = cc in bad)
 
@@ -68,7 +68,7 @@ module _ (functions : FunctionLaw) (bodies : BodyLaw) (safe : SafeLaw) (place : 
       let inside_it = subst (λ x. In (map place_in (placed_impl p.procedures k x)) u) is (subst (λ x. In (map place_in (placed_impl p.procedures x h.implementation)) u) number h.member) in
       let ordinary : u.candidate ≡ None → ⊥ = λ bare.
       let x = judged_place budget (meaning_of p) set js u right.right proved (subst (λ l. In (map place_in l) u) (sym right.places) (among_ordinary (placed_impl p.procedures k m) u bare inside_it)) in
-      no_failure functions bodies runs fits denies met (meaning_of p) t o certs used units named set set u x.nodes x.certificate (λ n g. inside x.certificate.formula set no_instance (map node_of x.nodes) x.certificate.accepted n g) i s choices fails in
+      no_failure functions bodies runs fits denies met (meaning_of p) t o certs used units named set set u x.cert x.certificate (λ n g. inside x.certificate.formula set no_instance (cert_of x.cert) x.certificate.accepted n g) i s choices fails in
       by_candidate u.candidate ordinary (λ b e. inductive u b c e (ap (is_kept set) (sym e) ∙ kept) i s choices fails))
     where
       there : (ms : List r.Impl) (j : ℕ) → slice_get ms j ≡ Some m → j < length ms

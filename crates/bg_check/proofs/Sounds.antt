@@ -9,7 +9,7 @@ use Rattle.bg_ast.specs.Execution.{Interp, State, Choice, Place}
 use Rattle.bg_sense.specs.Claims.{Fails}
 use Rattle.bg_sense.proofs.Bools.{and_left, and_right}
 use Rattle.bg_places.specs.Placed.{placed_impl}
-use Rattle.bg_cert.specs.declared.cert.Node.{Node}
+use Rattle.bg_cert.specs.declared.cert.Cert.{Cert}
 use Rattle.bg_tree.specs.declared.outcome.Budget.{Budget}
 use Rattle.bg_sound.specs.Told as t
 use Rattle.bg_sound.specs.Sound.{IsTrueAt, AreTrueAt, AreTrueFrom}
@@ -23,7 +23,7 @@ use Rattle.bg_check.specs.Outcomes.{verdict_of, told_one, is_ordinary, told}
 -- what certificates give
 abbrev pub NoFailures : Prog → (ℕ → Bool) → Type 0
 NoFailures p set =
-    (t : Place) (nodes : List Node) → HasCertificate p set t nodes → (i : Interp) (s : State) (cs : List Choice) → Fails p set t i s cs → ⊥
+    (t : Place) (cert : Cert) → HasCertificate p set t cert → (i : Interp) (s : State) (cs : List Choice) → Fails p set t i s cs → ⊥
 
 same_placed : (words : Cause → t.Why) (js : List Judged) → map t.placed_at (map (told_one words) js) ≡ map placed_at js
 same_placed words [] = refl
@@ -46,7 +46,7 @@ same_filtered (j ∷ js) h =
 
 module _ (p : Prog) (set : ℕ → Bool) (budget : Budget) (words : Cause → t.Why) (none_fail : NoFailures p set) where
   true_at : (u : Place) (v : Verdict) → IsRight budget p set u v → IsTrueAt p set u (verdict_of words v)
-  true_at u (Proved nodes) h = none_fail u nodes.items h
+  true_at u (Proved cert) h = none_fail u cert h
   true_at u (Refuted cex) h = (h.0, h.1.1)
   true_at u (Unknown cause) h = tt
 
@@ -55,7 +55,7 @@ module _ (p : Prog) (set : ℕ → Bool) (budget : Budget) (words : Cause → t.
   all_true (j ∷ js) h = (true_at (placed_at j).place j.verdict h.0, all_true js h.1)
 
 proved_one : (words : Cause → t.Why) (v : Verdict) → t.is_refuted (verdict_of words v) ≡ false → t.is_unknown (verdict_of words v) ≡ false → is_proved v ≡ true
-proved_one words (Proved nodes) a b = refl
+proved_one words (Proved cert) a b = refl
 proved_one words (Refuted cex) a b = absurd (let bad : true ≡ false = a in cc)
 proved_one words (Unknown cause) a b = absurd (let bad : true ≡ false = b in cc)
 

@@ -10,8 +10,8 @@ use Rattle.bg_sense.specs.Claims.{Safe, Fails}
 use Rattle.bg_sense.specs.Flow.{Failed}
 use Rattle.bg_sense.specs.Variables.{procedure_of}
 use Rattle.bg_formula.specs.Formulas.{Formula}
-use Rattle.bg_cert.specs.declared.cert.Node.{Node}
-use Rattle.bg_cert.specs.Certs.{Accepts, node_of}
+use Rattle.bg_cert.specs.declared.cert.Cert.{Cert}
+use Rattle.bg_cert.specs.Certs.{Accepts, cert_of}
 use Rattle.bg_cert.specs.Walks.{no_instance}
 use Rattle.bg_tree.specs.declared.outcome.Budget.{Budget}
 use Rattle.bg_tree.specs.declared.outcome.Why.{Why}
@@ -36,10 +36,10 @@ use Rattle.bg_check.specs.declared.verdict.Judged.{Judged}
 use Rattle.bg_check.specs.Replays.{RunsTo}
 
 -- the place's clauses have this certificate under a set of candidates
-pub record HasCertificate (p : Prog) (set : ℕ → Bool) (t : Place) (nodes : List Node) : Type 0 where
+pub record HasCertificate (p : Prog) (set : ℕ → Bool) (t : Place) (cert : Cert) : Type 0 where
   pub formula : Formula
   pub is : HasOwnClauses p t formula
-  pub accepted : Accepts formula set no_instance (map node_of nodes)
+  pub accepted : Accepts formula set no_instance (cert_of cert)
 
 -- this is why the place's clauses are left unknown within the budget
 pub record HasWhy (p : Prog) (set : ℕ → Bool) (t : Place) (budget : Budget) (why : Why) : Type 0 where
@@ -75,7 +75,7 @@ IsUnknown budget p set t (Replay cex o) = HasLeaf p set t cex × (IsFailure p se
 
 -- a verdict on a place, under a set of candidates
 abbrev pub IsRight : Budget → Prog → (ℕ → Bool) → Place → Verdict → Type 0
-IsRight budget p set t (Proved nodes) = HasCertificate p set t nodes.items
+IsRight budget p set t (Proved cert) = HasCertificate p set t cert
 IsRight budget p set t (Refuted cex) =
     IsFailure p set t cex × (RunsTo p set t cex (Stops (Failed t.spot)) × IsUsed p set t cex)
 IsRight budget p set t (Unknown cause) = IsUnknown budget p set t cause
@@ -105,7 +105,7 @@ abbrev pub AreRightUnder : (ℕ → Bool) → Budget → r.Program → List (Lis
 AreRightUnder set budget p outcome = AreRightFrom budget p set 0 p.implementations outcome
 
 abbrev pub is_proved : Verdict → Bool
-is_proved (Proved nodes) = true
+is_proved (Proved cert) = true
 is_proved (Refuted cex) = false
 is_proved (Unknown cause) = false
 

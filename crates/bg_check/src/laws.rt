@@ -8,8 +8,8 @@ ghost use Rattle.bg_ast.specs.Execution.{Interp, State, Choice, Place};
 ghost use Rattle.bg_sense.specs.Typed.{IsTyped};
 ghost use Rattle.bg_sense.specs.Claims.{Fails, IsState, Inductive};
 ghost use Rattle.bg_sense.specs.Flow.{BadChoice, Failed};
-ghost use Rattle.bg_cert.specs.declared.cert.Node.{Node};
-ghost use Rattle.bg_cert.specs.Certs.{node_of, uses};
+ghost use Rattle.bg_cert.specs.declared.cert.Cert.{Cert};
+ghost use Rattle.bg_cert.specs.Certs.{cert_of, uses};
 ghost use Rattle.bg_cert.specs.Walks.{has};
 ghost use Rattle.bg_fits.specs.Scalars.{is_over_scalars};
 ghost use Rattle.bg_block_types.specs.Typed.{passives_in};
@@ -47,8 +47,8 @@ use bg_sense::laws::{typed_programs_have_typed_bodies, what_fails_at_no_place_is
 
 /// A place whose clauses have a certificate has no failing run, under any set that has what the certificate uses.
 pub fn proved_places_do_not_fail()
-    ensures { (p : Prog) (set other : ℕ → Bool) (t : Place) (nodes : List Node) → IsTyped p → is_over_scalars true p ≡ true →
-        HasCertificate p set t nodes → ((c : ℕ) → uses (map node_of nodes) c ≡ true → other c ≡ true) →
+    ensures { (p : Prog) (set other : ℕ → Bool) (t : Place) (cert : Cert) → IsTyped p → is_over_scalars true p ≡ true →
+        HasCertificate p set t cert → ((c : ℕ) → uses (cert_of cert).nodes c ≡ true → other c ≡ true) →
         (i : Interp) (s : State) (choices : List Choice) → Fails p other t i s choices → ⊥ }
 {
     typed_programs_have_typed_bodies();

@@ -136,11 +136,7 @@ fn search_place(
 {
     clauses_over_scalars_are_whole();
     match search(alloc, f, question.set, budget)? {
-        Outcome::Closed(nodes) => {
-            let mut kept = nodes;
-            kept.shrink_to_fit();
-            Ok(Verdict::Proved(kept))
-        }
+        Outcome::Closed(cert) => Ok(Verdict::Proved(cert)),
         Outcome::Unknown(why) => Ok(Verdict::Unknown(Cause::Search(why))),
         Outcome::Leaf(leaf) => {
             let cex = failing(alloc, question, cut, f, &leaf)?;

@@ -1,6 +1,6 @@
 //! Verdicts.
 use bg_base::OutOfRange;
-use bg_cert::Node;
+use bg_cert::Cert;
 use bg_model::Counterexample;
 use bg_places::Place;
 use bg_tree::Why;
@@ -20,7 +20,7 @@ pub enum Cause {
 /// each operation on its way within 128 bits; or why neither was found.
 #[derive(Drop)]
 pub enum Verdict {
-    Proved(Vec<Node>),
+    Proved(Cert),
     Refuted(Counterexample),
     Unknown(Cause),
 }

@@ -1,16 +1,15 @@
 -- What a verdict on a task tells.
-use Rattle.std.proofs.Common.{◌≡◌, ℕ, Bool, true, ◌&&◌, [], ◌∷◌, length, map, Some, sym, ap, ◌∙◌, subst}
-use Rattle.std.specs.Prelude.{Vec, slice_get, nat_lt}
-use Rattle.std.specs.declared.alloc.Global.{Global}
+use Rattle.std.proofs.Common.{◌≡◌, ℕ, Bool, true, ◌&&◌, length, Some, sym, ap, ◌∙◌, subst}
+use Rattle.std.specs.Prelude.{slice_get, nat_lt}
 use Rattle.std.proofs.lemmas.Bool.{lt-ltb}
 use Rattle.bg_ast.specs.Syntax.{Prog}
 use Rattle.bg_ast.specs.Execution.{Place}
 use Rattle.bg_sense.proofs.Bools.{and_right}
 use Rattle.bg_words.specs.Sets.{Numbers, has, IsSubset}
-use Rattle.bg_cert.specs.declared.cert.Node.{Node}
-use Rattle.bg_cert.specs.Certs.{root, node_of, uses}
+use Rattle.bg_cert.specs.declared.cert.Cert.{Cert}
+use Rattle.bg_cert.specs.Certs.{cert_of, uses}
 use Rattle.bg_cert.specs.Walks.{no_instance}
-use Rattle.bg_cert.proofs.Uses.{used_lies_in, accepted_above}
+use Rattle.bg_cert.proofs.Uses.{certificate_lies_in, certificate_above}
 use Rattle.bg_rounds.proofs.Lists.{has_below}
 use Rattle.bg_tree.specs.declared.outcome.Budget.{Budget}
 use Rattle.bg_rounds.specs.declared.checker.Kept.{Kept}
@@ -21,10 +20,10 @@ use Rattle.bg_houdini.specs.Tasks.{tasks_of}
 use Rattle.bg_houdini.specs.Checks.{AreUsed, TaskPasses}
 
 -- a certificate under a set is one under the members that it uses
-pub passes_by : (p : Prog) (k : ℕ) (t : Place) (set used : Numbers) (nodes : Vec Node Global) → slice_get (tasks_of p) k ≡ Some t → HasCertificate p (has set) t nodes.items → AreUsed (length set) nodes.items used → TaskPasses p k (has used) nodes × IsSubset used set × (length used ≡ length set)
-passes_by p k t set used nodes there h exact =
-    let names = map node_of nodes.items in
-    let inside : (c : ℕ) → uses names c ≡ true → has set c ≡ true = λ c u. used_lies_in h.formula (has set) no_instance (root h.formula ∷ []) names h.accepted c u in
+pub passes_by : (p : Prog) (k : ℕ) (t : Place) (set used : Numbers) (cert : Cert) → slice_get (tasks_of p) k ≡ Some t → HasCertificate p (has set) t cert → AreUsed (length set) cert used → TaskPasses p k (has used) cert × IsSubset used set × (length used ≡ length set)
+passes_by p k t set used cert there h exact =
+    let names = (cert_of cert).nodes in
+    let inside : (c : ℕ) → uses names c ≡ true → has set c ≡ true = λ c u. certificate_lies_in h.formula (has set) no_instance (cert_of cert) h.accepted c u in
     let marked : (c : ℕ) → uses names c ≡ true → has used c ≡ true = λ c u.
     exact.exact c ∙ (ap (λ (b : Bool). b && uses names c) (lt-ltb c (length set) (has_below set c (inside c u))) ∙ u) in (
       record {
@@ -33,16 +32,16 @@ passes_by p k t set used nodes there h exact =
         so = record {
           formula = h.formula;
           is = h.is;
-          accepted = accepted_above h.formula (has set) (has used) no_instance (root h.formula ∷ []) names h.accepted marked;
+          accepted = certificate_above h.formula (has set) (has used) no_instance (cert_of cert) h.accepted marked;
         };
       },
       λ c here. inside c (and_right (nat_lt c (length set)) (uses names c) (sym (exact.exact c) ∙ here)),
       exact.count,
     )
 
-pub passes_of : (budget : Budget) (p : Prog) (k : ℕ) (t : Place) (set : Numbers) (n : ℕ) (v : Verdict) (nodes : Vec Node Global) (made : Kept (Vec Node Global)) → slice_get (tasks_of p) k ≡ Some t → length set ≡ n → v ≡ Proved nodes → IsRight budget p (has set) t v → made.proof ≡ nodes → AreUsed n nodes.items made.used
+pub passes_of : (budget : Budget) (p : Prog) (k : ℕ) (t : Place) (set : Numbers) (n : ℕ) (v : Verdict) (cert : Cert) (made : Kept Cert) → slice_get (tasks_of p) k ≡ Some t → length set ≡ n → v ≡ Proved cert → IsRight budget p (has set) t v → made.proof ≡ cert → AreUsed n cert made.used
     → TaskPasses p k (has made.used) made.proof × IsSubset made.used set × (length made.used ≡ length set)
-passes_of budget p k t set n v nodes made there long is right same exact =
-    let h : HasCertificate p (has set) t nodes.items = subst (IsRight budget p (has set) t) is right in
-    subst (λ (ns : Vec Node Global). TaskPasses p k (has made.used) ns × IsSubset made.used set × (length made.used ≡ length set)) (sym same)
-    (passes_by p k t set made.used nodes there h (subst (λ (m : ℕ). AreUsed m nodes.items made.used) (sym long) exact))
+passes_of budget p k t set n v cert made there long is right same exact =
+    let h : HasCertificate p (has set) t cert = subst (IsRight budget p (has set) t) is right in
+    subst (λ (c : Cert). TaskPasses p k (has made.used) c × IsSubset made.used set × (length made.used ≡ length set)) (sym same)
+    (passes_by p k t set made.used cert there h (subst (λ (m : ℕ). AreUsed m cert made.used) (sym long) exact))

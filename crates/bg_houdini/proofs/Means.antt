@@ -1,5 +1,5 @@
 -- What a true outcome means for the places of the program.
-use Rattle.std.proofs.Common.{◌≡◌, ℕ, ◌<◌, true, List, [], ◌∷◌, length, map, Some, sym, ap, ◌∙◌, subst}
+use Rattle.std.proofs.Common.{◌≡◌, ℕ, ◌<◌, true, length, Some, sym, ap, ◌∙◌, subst}
 use Rattle.std.specs.Prelude.{Contains}
 use Rattle.bg_ast.specs.Syntax.{Prog}
 use Rattle.bg_ast.specs.Resolved as r
@@ -11,10 +11,10 @@ use Rattle.bg_sense.specs.Places.{places}
 use Rattle.bg_sense.proofs.Members.{contained}
 use Rattle.bg_words.specs.Sets.{has}
 use Rattle.bg_core.specs.Inductive.{Candidates, Inductive}
-use Rattle.bg_cert.specs.declared.cert.Node.{Node}
-use Rattle.bg_cert.specs.Certs.{root, node_of, uses}
+use Rattle.bg_cert.specs.declared.cert.Cert.{Cert}
+use Rattle.bg_cert.specs.Certs.{cert_of, uses}
 use Rattle.bg_cert.specs.Walks.{no_instance}
-use Rattle.bg_cert.proofs.Uses.{used_lies_in, accepted_above}
+use Rattle.bg_cert.proofs.Uses.{certificate_lies_in, certificate_above}
 use Rattle.bg_tree.specs.declared.outcome.Budget.{Budget}
 use Rattle.bg_rounds.specs.Outcomes.{NoneUnknown}
 use Rattle.bg_rounds.proofs.Laws.{inductive, greatest, both_ways}
@@ -73,20 +73,20 @@ module _ (budget : Budget) (p : r.Program) (o : Outcome) (hold : CertificatesHol
 
 -- each place of a retained candidate has a certificate under what is retained
 pub certified : (budget : Budget) (p : r.Program) (o : Outcome) → IsTrueOutcome budget p o → (t : Place) (b : ℕ) → Contains (places (meaning_of p)) t → t.candidate ≡ Some b → has o.inferred.retained b ≡ true
-    → (nodes : List Node) × HasCertificate (meaning_of p) (has o.inferred.retained) t nodes
+    → (cert : Cert) × HasCertificate (meaning_of p) (has o.inferred.retained) t cert
 certified budget p o truth t b there is here =
     let q = meaning_of p in
     let k = as_task q t b there is in
     let c = truth.inferred.certificates k.0 (get_below (tasks_of q) k.0 t k.1) (ap (has o.inferred.retained) (candidate_is q k.0 t b k.1 is) ∙ here) in
     let h : TaskPasses q k.0 (has c.0.used) c.0.proof = c.2.shown in
-    let g : HasCertificate q (has c.0.used) t c.0.proof.items = subst (λ (u : Place). HasCertificate q (has c.0.used) u c.0.proof.items) (same_task q k.0 h.task t h.is_there k.1) h.so in
-    let names = map node_of c.0.proof.items in
-    let within : (x : ℕ) → uses names x ≡ true → has o.inferred.retained x ≡ true = λ x u. c.3 x (used_lies_in g.formula (has c.0.used) no_instance (root g.formula ∷ []) names g.accepted x u) in (
-      c.0.proof.items,
+    let g : HasCertificate q (has c.0.used) t c.0.proof = subst (λ (u : Place). HasCertificate q (has c.0.used) u c.0.proof) (same_task q k.0 h.task t h.is_there k.1) h.so in
+    let names = (cert_of c.0.proof).nodes in
+    let within : (x : ℕ) → uses names x ≡ true → has o.inferred.retained x ≡ true = λ x u. c.3 x (certificate_lies_in g.formula (has c.0.used) no_instance (cert_of c.0.proof) g.accepted x u) in (
+      c.0.proof,
       record {
         formula = g.formula;
         is = g.is;
-        accepted = accepted_above g.formula (has c.0.used) (has o.inferred.retained) no_instance (root g.formula ∷ []) names g.accepted within;
+        accepted = certificate_above g.formula (has c.0.used) (has o.inferred.retained) no_instance (cert_of c.0.proof) g.accepted within;
       },
     )
 

@@ -1,7 +1,6 @@
 -- What a checker owes of a program's tasks.
-use Rattle.std.proofs.Common.{◌≡◌, ℕ, ◌<◌, Bool, true, false, List, [], ◌∷◌, length, map, Some, sym, ap, ◌∙◌, subst}
-use Rattle.std.specs.Prelude.{Vec, slice_get}
-use Rattle.std.specs.declared.alloc.Global.{Global}
+use Rattle.std.proofs.Common.{◌≡◌, ℕ, ◌<◌, Bool, true, false, List, length, map, Some, sym, ap, ◌∙◌, subst}
+use Rattle.std.specs.Prelude.{slice_get}
 use Rattle.bg_ast.specs.Syntax.{Prog}
 use Rattle.bg_ast.specs.Execution.{Interp, State, Choice, Place}
 use Rattle.bg_sense.specs.Claims.{Fails}
@@ -11,10 +10,10 @@ use Rattle.bg_sense.specs.Places.{places}
 use Rattle.bg_sense.proofs.Members.{contained}
 use Rattle.bg_sense.proofs.Unions.{under_part}
 use Rattle.bg_core.specs.Inductive.{Candidates, Subset}
-use Rattle.bg_cert.specs.declared.cert.Node.{Node}
-use Rattle.bg_cert.specs.Certs.{root, node_of, uses}
+use Rattle.bg_cert.specs.declared.cert.Cert.{Cert}
+use Rattle.bg_cert.specs.Certs.{cert_of, uses}
 use Rattle.bg_cert.specs.Walks.{no_instance}
-use Rattle.bg_cert.proofs.Uses.{used_lies_in}
+use Rattle.bg_cert.proofs.Uses.{certificate_lies_in}
 use Rattle.bg_tree.specs.declared.outcome.Budget.{Budget}
 use Rattle.bg_faithful.specs.Interps.{no_interp}
 use Rattle.bg_scalar.specs.Choices.{choice_of, state_of}
@@ -30,7 +29,7 @@ use Rattle.bg_houdini.proofs.Tasks.{get_there, task_place, task_candidate}
 -- no induction run fails at a place under a set that has what a certificate of its clauses uses
 abbrev pub CertificatesHold : Prog → Type 0
 CertificatesHold p =
-    (set other : ℕ → Bool) (t : Place) (nodes : List Node) → HasCertificate p set t nodes → ((c : ℕ) → uses (map node_of nodes) c ≡ true → other c ≡ true) →
+    (set other : ℕ → Bool) (t : Place) (cert : Cert) → HasCertificate p set t cert → ((c : ℕ) → uses (cert_of cert).nodes c ≡ true → other c ≡ true) →
     (i : Interp) (s : State) (choices : List Choice) → Fails p other t i s choices → ⊥
 
 pub task_below : (p : Prog) → IsResolved p → (k : ℕ) → k < length (tasks_of p) → candidate_of p k < p.candidates
@@ -56,11 +55,11 @@ task_shrinks p h k set sub within here f =
 pub same_task : (p : Prog) (k : ℕ) (t u : Place) → slice_get (tasks_of p) k ≡ Some t → slice_get (tasks_of p) k ≡ Some u → t ≡ u
 same_task p k t u e h = let s : Some t ≡ Some u = sym e ∙ h in cc
 
-pub task_passing : (p : Prog) → CertificatesHold p → (k : ℕ) (used set : Candidates) (nodes : Vec Node Global) → TaskPasses p k used nodes → Subset used set → TaskFails p k set → ⊥
-task_passing p hold k used set nodes h within f =
+pub task_passing : (p : Prog) → CertificatesHold p → (k : ℕ) (used set : Candidates) (cert : Cert) → TaskPasses p k used cert → Subset used set → TaskFails p k set → ⊥
+task_passing p hold k used set cert h within f =
     let same : f.task ≡ h.task = same_task p k f.task h.task f.is_there h.is_there in
     let run = subst (FailsAt p set) same f.so in
-    hold used set h.task nodes.items h.so (λ c u. within c (used_lies_in h.so.formula used no_instance (root h.so.formula ∷ []) (map node_of nodes.items) h.so.accepted c u)) run.interp run.state run.choices run.run
+    hold used set h.task cert h.so (λ c u. within c (certificate_lies_in h.so.formula used no_instance (cert_of cert) h.so.accepted c u)) run.interp run.state run.choices run.run
 
 pub task_failing : (budget : Budget) (p : Prog) (k : ℕ) (set : Candidates) (reason : Reason) → TaskFinds budget p k set false reason → TaskFails p k set
 task_failing budget p k set (Refuted cex) h =

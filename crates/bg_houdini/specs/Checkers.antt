@@ -1,13 +1,12 @@
 -- What the checker of a program is made of.
-use Rattle.std.specs.Prelude.{◌≡◌, ℕ, ◌+◌, ◌<◌, ◌≤◌, true, false, List, Some, Vec, map, length, slice_get}
-use Rattle.std.specs.declared.alloc.Global.{Global}
+use Rattle.std.specs.Prelude.{◌≡◌, ℕ, ◌+◌, ◌<◌, ◌≤◌, true, false, List, Some, map, length, slice_get}
 use Rattle.bg_ast.specs.Syntax.{Prog}
 use Rattle.bg_ast.specs.Resolved as r
 use Rattle.bg_ast.specs.Meaning.{meaning_of}
 use Rattle.bg_ast.specs.Views.{program_of}
 use Rattle.bg_sense.specs.Typed.{IsTyped}
 use Rattle.bg_sense.specs.Resolved.{IsResolved}
-use Rattle.bg_cert.specs.declared.cert.Node.{Node}
+use Rattle.bg_cert.specs.declared.cert.Cert.{Cert}
 use Rattle.bg_core.specs.Inductive.{Candidates, Subset}
 use Rattle.bg_tree.specs.declared.outcome.Budget.{Budget}
 use Rattle.bg_fits.specs.Scalars.{is_over_scalars}
@@ -42,7 +41,7 @@ meaning_in j = meaning_of (program_in j)
 pub record Owes (budget : Budget) (p : Prog) : Type 0 where
   pub below : (k : ℕ) → k < length (tasks_of p) → candidate_of p k < p.candidates
   pub shrinks : (k : ℕ) (set sub : Candidates) → Subset sub set → sub (candidate_of p k) ≡ true → TaskFails p k set → TaskFails p k sub
-  pub passing : (k : ℕ) (used set : Candidates) (nodes : Vec Node Global) → TaskPasses p k used nodes → Subset used set → TaskFails p k set → ⊥
+  pub passing : (k : ℕ) (used set : Candidates) (cert : Cert) → TaskPasses p k used cert → Subset used set → TaskFails p k set → ⊥
   pub failing : (k : ℕ) (set : Candidates) (reason : Reason) → TaskFinds budget p k set false reason → TaskFails p k set
 
 -- a typed program over truth values and whole numbers with numbers of its own, each implementation prepared, the tasks in order, and how

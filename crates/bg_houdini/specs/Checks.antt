@@ -1,12 +1,11 @@
 -- What the check of a task says of it.
-use Rattle.std.specs.Prelude.{◌≡◌, ℕ, Bool, true, false, ◌&&◌, nat_lt, List, Some, Vec, map, length, slice_get}
-use Rattle.std.specs.declared.alloc.Global.{Global}
+use Rattle.std.specs.Prelude.{◌≡◌, ℕ, Bool, true, false, ◌&&◌, nat_lt, List, Some, length, slice_get}
 use Rattle.bg_ast.specs.Syntax.{Prog}
 use Rattle.bg_ast.specs.Execution.{Interp, State, Choice, Place}
 use Rattle.bg_sense.specs.Claims.{Fails}
 use Rattle.bg_words.specs.Sets.{Numbers, has}
-use Rattle.bg_cert.specs.declared.cert.Node.{Node}
-use Rattle.bg_cert.specs.Certs.{node_of, uses}
+use Rattle.bg_cert.specs.declared.cert.Cert.{Cert}
+use Rattle.bg_cert.specs.Certs.{cert_of, uses}
 use Rattle.bg_tree.specs.declared.outcome.Budget.{Budget}
 use Rattle.bg_check.specs.declared.verdict.Verdict.TheVariants as verdict
 use Rattle.bg_check.specs.Verdicts.{HasCertificate, IsRight}
@@ -21,10 +20,10 @@ pub record FailsAt (p : Prog) (set : ℕ → Bool) (t : Place) : Type 0 where
   pub choices : List Choice
   pub run : Fails p set t interp state choices
 
--- of n candidates the set has those that the nodes use
-pub record AreUsed (n : ℕ) (nodes : List Node) (set : Numbers) : Type 0 where
+-- of n candidates the set has those that a certificate uses
+pub record AreUsed (n : ℕ) (cert : Cert) (set : Numbers) : Type 0 where
   pub count : length set ≡ n
-  pub exact : (c : ℕ) → has set c ≡ (nat_lt c n && uses (map node_of nodes) c)
+  pub exact : (c : ℕ) → has set c ≡ (nat_lt c n && uses (cert_of cert).nodes c)
 
 -- there is a task with this number, and this holds of it
 pub record IsSo (p : Prog) (k : ℕ) (says : Place → Type 0) : Type 0 where
@@ -37,8 +36,8 @@ abbrev pub TaskFails : Prog → ℕ → (ℕ → Bool) → Type 0
 TaskFails p k set = IsSo p k (FailsAt p set)
 
 -- the task's clauses have this certificate under these candidates
-abbrev pub TaskPasses : Prog → ℕ → (ℕ → Bool) → Vec Node Global → Type 0
-TaskPasses p k used nodes = IsSo p k (λ t. HasCertificate p used t nodes.items)
+abbrev pub TaskPasses : Prog → ℕ → (ℕ → Bool) → Cert → Type 0
+TaskPasses p k used cert = IsSo p k (λ t. HasCertificate p used t cert)
 
 -- why the place isn't proved under the set: a run that fails there, or, where the flag says so, a cause to leave it unknown
 abbrev pub IsReason : Budget → Prog → (ℕ → Bool) → Place → Bool → Reason → Type 0

@@ -11,20 +11,20 @@ ghost use Rattle.bg_houdini.specs.Checks.{AreUsed, TaskPasses, TaskFinds};
 use crate::Reason;
 use crate::sets::set_of;
 use bg_cert::laws::accepted_where_used;
-use bg_cert::{Node, used};
+use bg_cert::{Cert, used};
 use bg_check::Verdict;
 use bg_rounds::{Answer, Finding, Kept};
 use bg_tree::Budget;
 use std::alloc::{AllocError, Global};
 
 /// A certificate with the candidates that it uses.
-fn kept(alloc: Global, nodes: Vec<Node>, candidates: u32) -> Result<Kept<Vec<Node>>, AllocError>
-    ensures proof { IfOk result (λ made. made.proof ≡ nodes) }
-    ensures used { IfOk result (λ made. AreUsed candidates nodes.items made.used) }
+fn kept(alloc: Global, cert: Cert, candidates: u32) -> Result<Kept<Cert>, AllocError>
+    ensures proof { IfOk result (λ made. made.proof ≡ cert) }
+    ensures used { IfOk result (λ made. AreUsed candidates cert made.used) }
 {
-    let truths = used(alloc, &nodes, candidates as usize)?;
+    let truths = used(alloc, &cert.nodes, candidates as usize)?;
     let used = set_of(alloc, &truths, candidates)?;
-    Ok(Kept { used, proof: nodes })
+    Ok(Kept { used, proof: cert })
 }
 
 /// A proved task passes by the candidates that its certificate uses; else its candidate has to go, for this reason.
@@ -32,12 +32,12 @@ pub fn answer(
     alloc: Global,
     verdict: Verdict,
     candidates: u32,
-) -> Result<Answer<Vec<Node>, Reason>, AllocError>
+) -> Result<Answer<Cert, Reason>, AllocError>
     ensures { IfOk result (λ made. (budget : Budget) (p : Prog) (k : ℕ) (task : Place) (set : Numbers) → slice_get (tasks_of p) k ≡ Some task → length set ≡ candidates → IsRight budget p (has set) task verdict → IsAnswer (TaskPasses p) (TaskFinds budget p) k set made) }
 {
     accepted_where_used();
     match verdict {
-        Verdict::Proved(nodes) => Ok(Answer::Passes(kept(alloc, nodes, candidates)?)),
+        Verdict::Proved(cert) => Ok(Answer::Passes(kept(alloc, cert, candidates)?)),
         Verdict::Refuted(cex) => Ok(Answer::Drops(Finding {
             unknown: false,
             told: Reason::Refuted(cex),

@@ -12,7 +12,7 @@ use crate::answer::answer;
 use crate::desk::{Desk, lay, new_desk};
 use bg_ast::resolved::Resolved;
 use bg_base::{CandId, TargetId};
-use bg_cert::Node;
+use bg_cert::Cert;
 use bg_check::{Prepared, Question, Verdict, check_place};
 use bg_places::Place;
 use bg_places::laws::placed_are_places;
@@ -58,7 +58,7 @@ fn verdict_on(
     check_place(alloc, question, judging.budget)
 }
 
-impl<'p> Checker<Vec<Node>, Reason, Desk> for Judging<'p> {
+impl<'p> Checker<Cert, Reason, Desk> for Judging<'p> {
     ghost stands = { IsJudging };
 
     ghost cands = { λ s. (meaning_in s).candidates };
@@ -98,7 +98,7 @@ impl<'p> Checker<Vec<Node>, Reason, Desk> for Judging<'p> {
         desk: &mut Desk,
         t: TargetId,
         set: &CandSet,
-    ) -> Result<Answer<Vec<Node>, Reason>, AllocError> {
+    ) -> Result<Answer<Cert, Reason>, AllocError> {
         let verdict = verdict_on(alloc, self, desk, t, set)?;
         answer(alloc, verdict, self.candidates)
     }

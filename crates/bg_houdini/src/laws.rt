@@ -7,7 +7,7 @@ ghost use Rattle.bg_sense.specs.Resolved.{IsResolved};
 ghost use Rattle.bg_ast.specs.Execution.{Place};
 ghost use Rattle.bg_sense.specs.Places.{places};
 ghost use Rattle.bg_sense.specs.Claims.{Inductive, Greatest};
-ghost use Rattle.bg_cert.specs.declared.cert.Node.{Node};
+ghost use Rattle.bg_cert.specs.declared.cert.Cert.{Cert};
 ghost use Rattle.bg_fits.specs.Scalars.{is_over_scalars};
 ghost use Rattle.bg_words.specs.Sets.{has};
 ghost use Rattle.bg_tree.specs.declared.outcome.Budget.{Budget};
@@ -25,7 +25,7 @@ use bg_check::laws::{proved_places_do_not_fail, right_verdicts_are_true};
 /// Each place of a retained candidate of a true outcome has a certificate that is accepted for its clauses under what is retained.
 pub fn retained_places_have_certificates()
     ensures { (budget : Budget) (p : Program) (o : Outcome) (t : Place) (b : ℕ) → IsTrueOutcome budget p o →
-        Contains (places (meaning_of p)) t → t.candidate ≡ Some b → has o.inferred.retained b ≡ true → (nodes : List Node) × HasCertificate (meaning_of p) (has o.inferred.retained) t nodes }
+        Contains (places (meaning_of p)) t → t.candidate ≡ Some b → has o.inferred.retained b ≡ true → (cert : Cert) × HasCertificate (meaning_of p) (has o.inferred.retained) t cert }
 {}
 
 /// The retained set of a true outcome is inductive: no place of a candidate in it fails under it.

@@ -3,7 +3,7 @@ ghost use Rattle.std.specs.Prelude.{◌<◌};
 
 use crate::made::{Given, Signed, clause, formula};
 use crate::whole::is_whole;
-use bg_cert::{Node, accepts, used};
+use bg_cert::{Cert, accepts, used};
 use bg_formula::Clauses;
 use bg_tree::{Beyond, Budget, Outcome, Why, search};
 use std::alloc::{AllocError, Global};
@@ -34,9 +34,9 @@ fn found(alloc: Global, f: &Clauses, set: &[bool], budget: Budget) -> Result<Out
 /// isn't accepted.
 fn told(alloc: Global, f: &Clauses, nodes: u32, rows: u32) -> Result<(char, i128), Fail> {
     match found(alloc, f, &[], Budget { nodes, rows })? {
-        Outcome::Closed(nodes) => {
-            let is_right = accepts(alloc, f, &[], &nodes)?;
-            Ok((if is_right { 'c' } else { 'x' }, nodes.len() as i128))
+        Outcome::Closed(cert) => {
+            let is_right = accepts(alloc, f, &[], &cert)?;
+            Ok((if is_right { 'c' } else { 'x' }, cert.nodes.len() as i128))
         }
         Outcome::Leaf(leaf) => Ok(('l', leaf.spots.first().map_or(0, |spot| spot.value))),
         Outcome::Unknown(Why::Nodes(parts, _)) => Ok(('n', parts.len() as i128)),
@@ -168,13 +168,13 @@ fn guarded(alloc: Global, clauses: &[Signed]) -> Result<Clauses, Fail> {
     Ok(f)
 }
 
-fn certificate(alloc: Global) -> Result<Vec<Node>, Fail> {
+fn certificate(alloc: Global) -> Result<Cert, Fail> {
     let budget = Budget {
         nodes: 9,
         rows: 1000,
     };
     match found(alloc, &guarded(alloc, GUARDED)?, &[true, true], budget)? {
-        Outcome::Closed(nodes) => Ok(nodes),
+        Outcome::Closed(cert) => Ok(cert),
         _ => Err("no certificate".into()),
     }
 }
@@ -190,11 +190,11 @@ const SETS: [(&[Signed], [bool; 2], bool); 3] = [
 #[test]
 fn a_certificate_names_the_candidates_that_it_uses(rt: HostRuntime) -> Result<(), Fail> {
     let alloc = rt.alloc();
-    let nodes = certificate(alloc)?;
+    let cert = certificate(alloc)?;
     for (clauses, set, wanted) in &SETS {
-        assert!(rt; accepts(alloc, &guarded(alloc, clauses)?, set, &nodes)? == *wanted);
+        assert!(rt; accepts(alloc, &guarded(alloc, clauses)?, set, &cert)? == *wanted);
     }
-    assert!(rt; used(alloc, &nodes, 2)?.as_slice() == &[false, true][..]);
+    assert!(rt; used(alloc, &cert.nodes, 2)?.as_slice() == &[false, true][..]);
     Ok(())
 }
 

@@ -1,7 +1,7 @@
 //! The reports of programs and outcomes made by hand.
 use bg_ast::resolved::{Clause, Declared, Expr, Implementation, Resolved, Stmt, WrittenType};
 use bg_base::{CandId, Op, OutOfRange, Pos, TargetId};
-use bg_cert::Node;
+use bg_cert::{Cert, bare};
 use bg_check::{Cause, Judged, Verdict};
 use bg_elim::{Further, Order, Reason};
 use bg_houdini::Outcome;
@@ -98,7 +98,7 @@ fn beyond(alloc: Global, operation: OutOfRange, is_value: bool) -> Result<Beyond
 
 fn verdict(alloc: Global, known: Known) -> Result<Verdict, AllocError> {
     match known {
-        Known::Proved => Ok(Verdict::Proved(Vec::new(alloc))),
+        Known::Proved => Ok(Verdict::Proved(bare(alloc, Vec::new(alloc)))),
         Known::Refuted(globals, frame, choices) => Ok(Verdict::Refuted(Counterexample {
             globals: globals.to_vec(alloc)?,
             frame: frame.to_vec(alloc)?,
@@ -174,7 +174,7 @@ fn history(
     alloc: Global,
     candidates: u32,
     gone: &[Gone],
-) -> Result<bg_rounds::Outcome<Vec<Node>, bg_houdini::Reason>, AllocError> {
+) -> Result<bg_rounds::Outcome<Cert, bg_houdini::Reason>, AllocError> {
     let mut retained = CandSet::new(alloc, candidates, true)?;
     let mut removals = Vec::new(alloc);
     for (number, candidate, operation) in gone {

@@ -10,3 +10,4 @@ pub mod Sided
 pub mod Distant
 pub mod Books
 pub mod Shapes
+pub mod Descents

@@ -68,7 +68,7 @@ way_on f set bs [] d w m = (subst (λ (es : List Decision). MayDecide f set (pat
 way_on f set bs (e ∷ ds) d w m =
     (w.0, way_on f set (bs ++ (e ∷ [])) ds d w.1 (subst (λ (es : List Decision). MayDecide f set (path_of f es) d) (sym (append_assoc bs (e ∷ []) ds)) m))
 
-way_more : (f : Formula) (set : ℕ → Bool) (ds : List Decision) (d : Decision) → IsWay f set (root f) ds → MayDecide f set (path_of f ds) d → IsWay f set (root f) (ds ++ (d ∷ []))
+pub way_more : (f : Formula) (set : ℕ → Bool) (ds : List Decision) (d : Decision) → IsWay f set (root f) ds → MayDecide f set (path_of f ds) d → IsWay f set (root f) (ds ++ (d ∷ []))
 way_more f set ds d w m = way_on f set [] ds d w m
 
 once_by : (f : Formula) (set : ℕ → Bool) (bs : List Decision) (d : Decision) → MayDecide f set (path_of f bs) d → IsOnce bs → IsOnce (bs ++ (d ∷ []))

@@ -1,6 +1,6 @@
 -- What is counted along a tree's parts are the nodes that count.
 use Rattle.std.proofs.Common.{◌≡◌, ℕ, ◌+◌, Bool, true, false, List, [], ◌∷◌, ◌++◌, refl, ap, append-nil, append_assoc, arith}
-use Rattle.bg_cert.specs.declared.cert.Node.TheVariants.{Split, Bound as BoundNode, Clause, Unit as UnitNode, Rows}
+use Rattle.bg_cert.specs.declared.cert.Node.TheVariants.{Split, Bound as BoundNode, Cut, Lemma, Clause, Unit as UnitNode, Known, Rows}
 use Rattle.bg_tree.specs.declared.part.Part.{Part}
 use Rattle.bg_tree.specs.Counts.{Beside, Alone, After, cost, passed, counted}
 use Rattle.bg_tree.specs.Shapes.{Shape, IsOpen, IsClosed, Splits, Halves, AreLeaves, parts_of, is_closed, count}
@@ -23,6 +23,9 @@ counted_on (IsClosed (Clause c)) b bs rest l = leaf_sum (cost b true) (counted (
 counted_on (IsClosed (UnitNode c)) b bs rest l = leaf_sum (cost b true) (counted (passed b true bs) rest)
 counted_on (IsClosed (Rows ss)) b bs rest l = leaf_sum (cost b true) (counted (passed b true bs) rest)
 counted_on (IsClosed (BoundNode x k)) b bs rest l = leaf_sum (cost b true) (counted (passed b true bs) rest)
+counted_on (IsClosed (Cut r)) b bs rest l = leaf_sum (cost b true) (counted (passed b true bs) rest)
+counted_on (IsClosed (Lemma ls)) b bs rest l = leaf_sum (cost b true) (counted (passed b true bs) rest)
+counted_on (IsClosed (Known i)) b bs rest l = leaf_sum (cost b true) (counted (passed b true bs) rest)
 counted_on (Splits a t u) b bs rest l =
     let s = append_assoc (parts_of t) (parts_of u) rest in
     let x = counted_on t Alone (After false ∷ bs) (parts_of u ++ rest) l.0 in

@@ -5,7 +5,7 @@ use Rattle.std.proofs.lemmas.Bool.Decides.{nat_tests}
 use Rattle.bg_formula.specs.Formulas.{Formula}
 use Rattle.bg_formula.specs.Atoms.{AtomOf, at}
 use Rattle.bg_cert.specs.declared.cert.Node.{Node}
-use Rattle.bg_cert.specs.declared.cert.Node.TheVariants.{Split, Bound as BoundNode, Clause, Unit as UnitNode, Rows}
+use Rattle.bg_cert.specs.declared.cert.Node.TheVariants.{Split, Bound as BoundNode, Cut, Lemma, Clause, Unit as UnitNode, Known, Rows}
 use Rattle.bg_cert.specs.declared.cert.Decision.{Decision}
 use Rattle.bg_cert.specs.declared.cert.Decision.TheVariants.{Atom, AtMost}
 use Rattle.bg_cert.specs.Paths.{PathOf}
@@ -103,6 +103,9 @@ leaf_tree f set n seen trail ps (UnitNode c) rest h t = (h, t)
 leaf_tree f set n seen trail ps (Rows ss) rest h t = (h, t)
 leaf_tree f set n seen trail ps (Split a) rest h t = absurd (cc)
 leaf_tree f set n seen trail ps (BoundNode x k) rest h t = absurd (cc)
+leaf_tree f set n seen trail ps (Cut r) rest h t = absurd (cc)
+leaf_tree f set n seen trail ps (Lemma ls) rest h t = absurd (cc)
+leaf_tree f set n seen trail ps (Known i) rest h t = (h, t)
 
 leaf_accepts : (f : Formula) (set : ℕ → Bool) (trail : List Decision) (ps : List PathOf) (node : Node) (rest : List NodeOf) → closes f set (path_of f trail) (node_of node) ≡ true → accepts f set no_instance (path_of f trail ∷ ps) (node_of node ∷ rest) ≡ accepts f set no_instance ps rest
 leaf_accepts f set trail ps (Clause c) rest h = rw h refl
@@ -110,6 +113,9 @@ leaf_accepts f set trail ps (UnitNode c) rest h = rw h refl
 leaf_accepts f set trail ps (Rows ss) rest h = rw h refl
 leaf_accepts f set trail ps (Split a) rest h = absurd (cc)
 leaf_accepts f set trail ps (BoundNode x k) rest h = absurd (cc)
+leaf_accepts f set trail ps (Cut r) rest h = absurd (cc)
+leaf_accepts f set trail ps (Lemma ls) rest h = absurd (cc)
+leaf_accepts f set trail ps (Known i) rest h = absurd (cc)
 
 leaf_inner : (f : Formula) (set : ℕ → Bool) (p : PathOf) (node : Node) → closes f set p (node_of node) ≡ true → inner_of (Plain node) ≡ 0
 leaf_inner f set p (Clause c) h = refl
@@ -117,6 +123,9 @@ leaf_inner f set p (UnitNode c) h = refl
 leaf_inner f set p (Rows ss) h = refl
 leaf_inner f set p (Split a) h = absurd (cc)
 leaf_inner f set p (BoundNode x k) h = absurd (cc)
+leaf_inner f set p (Cut r) h = absurd (cc)
+leaf_inner f set p (Lemma ls) h = absurd (cc)
+leaf_inner f set p (Known i) h = refl
 
 leaf_counts : (f : Formula) (set : ℕ → Bool) (p : PathOf) (ps qs : List PathOf) (old new : Book) (node : Node) (rest : List Part) → closes f set p (node_of node) ≡ true → cost (beside old.head) true + value new ≡ value old → passed (beside old.head) true (waits old.owed.items) ≡ besides qs new → counted (besides (p ∷ ps) old) (Plain node ∷ rest) + value new ≡ counted (besides qs new) rest + value old
 leaf_counts f set p ps qs old new (Clause c) rest h v e = rw e (omega (arith, v))
@@ -124,6 +133,9 @@ leaf_counts f set p ps qs old new (UnitNode c) rest h v e = rw e (omega (arith, 
 leaf_counts f set p ps qs old new (Rows ss) rest h v e = rw e (omega (arith, v))
 leaf_counts f set p ps qs old new (Split a) rest h v e = absurd (cc)
 leaf_counts f set p ps qs old new (BoundNode x k) rest h v e = absurd (cc)
+leaf_counts f set p ps qs old new (Cut r) rest h v e = absurd (cc)
+leaf_counts f set p ps qs old new (Lemma ls) rest h v e = absurd (cc)
+leaf_counts f set p ps qs old new (Known i) rest h v e = rw e (omega (arith, v))
 
 pub leaf_moves : (f : Formula) (set : ℕ → Bool) (old new : Search) (node : Node) → IsWalk new.walk → atoms_on new.walk ≡ atoms_on old.walk → old.walk.is_open ≡ true → closes f set (path_of f (decided_on old.walk)) (node_of node) ≡ true → new.parts.items ≡ old.parts.items ++ (Plain node ∷ []) → stack_of f new.walk ≡ others_of f old.walk → new.inner ≡ old.inner → new.seen ≡ old.seen → paths_open new.walk < paths_open old.walk → KeepsCount f set old → (old.seen ≡ true → old.book.head ≡ Due) → Passes old.book true new.book → Moves f set old new
 leaf_moves f set old new node w z o h p s l e r k d q =

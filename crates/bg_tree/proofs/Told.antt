@@ -3,7 +3,9 @@ use Rattle.std.proofs.Common.{◌≡◌, ℕ, ◌+◌, ◌-◌, ◌*◌, ◌^◌
 use Rattle.std.specs.Prelude.{Option, Some, None}
 use Rattle.bg_formula.specs.Formulas.{Formula}
 use Rattle.bg_cert.specs.declared.cert.Node.{Node}
-use Rattle.bg_cert.specs.Certs.{NodeOf, Bounds, node_of, accepts, root, Accepts}
+use Rattle.bg_cert.specs.declared.cert.Cert.{Cert}
+use Rattle.bg_cert.specs.Certs.{NodeOf, Bounds, node_of, accepts, root, cert_of, bare, Accepts}
+use Rattle.bg_cert.proofs.Tableless.{bare_accepted}
 use Rattle.bg_cert.specs.Walks.{no_instance, stack_of}
 use Rattle.bg_tree.specs.declared.part.Part.{Part}
 use Rattle.bg_tree.specs.declared.part.Part.TheVariants.{Open, Plain, Bound}
@@ -127,7 +129,7 @@ whole_more f set old new m w g rest =
 pub whole_first : (f : Formula) (set : ℕ → Bool) (s : Search) → s.parts.items ≡ [] → stack_of f s.walk ≡ root f ∷ [] → Whole f set s
 whole_first f set s p t g rest = rw p (ap (λ ps. accepts f set no_instance ps rest) (sym t))
 
-pub whole_all : (f : Formula) (set : ℕ → Bool) (s : Search) (made : List Node) → Whole f set s → s.walk.is_open ≡ false → s.seen ≡ false → map node_of made ≡ nodes_of s.parts.items → Accepts f set no_instance (map node_of made)
+pub whole_all : (f : Formula) (set : ℕ → Bool) (s : Search) (made : Cert) → Whole f set s → s.walk.is_open ≡ false → s.seen ≡ false → cert_of made ≡ bare (nodes_of s.parts.items) → Accepts f set no_instance (cert_of made)
 whole_all f set s made w o e r =
     let k : accepts f set no_instance (root f ∷ []) (nodes_of s.parts.items) ≡ true = let x = w e [] in rw (append-nil, o) at x in
-    ap (accepts f set no_instance (root f ∷ [])) r ∙ k
+    subst (Accepts f set no_instance) (sym r) (bare_accepted f set no_instance (nodes_of s.parts.items) k)

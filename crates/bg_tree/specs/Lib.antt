@@ -8,3 +8,4 @@ pub mod Books
 pub mod Trees
 pub mod Wide
 pub mod Far
+pub mod Descents

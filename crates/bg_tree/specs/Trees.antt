@@ -4,7 +4,7 @@ use Rattle.bg_formula.specs.Formulas.{Formula}
 use Rattle.bg_cert.specs.declared.cert.Node.TheVariants.{Split}
 use Rattle.bg_cert.specs.declared.cert.Decision.TheVariants.{Atom, AtMost}
 use Rattle.bg_cert.specs.Paths.{PathOf, rows_on, with_decision}
-use Rattle.bg_cert.specs.Certs.{NodeOf, Bounds, node_of, root, closes, accepts, Accepts}
+use Rattle.bg_cert.specs.Certs.{NodeOf, Bounds, node_of, root, cert_of, closes, accepts, Accepts}
 use Rattle.bg_cert.specs.declared.walk.Walk.{Walk}
 use Rattle.bg_cert.specs.Walks.{no_instance, stack_of, others_of, IsWalk, paths_open, decided_on, atoms_on}
 use Rattle.bg_elim.specs.Kept.{FillBudget}
@@ -60,7 +60,7 @@ IsCause f set budget (Range path beyond) =
 
 -- what each answer of the search claims
 abbrev pub IsOutcome : Formula → (ℕ → Bool) → Budget → Outcome → Type 0
-IsOutcome f set budget (Closed nodes) = Accepts f set no_instance (map node_of nodes.items)
+IsOutcome f set budget (Closed cert) = Accepts f set no_instance (cert_of cert)
 IsOutcome f set budget (Leaf leaf) = IsLeaf f set leaf
 IsOutcome f set budget (Unknown why) = IsCause f set budget why
 

@@ -4,6 +4,7 @@
 #![tactic(auto)]
 
 mod book;
+mod descent;
 mod find;
 pub mod laws;
 mod outcome;
@@ -13,6 +14,7 @@ mod step;
 mod whole;
 
 pub use book::{Book, Head};
+pub use descent::{Descent, Turn, Values, follow};
 pub use find::search;
 pub use outcome::{Beyond, Budget, End, Halt, Leaf, Outcome, Why};
 pub use part::{Kept, Part};

@@ -3,7 +3,7 @@ ghost use Rattle.std.specs.Prelude.{◌≡◌};
 ghost use Rattle.bg_tree.specs.Ends.{outcome_of};
 
 use crate::part::{Kept, Part};
-use bg_cert::{Decision, Node};
+use bg_cert::{Cert, Decision};
 use bg_elim::{Further, Order};
 use bg_point::{Far, Spot};
 use bg_rows::Step;
@@ -66,7 +66,7 @@ pub enum Why {
 /// was found.
 #[derive(Drop)]
 pub enum Outcome {
-    Closed(Vec<Node>),
+    Closed(Cert),
     Leaf(Leaf),
     Unknown(Why),
 }

@@ -1,10 +1,10 @@
 //! A finished tree, as a certificate.
 ghost use Rattle.std.specs.Prelude.{◌≡◌, ◌++◌, ◌∷◌, [], map, IfOk, OnOk};
-ghost use Rattle.bg_cert.specs.Certs.{Bounds, node_of};
+ghost use Rattle.bg_cert.specs.Certs.{Bounds, node_of, cert_of, bare};
 ghost use Rattle.bg_tree.specs.Trees.{nodes_of};
 
 use crate::part::Part;
-use bg_cert::Node;
+use bg_cert::{Cert, Node, bare};
 use bg_point::Gap;
 use std::alloc::{AllocError, Global};
 
@@ -33,13 +33,13 @@ fn push_part(nodes: &mut Vec<Node>, part: Part) -> Result<(), AllocError>
     }
 }
 
-/// The nodes of a tree. Open leaves have none.
-pub fn whole(alloc: Global, parts: Vec<Part>) -> Result<Vec<Node>, AllocError>
-    ensures { IfOk result (λ made. map node_of made.items ≡ nodes_of parts.items) }
+/// The certificate of a tree's nodes. Open leaves have none.
+pub fn whole(alloc: Global, parts: Vec<Part>) -> Result<Cert, AllocError>
+    ensures { IfOk result (λ made. cert_of made ≡ bare (nodes_of parts.items)) }
 {
     let mut nodes = Vec::new(alloc);
     for part in parts {
         push_part(&mut nodes, part)?;
     }
-    Ok(nodes)
+    Ok(bare(alloc, nodes))
 }

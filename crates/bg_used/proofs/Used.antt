@@ -13,7 +13,8 @@ use Rattle.bg_formula.specs.Meaning.{same}
 use Rattle.bg_cert.specs.declared.cert.Decision.{Decision}
 use Rattle.bg_cert.specs.declared.cert.Decision.TheVariants.{Atom, AtMost}
 use Rattle.bg_cert.specs.Paths.{PathOf, decides, clause_false, names_false, unit_false, row_of_decision, in_front, rows_on}
-use Rattle.bg_cert.specs.Certs.{NodeOf, is_there, accepts, root, Accepts}
+use Rattle.bg_cert.specs.Certs.{NodeOf, is_there, accepts, root, bare, Accepts}
+use Rattle.bg_cert.proofs.Tableless.{bare_accepted}
 use Rattle.bg_cert.specs.Walks.{no_instance, path_of}
 use Rattle.bg_conflict.specs.Picked.{ArePicked}
 use Rattle.bg_conflict.proofs.Numbers.{derives_from}
@@ -192,6 +193,6 @@ closed_where_used f set (OnBound x b p q) ds ps rest h u =
 pub left_out : (f : Formula) (set : ℕ → Bool) (p : Proof) (ds : List Decision) (d : Decision) (ps : List PathOf) (rest : List NodeOf) → proves f set p ≡ true → all_in (used f p) (ds ++ (d ∷ [])) ≡ true → is_in d (used f p) ≡ false → accepts f set no_instance (path_of f ds ∷ ps) (nodes_on f ds p ++ rest) ≡ accepts f set no_instance ps rest
 left_out f set p ds d ps rest h u n = closed_where_used f set p ds ps rest h (all_fewer d (used f p) ds u n)
 
-pub at_root : (f : Formula) (set : ℕ → Bool) (p : Proof) → proves f set p ≡ true → all_in (used f p) [] ≡ true → Accepts f set no_instance (nodes_on f [] p)
+pub at_root : (f : Formula) (set : ℕ → Bool) (p : Proof) → proves f set p ≡ true → all_in (used f p) [] ≡ true → Accepts f set no_instance (bare (nodes_on f [] p))
 at_root f set p h u =
-    ap (accepts f set no_instance (root f ∷ [])) (sym (append-nil (nodes_on f [] p))) ∙ closed_where_used f set p [] [] [] h u
+    bare_accepted f set no_instance (nodes_on f [] p) (ap (accepts f set no_instance (root f ∷ [])) (sym (append-nil (nodes_on f [] p))) ∙ closed_where_used f set p [] [] [] h u)

@@ -3,7 +3,7 @@ ghost use Rattle.std.specs.Prelude.{◌≡◌, ◌++◌, ◌∷◌, [], ℕ, Boo
 ghost use Rattle.bg_formula.specs.Formulas.{Formula};
 ghost use Rattle.bg_cert.specs.declared.cert.Decision.{Decision};
 ghost use Rattle.bg_cert.specs.Paths.{PathOf};
-ghost use Rattle.bg_cert.specs.Certs.{NodeOf, Accepts, accepts, root};
+ghost use Rattle.bg_cert.specs.Certs.{NodeOf, Accepts, accepts, bare, root};
 ghost use Rattle.bg_cert.specs.Walks.{no_instance, path_of};
 ghost use Rattle.bg_used.specs.Used.{Proof, ByClause, used, proves, is_in, all_in, nodes_on, denied};
 
@@ -24,7 +24,7 @@ pub fn unused_decisions_are_left_out()
 /// A proof that was found at the root is a certificate.
 pub fn proofs_at_the_root_are_certificates()
     ensures { (f : Formula) (set : ℕ → Bool) (p : Proof) →
-        proves f set p ≡ true → all_in (used f p) [] ≡ true → Accepts f set no_instance (nodes_on f [] p) }
+        proves f set p ≡ true → all_in (used f p) [] ≡ true → Accepts f set no_instance (bare (nodes_on f [] p)) }
 {}
 
 /// A side that uses the node's decision proves the side alone.

@@ -9,7 +9,7 @@ ghost use Rattle.bg_fits.specs.Scalars.{is_over_scalars};
 use crate::judged_program;
 use bg_ast::resolved::Resolved;
 use bg_blocks::callees_of;
-use bg_cert::{Node, accepts};
+use bg_cert::{Cert, accepts};
 use bg_check::{Cause, Judged, Prepared, Verdict, cut_down, judge_ordinary, prepare};
 use bg_clause::{Names, clauses};
 use bg_model::Counterexample;
@@ -66,7 +66,7 @@ fn is_accepted(
     program: &Resolved,
     prepared: &Prepared<'_>,
     judged: &Judged,
-    nodes: &[Node],
+    cert: &Cert,
 ) -> Result<bool, AllocError> {
     let cut = cut_down(alloc, program, prepared, &judged.place)?;
     let atoms = &cut.atoms;
@@ -79,7 +79,7 @@ fn is_accepted(
     match clauses(alloc, &names, judged.place.spot, &atoms.blocks) {
         Err(Refused::Memory) => Err(AllocError),
         Err(Refused::Range(_)) => Ok(false),
-        Ok(f) => accepts(alloc, &f, &[], nodes),
+        Ok(f) => accepts(alloc, &f, &[], cert),
     }
 }
 
@@ -142,8 +142,8 @@ fn letter(
     judged: &Judged,
 ) -> Result<&'static str, AllocError> {
     match &judged.verdict {
-        Verdict::Proved(nodes) => {
-            let is_right = is_accepted(alloc, program, prepared, judged, nodes)?;
+        Verdict::Proved(cert) => {
+            let is_right = is_accepted(alloc, program, prepared, judged, cert)?;
             Ok(if is_right { "p" } else { "x" })
         }
         Verdict::Refuted(cex) => {

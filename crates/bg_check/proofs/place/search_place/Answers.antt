@@ -1,4 +1,4 @@
-use Rattle.std.proofs.Common.{ℕ, Bool, List, map, sym, subst}
+use Rattle.std.proofs.Common.{ℕ, Bool, subst}
 use Rattle.std.specs.Prelude.{Result, Ok, Err, IfOk}
 use Rattle.std.specs.declared.alloc.AllocError.{AllocError}
 use Rattle.bg_text.specs.Views.{option_of}
@@ -6,9 +6,7 @@ use Rattle.bg_ast.specs.Syntax.{Prog}
 use Rattle.bg_ast.specs.Execution.{Place}
 use Rattle.bg_ast.specs.Meaning.{meaning_of}
 use Rattle.bg_ast.specs.Views.{program_of, candidate_of}
-use Rattle.bg_cert.specs.Certs.{Accepts, node_of}
-use Rattle.bg_cert.specs.Walks.{has, no_instance}
-use Rattle.bg_cert.specs.declared.cert.Node.{Node}
+use Rattle.bg_cert.specs.Walks.{has}
 use Rattle.bg_formula.specs.Formulas.{formula_of}
 use Rattle.bg_places.specs.Views.{placed_of, spot_of}
 use Rattle.bg_tree.specs.declared.outcome.Budget.{Budget}
@@ -37,9 +35,7 @@ returns-in-Closed c =
     record {
       formula = formula_of c.args.f.now;
       is = clauses_here (program_of c.args.question.program.now) c.args.question.place.now.implementation c.args.question.prepared.now c.requires.prepared (spot_of c.args.question.place.now.spot) (option_of candidate_of c.args.question.place.now.candidate) c.args.cut.now (formula_of c.args.f.now) c.requires.slice c.requires.clauses;
-      accepted =
-          subst (λ (ns : List Node). Accepts (formula_of c.args.f.now) (has c.args.question.set.now) no_instance (map node_of ns)) (sym c.shrink_to_fit.ensures.items)
-          (subst (IsOutcome (formula_of c.args.f.now) (has c.args.question.set.now) c.args.budget) c.in-Closed.is c.in_ok-nodes.ensures);
+      accepted = subst (IsOutcome (formula_of c.args.f.now) (has c.args.question.set.now) c.args.budget) c.in-Closed.is c.in_ok-cert.ensures;
     }
 
 pub returns-in-Unknown : goal.returns-in-Unknown
@@ -47,7 +43,7 @@ returns-in-Unknown c =
     record {
       formula = formula_of c.args.f.now;
       is = clauses_here (program_of c.args.question.program.now) c.args.question.place.now.implementation c.args.question.prepared.now c.requires.prepared (spot_of c.args.question.place.now.spot) (option_of candidate_of c.args.question.place.now.candidate) c.args.cut.now (formula_of c.args.f.now) c.requires.slice c.requires.clauses;
-      cause = subst (IsOutcome (formula_of c.args.f.now) (has c.args.question.set.now) c.args.budget) c.in-Unknown.is c.in_ok-nodes.ensures;
+      cause = subst (IsOutcome (formula_of c.args.f.now) (has c.args.question.set.now) c.args.budget) c.in-Unknown.is c.in_ok-cert.ensures;
     }
 
 pub returns-in_ok-cex-in-Leaf : goal.returns-in_ok-cex-in-Leaf

@@ -38,7 +38,7 @@ returns-then-s c =
 
 pub returns : goal.returns
 returns c =
-    whole_all (formula_of c.args.problem.now.formula.now) (has c.args.problem.now.set.now) c.loop-s.s c.in_ok-whole.field-0.items c.loop-s.invariant.whole c.loop-s-test.false c.if-s.false c.in_ok-whole.ensures
+    whole_all (formula_of c.args.problem.now.formula.now) (has c.args.problem.now.set.now) c.loop-s.s c.in_ok-whole.field-0 c.loop-s.invariant.whole c.loop-s-test.false c.if-s.false c.in_ok-whole.ensures
 
 pub loop-s-init : goal.loop-s-init
 loop-s-init c =

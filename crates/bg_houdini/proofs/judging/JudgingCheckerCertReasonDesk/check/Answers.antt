@@ -3,7 +3,7 @@ use Rattle.bg_houdini.specs.Tasks.{tasks_of}
 use Rattle.bg_houdini.specs.Checkers.{meaning_in}
 use Rattle.bg_houdini.proofs.Once.{if_ok}
 use Rattle.bg_houdini.proofs.Tasks.{get_there}
-use Rattle.bg_houdini.proofs.judging.JudgingCheckerVecNodeReasonDesk.check.Goals as goal
+use Rattle.bg_houdini.proofs.judging.JudgingCheckerCertReasonDesk.check.Goals as goal
 
 pub returns : goal.returns
 returns c =
