@@ -1,0 +1,92 @@
+//! Equalities are solved.
+use crate::equality::{Equality, Solved};
+use crate::rewrite::{Rewritten, rewrite};
+use bg_rows::{Entry, Row, coefficient};
+use bg_simplex::Lit;
+use std::alloc::{AllocError, Global};
+
+/// Whether each entry is the negation of the other's.
+fn are_negated(a: &[Entry], b: &[Entry]) -> bool {
+    if a.len() != b.len() {
+        return false;
+    }
+    for i in 0..a.len() {
+        if let (Some(t), Some(u)) = (a.get(i), b.get(i)) {
+            if t.variable != u.variable || t.by.checked_neg() != Some(u.by) {
+                return false;
+            }
+        }
+    }
+    true
+}
+
+/// Whether two rows together say that a sum is a number.
+fn are_opposite(a: &Row, b: &Row) -> bool {
+    a.bound.checked_neg() == Some(b.bound) && are_negated(&a.entries, &b.entries)
+}
+
+/// The last variable that stands once in these entries, with either sign.
+fn last_unit(entries: &[Entry]) -> Option<Entry> {
+    let mut found = None;
+    for t in entries {
+        if t.by == 1 || t.by == -1 {
+            found = Some(*t);
+        }
+    }
+    found
+}
+
+/// Puts an equality behind the others; from now on it eliminates its term.
+fn push(s: &mut Solved, equality: Equality) -> Result<(), AllocError> {
+    let number = u32::try_from(s.equalities.len()).ok();
+    let term = equality.term as usize;
+    s.equalities.push(equality)?;
+    if let Some(place) = s.of_term.get_mut(term) {
+        *place = number;
+    }
+    Ok(())
+}
+
+/// Learns that two literals' rows, which hold for good, say that a sum is a number: true where they do and a term stands in it once, so
+/// that it is eliminated from now on. Only want of memory is an error.
+pub fn learn_equality(
+    alloc: Global,
+    s: &mut Solved,
+    up: Lit,
+    up_row: &Row,
+    down: Lit,
+    down_row: &Row,
+) -> Result<bool, AllocError> {
+    let Some(a) = rewrite(alloc, s, up_row)? else {
+        return Ok(false);
+    };
+    let Some(b) = rewrite(alloc, s, down_row)? else {
+        return Ok(false);
+    };
+    if !are_opposite(&a.row, &b.row) {
+        return Ok(false);
+    }
+    let Some(unit) = last_unit(&a.row.entries) else {
+        return Ok(false);
+    };
+    let equality = if unit.by > 0 {
+        solved(unit.variable, up, a, down, b)
+    } else {
+        solved(unit.variable, down, b, up, a)
+    };
+    push(s, equality)?;
+    Ok(true)
+}
+
+/// The equality of two rows, solved for a term that stands once in the first.
+fn solved(term: u32, up: Lit, a: Rewritten, down: Lit, b: Rewritten) -> Equality {
+    Equality {
+        term,
+        up,
+        down,
+        row: a.row,
+        opposite: b.row,
+        up_deps: a.deps,
+        down_deps: b.deps,
+    }
+}
