@@ -1,0 +1,15 @@
+//! An engine that proposes: a certificate that a formula has no valuation, or values with which it holds. It learns clauses over atoms
+//! that are bounds of columns, with a simplex below. Nothing is proved of what it proposes; proved is that each call ends, and is safe.
+#![tactic(auto)]
+
+mod answer;
+mod leaf;
+mod pairs;
+mod path;
+mod search;
+mod start;
+mod trim;
+mod write;
+
+pub use answer::{Proposal, propose};
+pub use bg_trail::Limits;

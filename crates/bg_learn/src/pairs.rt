@@ -1,0 +1,72 @@
+//! The equalities that hold at the root: two rows that are true there and opposite.
+
+use bg_formula::{Atom, Clauses};
+use bg_rows::{Row, key};
+use bg_simplex::Lit;
+use bg_solved::{learn_equality, made_row};
+use bg_trail::{Engine, at_place, atom_of, is_positive, opposite};
+use std::alloc::{AllocError, Global};
+use std::collections::BTreeMap;
+
+/// The literals whose rows are true, by entries and bound.
+type Sides = BTreeMap<(Vec<(u32, i128)>, i128), Lit>;
+
+/// The row of a literal of the formula, if it has one.
+pub fn row_of(f: &Clauses, l: Lit) -> Option<&Row> {
+    match f.atoms.get(atom_of(l)) {
+        Some(Atom::Holds(both)) => Some(if is_positive(l) {
+            &both.row
+        } else {
+            &both.denial
+        }),
+        _ => None,
+    }
+}
+
+/// The opposite row: the same entries and bound, negated; None where a number leaves 128 bits.
+fn opposite_row(alloc: Global, row: &Row) -> Result<Option<Row>, AllocError> {
+    let Some(bound) = row.bound.checked_neg() else {
+        return Ok(None);
+    };
+    match opposite(alloc, &row.entries)? {
+        Some(entries) => Ok(made_row(entries, bound)),
+        None => Ok(None),
+    }
+}
+
+/// The literal whose row is the opposite one, if such a row is among these.
+fn other_side(alloc: Global, sides: &Sides, row: &Row) -> Result<Option<Lit>, AllocError> {
+    let Some(other) = opposite_row(alloc, row)? else {
+        return Ok(None);
+    };
+    let k = key(alloc, &other)?;
+    Ok(sides.get(&k).copied())
+}
+
+/// Takes in the row of a literal, and solves the equality that it makes with its opposite, if that is there.
+fn take(e: &mut Engine<'_>, sides: &mut Sides, l: Lit) -> Result<(), AllocError> {
+    let f = e.formula;
+    let Some(row) = row_of(f, l) else {
+        return Ok(());
+    };
+    sides.insert(key(e.alloc, row)?, l)?;
+    let Some(other) = other_side(e.alloc, sides, row)? else {
+        return Ok(());
+    };
+    let Some(opposite) = row_of(f, other) else {
+        return Ok(());
+    };
+    learn_equality(e.alloc, &mut e.solved, l, row, other, opposite)?;
+    Ok(())
+}
+
+/// Solves the equalities whose two rows are true at the root.
+pub fn solve_equalities(e: &mut Engine<'_>) -> Result<(), AllocError> {
+    let mut sides = BTreeMap::new(e.alloc);
+    for place in 0..e.trail.len {
+        if let Some(l) = at_place(&e.trail, place) {
+            take(e, &mut sides, l)?;
+        }
+    }
+    Ok(())
+}

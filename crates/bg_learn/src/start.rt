@@ -1,0 +1,176 @@
+//! The start: the clauses and units of the formula, the equalities that hold at the root, and the columns of its rows.
+
+use crate::pairs::solve_equalities;
+use bg_formula::Atom;
+use bg_simplex::{Lit, Multiple};
+use bg_trail::{
+    Engine, Reason, Span, add_clause, assign, is_false, is_met, is_open, literal, named, negated,
+    numbered, propagate, seat, units,
+};
+use std::alloc::AllocError;
+
+/// Adds the clauses of the formula.
+fn add_clauses(e: &mut Engine<'_>) -> Result<(), AllocError> {
+    let f = e.formula;
+    for clause in &f.clauses {
+        let made = numbered(e.alloc, clause)?;
+        add_clause(&mut e.base, &made)?;
+    }
+    Ok(())
+}
+
+/// Makes a literal true at the root. Answers the reason where it is false.
+fn require(e: &mut Engine<'_>, l: Lit, why: Reason) -> Option<Reason> {
+    if is_false(&e.trail, l) {
+        return Some(why);
+    }
+    if is_open(&e.trail, l) {
+        assign(e, l, why);
+    }
+    None
+}
+
+/// Makes the clauses of one literal true. Answers one that is false.
+fn add_units(e: &mut Engine<'_>) -> Option<Reason> {
+    let f = e.formula;
+    for (k, clause) in f.clauses.iter().enumerate() {
+        let why = Reason::Clause(u32::try_from(k).unwrap_or(u32::MAX));
+        match clause.as_slice() {
+            [] => return Some(why),
+            [l] => {
+                let found = require(e, named(l), why);
+                if found.is_some() {
+                    return found;
+                }
+            }
+            _ => {}
+        }
+    }
+    None
+}
+
+/// Whether the set has a candidate.
+fn is_member(set: &[bool], c: usize) -> bool {
+    match set.get(c) {
+        Some(yes) => *yes,
+        None => false,
+    }
+}
+
+/// Makes the atoms of the set's candidates true. Answers one that is false.
+fn add_members(e: &mut Engine<'_>, set: &[bool]) -> Option<Reason> {
+    let f = e.formula;
+    for (c, atom) in f.candidates.iter().enumerate() {
+        if let Some(a) = atom {
+            if is_member(set, c) {
+                let l = literal(*a, true);
+                let why = Reason::Unit(u32::try_from(c).unwrap_or(u32::MAX), l);
+                let found = require(e, l, why);
+                if found.is_some() {
+                    return found;
+                }
+            }
+        }
+    }
+    None
+}
+
+/// Makes the atoms of candidates outside the set false. They stand in clauses as denials alone, so nothing hangs on it.
+fn leave_out(e: &mut Engine<'_>, set: &[bool]) {
+    let f = e.formula;
+    for (c, atom) in f.candidates.iter().enumerate() {
+        if let Some(a) = atom {
+            let l = literal(*a, false);
+            let is_truth = matches!(f.atoms.get(*a as usize), Some(Atom::Truth(_)));
+            if is_truth && !is_member(set, c) && is_open(&e.trail, l) {
+                assign(e, l, Reason::Decision);
+            }
+        }
+    }
+}
+
+/// Which literals stand in a clause that no literal makes true yet.
+fn open_literals(e: &Engine<'_>) -> Result<Vec<bool>, AllocError> {
+    let mut named_in = vec![in e.alloc; false; e.trail.atoms.len()]?;
+    for clause in &e.formula.clauses {
+        if !is_met(&e.trail, clause) {
+            for l in clause {
+                if let Some(is_named) = named_in.get_mut(l.atom as usize) {
+                    *is_named = true;
+                }
+            }
+        }
+    }
+    Ok(named_in)
+}
+
+/// Decides an atom whose row has no terms left. Answers why it can't be.
+fn know(e: &mut Engine<'_>, a: u32, value: bool) -> Result<Option<Reason>, AllocError> {
+    let p = literal(a, value);
+    let from = e.reasons.parts.len();
+    e.reasons.parts.push(Multiple {
+        lit: negated(p),
+        times: 1,
+    })?;
+    Ok(require(e, p, Reason::Rows(Span { from, len: 1 })))
+}
+
+/// Seats an atom of the formula, if it has a row.
+fn seat_atom(e: &mut Engine<'_>, a: u32) -> Result<Option<Reason>, AllocError> {
+    let f = e.formula;
+    let Some(Atom::Holds(both)) = f.atoms.get(a as usize) else {
+        return Ok(None);
+    };
+    match seat(e, a, &both.row)? {
+        Some(value) => know(e, a, value),
+        None => Ok(None),
+    }
+}
+
+/// Seats the atoms that a clause names which isn't true yet, and those that have a value. Answers why one can't have it.
+fn seat_all(e: &mut Engine<'_>) -> Result<Option<Reason>, AllocError> {
+    let named_in = open_literals(e)?;
+    for (a, is_named) in named_in.iter().enumerate() {
+        let a = u32::try_from(a).unwrap_or(u32::MAX);
+        if *is_named || !is_open(&e.trail, literal(a, true)) {
+            let found = seat_atom(e, a)?;
+            if found.is_some() {
+                return Ok(found);
+            }
+        }
+    }
+    Ok(None)
+}
+
+/// Makes true what the formula and the set say by themselves.
+fn add_all(e: &mut Engine<'_>, set: &[bool]) -> Result<Option<Reason>, AllocError> {
+    add_clauses(e)?;
+    let found = add_units(e);
+    if found.is_some() {
+        return Ok(found);
+    }
+    let found = add_members(e, set);
+    if found.is_some() {
+        return Ok(found);
+    }
+    leave_out(e, set);
+    match units(e) {
+        Some(c) => Ok(Some(Reason::Clause(c))),
+        None => Ok(None),
+    }
+}
+
+/// Brings the search to the root: all that follows from the formula and the set without a decision is true. Answers why it can't be.
+pub fn start(e: &mut Engine<'_>, set: &[bool]) -> Result<Option<Reason>, AllocError> {
+    let found = add_all(e, set)?;
+    if found.is_some() {
+        return Ok(found);
+    }
+    solve_equalities(e)?;
+    let found = seat_all(e)?;
+    if found.is_some() {
+        return Ok(found);
+    }
+    e.trail.rows = 0;
+    propagate(e)
+}

@@ -1,0 +1,105 @@
+//! Atoms of rows take their seats: the reduced row, and the column that it bounds.
+
+use crate::columns::{Limit, column_of, face};
+use crate::engine::Engine;
+use crate::literals::literal;
+use crate::table::{push_row, row_number};
+use crate::trail::is_open;
+use bg_formula::{Linear, deny_row};
+use bg_rows::{Entry, Refused, Row};
+use bg_solved::{Reduced, made_row, reduce};
+use std::alloc::{AllocError, Global};
+
+/// Notes what an atom's reduced row says of its column, if it has terms.
+fn sit(e: &mut Engine<'_>, a: u32, row: &Row) -> Result<(), AllocError> {
+    let Some(f) = face(e.alloc, row)? else {
+        e.columns.broken = e.columns.broken || !row.entries.is_empty();
+        return Ok(());
+    };
+    let column = column_of(e.alloc, &mut e.columns, &mut e.simplex, &f.form)?;
+    if let Some(limit) = e.columns.limits.get_mut(a as usize) {
+        *limit = Some(Limit {
+            column,
+            upper: f.upper,
+            value: f.value,
+        });
+    }
+    if is_open(&e.trail, literal(a, true)) {
+        if let Some(n) = e.columns.open.get_mut(column as usize) {
+            *n = n.saturating_add(1);
+        }
+    }
+    if let Some(atoms) = e.columns.atoms.get_mut(column as usize) {
+        atoms.push(a)?;
+    }
+    Ok(())
+}
+
+/// Keeps an atom's reduced row.
+fn keep_reduced(e: &mut Engine<'_>, a: u32, r: Reduced) {
+    if let Some(reduced) = e.columns.reduced.get_mut(a as usize) {
+        *reduced = Some(r);
+    }
+}
+
+/// Gives an atom its reduced row and its column. Answers its value where its reduced row has no terms, and so decides itself.
+pub fn seat(e: &mut Engine<'_>, a: u32, row: &Row) -> Result<Option<bool>, AllocError> {
+    let Some(r) = reduce(e.alloc, &e.solved, row)? else {
+        e.columns.broken = true;
+        return Ok(None);
+    };
+    if r.divisor > 1 {
+        e.counts.tightened = e.counts.tightened.saturating_add(1);
+    }
+    sit(e, a, &r.row)?;
+    let known = if r.row.entries.is_empty() {
+        Some(r.row.bound >= 0)
+    } else {
+        None
+    };
+    keep_reduced(e, a, r);
+    Ok(known)
+}
+
+/// A row with its denial, if no number leaves 128 bits.
+fn with_denial(alloc: Global, row: Row) -> Result<Option<Linear>, AllocError> {
+    match deny_row(alloc, row) {
+        Ok(both) => Ok(Some(both)),
+        Err(Refused::Range(_)) => Ok(None),
+        Err(Refused::Memory) => Err(AllocError),
+    }
+}
+
+/// The atom of a row of the table: they stand behind the formula's.
+fn atom_of_row(e: &Engine<'_>, r: usize) -> u32 {
+    u32::try_from(e.formula.atoms.len().saturating_add(r)).unwrap_or(u32::MAX)
+}
+
+/// Takes a row into the table, and seats its atom, if there is room.
+fn add_row(e: &mut Engine<'_>, row: Row) -> Result<Option<u32>, AllocError> {
+    let a = atom_of_row(e, e.table.rows.len());
+    if a as usize >= e.trail.atoms.len() {
+        return Ok(None);
+    }
+    let Some(both) = with_denial(e.alloc, row)? else {
+        return Ok(None);
+    };
+    let _known = seat(e, a, &both.row)?;
+    push_row(e.alloc, &mut e.table, both)?;
+    Ok(Some(a))
+}
+
+/// The atom of a row of the certificate's own, made where there was none; none where the entries are no row's, or the table is full.
+pub fn row_atom(
+    e: &mut Engine<'_>,
+    entries: Vec<Entry>,
+    bound: i128,
+) -> Result<Option<u32>, AllocError> {
+    let Some(row) = made_row(entries, bound) else {
+        return Ok(None);
+    };
+    match row_number(e.alloc, &e.table, &row)? {
+        Some(r) => Ok(Some(atom_of_row(e, r as usize))),
+        None => add_row(e, row),
+    }
+}
