@@ -34,10 +34,11 @@ use bg_linear::laws::scalar_values_hold;
 use bg_model::{Counterexample, Routine, Valuation, counterexample};
 use bg_passive::laws::arrivals_fit;
 use bg_rows::Refused;
+use bg_search::search;
 use bg_sense::laws::typed_programs_have_typed_bodies;
 use bg_sense::resolved::places_have_spots_of_their_own;
 use bg_tree::laws::leaves_are_met;
-use bg_tree::{Budget, Leaf, Outcome, search};
+use bg_tree::{Budget, Leaf, Outcome};
 use std::alloc::{AllocError, Global};
 
 /// The clauses of a place, or the operation for which there are none.

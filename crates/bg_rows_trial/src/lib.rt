@@ -8,6 +8,8 @@ mod elim;
 #[cfg(test)]
 mod graph;
 #[cfg(test)]
+mod learn;
+#[cfg(test)]
 mod made;
 #[cfg(test)]
 mod pick;

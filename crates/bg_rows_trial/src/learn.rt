@@ -1,0 +1,173 @@
+//! What is proposed for formulas made by hand: certificates, which the checker accepts, and values, which meet the clauses.
+
+use crate::made::{Given, Signed, formula};
+use crate::whole::is_whole;
+use bg_cert::accepts;
+use bg_formula::{Clauses, Literal};
+use bg_learn::{Limits, Proposal, propose};
+use bg_search::search;
+use bg_tree::{Budget, Outcome, Values, follow};
+use std::alloc::{AllocError, Global};
+use std::test::Fail;
+
+/// Whether some literal of the clause has its value.
+fn meets(values: &[bool], clause: &[Literal]) -> bool {
+    for l in clause {
+        if values.get(l.atom as usize).copied() == Some(l.sign) {
+            return true;
+        }
+    }
+    false
+}
+
+fn meets_all(values: &[bool], clauses: &[Vec<Literal>]) -> bool {
+    for c in clauses {
+        if !meets(values, c) {
+            return false;
+        }
+    }
+    true
+}
+
+/// What is proposed: 'p' for a certificate that is accepted, 'v' for values that meet the clauses, 'n' for nothing; 'x' for a
+/// certificate that isn't accepted, 'w' for values that don't meet a clause.
+fn proposed(alloc: Global, f: &Clauses, set: &[bool], budget: usize) -> Result<char, AllocError> {
+    let limits = Limits {
+        nodes: budget,
+        rows: 1000,
+    };
+    match propose(alloc, f, set, limits)? {
+        Proposal::Proof(cert) => Ok(if accepts(alloc, f, set, &cert)? {
+            'p'
+        } else {
+            'x'
+        }),
+        Proposal::Values(values) => Ok(if meets_all(&values, &f.clauses) {
+            'v'
+        } else {
+            'w'
+        }),
+        Proposal::Nothing => Ok('n'),
+    }
+}
+
+/// What is proposed for rows, so many truth variables behind them, and clauses.
+fn told(alloc: Global, rows: &[Given], truths: u32, clauses: &[Signed]) -> Result<char, Fail> {
+    let f = formula(alloc, rows, truths, clauses)?;
+    Ok(proposed(alloc, &f, &[], 1000)?)
+}
+
+/// One of two variables.
+const EITHER: &[Signed] = &[&[(0, true), (1, true)]];
+
+/// All four clauses over two variables.
+const FOUR: &[Signed] = &[
+    &[(0, true), (1, true)],
+    &[(0, true), (1, false)],
+    &[(0, false), (1, true)],
+    &[(0, false), (1, false)],
+];
+
+/// Three pigeons in two holes: variable 2 p + h says that pigeon p is in hole h.
+const PIGEONS: &[Signed] = &[
+    &[(0, true), (1, true)],
+    &[(2, true), (3, true)],
+    &[(4, true), (5, true)],
+    &[(0, false), (2, false)],
+    &[(0, false), (4, false)],
+    &[(2, false), (4, false)],
+    &[(1, false), (3, false)],
+    &[(1, false), (5, false)],
+    &[(3, false), (5, false)],
+];
+
+/// x0 <= x1, x1 <= x0, x1 <= 3, x0 >= 5.
+const EQUAL: &[Given] = &[
+    (&[(0, 1), (1, -1)], 0),
+    (&[(0, -1), (1, 1)], 0),
+    (&[(1, 1)], 3),
+    (&[(0, -1)], -5),
+];
+
+/// 2 x0 - 3 x1 = 1 in two rows, x0 >= 0, x0 <= 3.
+const WHOLE: &[Given] = &[
+    (&[(0, 2), (1, -3)], 1),
+    (&[(0, -2), (1, 3)], -1),
+    (&[(0, -1)], 0),
+    (&[(0, 1)], 3),
+];
+
+/// Each of four atoms.
+const EACH: &[Signed] = &[&[(0, true)], &[(1, true)], &[(2, true)], &[(3, true)]];
+
+#[test]
+fn certificates_are_accepted_and_values_meet_the_clauses(rt: HostRuntime) -> Result<(), Fail> {
+    let alloc = rt.alloc();
+    assert_eq!(rt; told(alloc, &[], 2, EITHER)?, 'v');
+    assert_eq!(rt; told(alloc, &[], 2, FOUR)?, 'p');
+    assert_eq!(rt; told(alloc, &[], 6, PIGEONS)?, 'p');
+    assert_eq!(rt; told(alloc, EQUAL, 0, EACH)?, 'p');
+    assert_eq!(rt; told(alloc, WHOLE, 0, EACH)?, 'v');
+    Ok(())
+}
+
+#[test]
+fn members_are_units_and_a_budget_ends_the_search(rt: HostRuntime) -> Result<(), Fail> {
+    let alloc = rt.alloc();
+    let mut f = formula(alloc, &[], 2, &[&[(0, false), (1, true)], &[(1, false)]])?;
+    f.candidates.push(Some(0))?;
+    assert_eq!(rt; proposed(alloc, &f, &[true], 1000)?, 'p');
+    assert_eq!(rt; proposed(alloc, &f, &[false], 1000)?, 'v');
+    let four = formula(alloc, &[], 2, FOUR)?;
+    assert_eq!(rt; proposed(alloc, &four, &[], 0)?, 'n');
+    Ok(())
+}
+
+/// 'c' for a certificate, 'l' for a complete leaf, 'u' for unknown, 'n' for no answer.
+fn letter(found: Option<Outcome>) -> char {
+    match found {
+        Some(Outcome::Closed(_)) => 'c',
+        Some(Outcome::Leaf(_)) => 'l',
+        Some(Outcome::Unknown(_)) => 'u',
+        None => 'n',
+    }
+}
+
+/// Where a walk along these values of two variables ends, one of which is true.
+fn walked(alloc: Global, atoms: &[bool]) -> Result<char, Fail> {
+    let f = formula(alloc, &[], 2, EITHER)?;
+    let budget = Budget { nodes: 9, rows: 9 };
+    let values = Values { atoms, terms: &[] };
+    if !is_whole(&f) {
+        return Ok('x');
+    }
+    Ok(letter(follow(alloc, &f, &[], budget, values)?))
+}
+
+/// What is found for rows, so many truth variables behind them, and clauses, within so many nodes.
+fn found(
+    alloc: Global,
+    rows: &[Given],
+    truths: u32,
+    clauses: &[Signed],
+    nodes: u32,
+) -> Result<char, Fail> {
+    let f = formula(alloc, rows, truths, clauses)?;
+    let budget = Budget { nodes, rows: 9 };
+    if !is_whole(&f) {
+        return Ok('x');
+    }
+    Ok(letter(Some(search(alloc, &f, &[], budget)?)))
+}
+
+#[test]
+fn what_is_proposed_counts_where_it_holds(rt: HostRuntime) -> Result<(), Fail> {
+    let alloc = rt.alloc();
+    assert_eq!(rt; walked(alloc, &[false, true])?, 'l');
+    assert_eq!(rt; walked(alloc, &[false, false])?, 'n');
+    assert_eq!(rt; found(alloc, &[], 2, EITHER, 9)?, 'l');
+    assert_eq!(rt; found(alloc, &[], 2, FOUR, 9)?, 'c');
+    assert_eq!(rt; found(alloc, &[], 2, FOUR, 1)?, 'u');
+    assert_eq!(rt; found(alloc, WHOLE, 0, EACH, 9)?, 'l');
+    Ok(())
+}
