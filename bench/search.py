@@ -1,0 +1,182 @@
+#!/usr/bin/env python3
+"""Times of the search: families of programs that grow with a number N, side by side with Boogie where it is installed (run without its
+interval inference).
+
+usage: search.py --bg PROGRAM [--families NAME=N,N.. ..] [--runs N] [--seconds N]
+
+Writes a table of verdicts, the median seconds and the peak memory. What both verify has to be the same. The program has to be the proved
+one: `./bg`'s other one is slower by far.
+"""
+import argparse
+import os
+import random
+import re
+import shutil
+import statistics
+import tempfile
+
+import inference
+
+MEASURED = {
+    "straight": (100, 800), "counters": (10, 40), "machine": (80,), "settled": (200, 1000), "chain": (1000,),
+    "implementations": (1000,), "ways": (8, 12, 32), "checked_ways": (8, 32), "sorter": (3, 5), "tickets": (3, 5, 7),
+    "pigeons": (5,), "locals_alone": (1000, 4000), "globals_alone": (1000, 10000),
+}  # fmt: skip
+
+
+def settled(n):
+    """Small procedures with a loop and a call each, their invariants written out."""
+    lines = []
+    for line in inference.text(n).splitlines():
+        guess = re.match(r"    invariant ([ade])\d+ ==> (.*)", line)
+        if guess and guess[1] != "d":
+            lines.append(f"    invariant {guess[2]}")
+        elif not guess and not line.startswith("const "):
+            lines.append(line)
+    return "\n".join(lines) + "\n"
+
+
+def counters(n):
+    """One loop over n counters that go up together."""
+    xs = [f"x{i}" for i in range(n)]
+    lines = ["procedure P(m: int)", "  requires 0 <= m;", "{", f"  var {', '.join(xs)}, k: int;", "  k := 0;"]
+    lines += [f"  {x} := {i};" for i, x in enumerate(xs)] + ["  while (k < m)", "    invariant k <= m;"]
+    lines += [f"    invariant {x} == k + {i};" for i, x in enumerate(xs)] + ["  {", "    k := k + 1;"]
+    lines += [f"    {x} := {x} + 1;" for x in xs] + ["  }"]
+    return "\n".join(lines + [f"  assert {x} == m + {i};" for i, x in enumerate(xs)] + ["}", ""])
+
+
+def ways(n, checked=False):
+    """Conditionals in a row, each of which adds 1 or 2."""
+    lines = [f"procedure P({', '.join(f'b{i}: bool' for i in range(n))}) returns (s: int)", f"  ensures {n} <= s && s <= {2 * n};", "{", "  s := 0;"]
+    for i in range(n):
+        lines.append(f"  if (b{i}) {{ s := s + 1; }} else {{ s := s + 2; }}")
+        lines += [f"  assert {i + 1} <= s && s <= {2 * i + 2};"] * checked
+    return "\n".join(lines + ["}", ""])
+
+
+def checked_ways(n):
+    """The same, with the bounds of the sum checked behind each."""
+    return ways(n, checked=True)
+
+
+def machine(n):
+    """A loop over a state that goes through n states in turn."""
+    lines = ["procedure P() {", "  var s, c: int;", "  s := 0; c := 0;", "  while (*)", f"    invariant 0 <= s && s < {n};", "    invariant c >= 0;", "  {"]
+    lines += [f"    {'else ' * (i > 0)}if (s == {i}) {{ s := {(i + 1) % n}; c := c + {i}; }}" for i in range(n)]
+    return "\n".join(lines + ["  }", f"  assert s != {n};", "}", ""])
+
+
+def straight(n):
+    """Assignments over four numbers, every tenth of them checked."""
+    rng, worth = random.Random(n), [0, 1, 2, 3]
+    lines = ["procedure P(x: int) {", "  var a, b, c, d: int;", "  a, b, c, d := x, x + 1, x + 2, x + 3;"]
+    for i in range(n):
+        to, of, by = rng.randrange(4), rng.randrange(4), rng.randrange(-3, 4)
+        worth[to] = worth[of] + by
+        lines.append(f"  {'abcd'[to]} := {'abcd'[of]} + ({by});")
+        lines += [f"  assert {'abcd'[to]} == x + ({worth[to]});"] * (i % 10 == 9)
+    return "\n".join(lines + ["}", ""])
+
+
+def chain(n):
+    """Procedures of which each calls the one before it."""
+    lines = ["procedure P0(x: int) returns (y: int) ensures y == x + 1; { y := x + 1; }"]
+    for i in range(1, n):
+        lines += [f"procedure P{i}(x: int) returns (y: int) requires x >= 0; ensures y == x + {i + 1};", f"{{ call y := P{i - 1}(x); y := y + 1; }}"]
+    return "\n".join(lines + [""])
+
+
+def implementations(n):
+    """Small procedures that have nothing to do with each other."""
+    return "".join(f"procedure P{i}(x: int) returns (r: int) ensures r == x + 1; {{ r := x + 1; }}\n" for i in range(n))
+
+
+def locals_alone(n):
+    """One procedure that sets n locals."""
+    lines = ["procedure P() {", f"  var {', '.join(f'x{i}' for i in range(n))}: int;"] + [f"  x{i} := {i};" for i in range(n)]
+    return "\n".join(lines + [f"  assert x0 == 0 && x{n - 1} == {n - 1};", "}", ""])
+
+
+def globals_alone(n):
+    """Globals, all of which a call may change."""
+    names = ", ".join(f"g{i}" for i in range(n))
+    return f"""var {names}: int;
+procedure Bump() modifies {names}; ensures g0 == old(g0) + 1; {{ g0 := g0 + 1; }}
+procedure Twice() modifies {names}; ensures g0 == old(g0) + 2; {{ call Bump(); call Bump(); }}
+"""
+
+
+def sorter(n):
+    """Bubble sort, unrolled: what comes out is in order, and begins with a least one."""
+    xs, ys = [f"x{i}" for i in range(n)], [f"y{i}" for i in range(n)]
+    lines = [f"procedure Sort({', '.join(f'{x}: int' for x in xs)}) returns ({', '.join(f'{y}: int' for y in ys)})"]
+    lines += [f"  ensures {a} <= {b};" for a, b in zip(ys, ys[1:])] + [f"  ensures y0 <= {x};" for x in xs]
+    lines += ["{", f"  {', '.join(ys)} := {', '.join(xs)};"]
+    lines += [f"  if (y{j} > y{j + 1}) {{ y{j}, y{j + 1} := y{j + 1}, y{j}; }}" for i in range(n - 1, 0, -1) for j in range(i)]
+    return "\n".join(lines + ["}", ""])
+
+
+def pigeons(n):
+    """n + 1 different numbers from 1 to n."""
+    xs = [f"x{i}" for i in range(n + 1)]
+    lines = [f"procedure P({', '.join(f'{x}: int' for x in xs)}) {{"] + [f"  assume 1 <= {x} && {x} <= {n};" for x in xs]
+    return "\n".join(lines + [f"  assume {x} != {y};" for i, x in enumerate(xs) for y in xs[:i]] + ["  assert false;", "}", ""])
+
+
+def tickets(n):
+    """A ticket lock: whoever has the ticket that is served is inside, so no two are."""
+    lines = ["procedure P() {", f"  var next, served, {', '.join(f't{i}, s{i}' for i in range(n))}: int;", "  next := 0; served := 0;"]
+    lines += [f"  t{i} := 0; s{i} := 0;" for i in range(n)] + ["  while (*)", "    invariant 0 <= served && served <= next;"]
+    for i in range(n):
+        lines.append(f"    invariant 0 <= s{i} && s{i} <= 2 && (s{i} != 0 ==> served <= t{i} && t{i} < next) && (s{i} == 2 ==> t{i} == served);")
+        lines += [f"    invariant s{i} != 0 && s{j} != 0 ==> t{i} != t{j};" for j in range(i)]
+    lines.append("  {")
+    for i in range(n):
+        lines += [f"    if (*) {{ if (s{i} == 0) {{ t{i} := next; next := next + 1; s{i} := 1; }}", f"      else if (s{i} == 1) {{ if (t{i} == served) {{ s{i} := 2; }} }}"]
+        lines.append(f"      else {{ s{i} := 0; served := served + 1; }} }}")
+    return "\n".join(lines + ["  }"] + [f"  assert !(s{i} == 2 && s{j} == 2);" for i in range(n) for j in range(i)] + ["}", ""])
+
+
+FAMILIES = {f.__name__: f for f in (settled, counters, ways, checked_ways, machine, straight, chain, implementations, locals_alone, globals_alone, sorter, pigeons, tickets)}
+
+
+def median(command, runs, seconds):
+    """The report, the median seconds and the peak memory of some runs."""
+    ran = [inference.run(command, seconds) for _ in range(runs)]
+    return ran[-1][0], statistics.median(it[1] for it in ran), max(it[2] for it in ran)
+
+
+def verdicts(report):
+    found = re.search(r"; (\d+) verified, (\d+) refuted, (\d+) unknown$", report, re.M)
+    return ", ".join(f"{n} {word}" for n, word in zip(found.groups(), ("verified", "refuted", "unknown")) if n != "0") if found else "none"
+
+
+def main():
+    parser = argparse.ArgumentParser(description=__doc__.split("\n", maxsplit=1)[0])
+    parser.add_argument("--bg", required=True)
+    parser.add_argument("--families", nargs="+", metavar="NAME=N,N..")
+    parser.add_argument("--runs", type=int, default=3)
+    parser.add_argument("--seconds", type=int, default=30)
+    args = parser.parse_args()
+    chosen = {name: tuple(map(int, sizes.split(","))) for name, _, sizes in (it.partition("=") for it in args.families or [])} or MEASURED
+    boogie = shutil.which("boogie")
+    heads = ["program", "verdicts", "bg"] + ["Boogie", "bg / Boogie"] * bool(boogie)
+    print(f"| {' | '.join(heads)} |\n|{' --- |' * len(heads)}")
+    with tempfile.TemporaryDirectory() as folder:
+        for name, sizes in chosen.items():
+            for size in sizes:
+                source = os.path.join(folder, f"{name}.bpl")
+                with open(source, "w", encoding="ascii") as file:
+                    file.write(FAMILIES[name](size))
+                report, ours, memory = median([args.bg, "verify", source], args.runs, args.seconds)
+                cells = [f"`{name} {size}`", verdicts(report), inference.cell(ours, memory)]
+                if boogie:
+                    said, theirs, room = median([boogie, "/nologo", "/noinfer", source], args.runs, args.seconds)
+                    found = re.search(r"finished with (\d+) verified, 0 errors", said)
+                    cells += [inference.cell(theirs, room), f"1/{theirs / ours:.0f}" if found or not said else "NOT THE SAME"]
+                print(f"| {' | '.join(cells)} |", flush=True)
+
+
+if __name__ == "__main__":
+    main()
