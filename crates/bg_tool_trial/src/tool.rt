@@ -87,7 +87,7 @@ const TEXTS: [Case; 25] = [
         VERIFY,
         "procedure P() returns (r: bool) { havoc r; assert r; }",
         Status::Refuted,
-        "axioms: consistent\nretained set: greatest\nimplementation P 1:1 refuted\n  refuted assert 1:44\n    var r = true\n    choice false\nsummary: 0 retained, 0 dropped; 0 verified, 1 refuted, 0 unknown\n",
+        "axioms: consistent\nretained set: greatest\nimplementation P 1:1 refuted\n  refuted assert 1:44\n    var r = false\n    choice false\nsummary: 0 retained, 0 dropped; 0 verified, 1 refuted, 0 unknown\n",
         "",
     ),
     (VERIFY, FOUR_CLAUSES, Status::Verified, COPY_REPORT, ""),
