@@ -12,13 +12,13 @@ use Rattle.bg_formula.specs.Formulas.{Formula, unit_atom}
 use Rattle.bg_formula.specs.Meaning.{same}
 use Rattle.bg_cert.specs.declared.cert.Decision.{Decision}
 use Rattle.bg_cert.specs.declared.cert.Decision.TheVariants.{Atom, AtMost}
-use Rattle.bg_cert.specs.Paths.{PathOf, decides, clause_false, names_false, unit_false, row_of_decision, in_front, rows_on}
+use Rattle.bg_cert.specs.Paths.{PathOf, decides, clause_false, names_false, unit_false, row_of_decision, in_front, rows_on, denials}
 use Rattle.bg_cert.specs.Certs.{NodeOf, is_there, accepts, root, bare, Accepts}
 use Rattle.bg_cert.proofs.Tableless.{bare_accepted}
 use Rattle.bg_cert.specs.Walks.{no_instance, path_of}
 use Rattle.bg_conflict.specs.Picked.{ArePicked}
 use Rattle.bg_conflict.proofs.Numbers.{derives_from}
-use Rattle.bg_used.specs.Used.{same_decision, is_in, all_in, without, bump, row_place, place_if, places, Proof, ByClause, ByUnit, ByRows, OnAtom, OnBound, denials, denials_of, denial_of, used, proves, nodes_on}
+use Rattle.bg_used.specs.Used.{same_decision, is_in, all_in, without, bump, row_place, place_if, places, Proof, ByClause, ByUnit, ByRows, OnAtom, OnBound, denials_of, denial_of, used, proves, nodes_on}
 
 both : (a b : Bool) → (a && b) ≡ true → (a ≡ true) × (b ≡ true)
 both true b h = (refl, h)

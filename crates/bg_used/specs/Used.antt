@@ -1,5 +1,5 @@
 -- Certificates whose leaves tell the decisions that they use.
-use Rattle.std.specs.Prelude.{ℕ, suc, ◌==◌, nat_lt, Bool, true, false, not, ◌&&◌, ◌||◌, cond, List, [], ◌∷◌, ◌++◌, map, Option, Some, None, ℤ}
+use Rattle.std.specs.Prelude.{ℕ, suc, ◌==◌, nat_lt, Bool, true, false, ◌&&◌, ◌||◌, cond, List, [], ◌∷◌, ◌++◌, map, Option, Some, None, ℤ}
 use Rattle.std.specs.Ordering.{int_eq}
 use Rattle.bg_rows.specs.Rows.{RowOf}
 use Rattle.bg_rows.specs.declared.step.Step.{Step}
@@ -10,7 +10,7 @@ use Rattle.bg_formula.specs.Formulas.{Formula, unit_atom}
 use Rattle.bg_formula.specs.Meaning.{same}
 use Rattle.bg_cert.specs.declared.cert.Decision.{Decision}
 use Rattle.bg_cert.specs.declared.cert.Decision.TheVariants.{Atom, AtMost}
-use Rattle.bg_cert.specs.Paths.{row_of_decision, rows_on}
+use Rattle.bg_cert.specs.Paths.{row_of_decision, rows_on, denials}
 use Rattle.bg_cert.specs.Certs.{NodeOf, Splits, Bounds, IsClause, IsUnit, Derives, is_there}
 use Rattle.bg_conflict.specs.Picked.{renumbered}
 
@@ -63,10 +63,6 @@ pub data Proof : Type 0 where
   ByRows : List Decision → List Step → Proof
   OnAtom : ℕ → Proof → Proof → Proof
   OnBound : ℕ → ℤ → Proof → Proof → Proof
-
-abbrev pub denials : List Literal → List Decision
-denials [] = []
-denials (l ∷ ls) = Atom l.atom (not l.sign) ∷ denials ls
 
 abbrev pub denials_of : Option (List Literal) → List Decision
 denials_of None = []
