@@ -26,6 +26,13 @@ pub fn new_base(alloc: Global, atoms: usize) -> Result<Base, AllocError> {
     })
 }
 
+/// Makes room for the watches of one atom more.
+pub fn grow_base(base: &mut Base) -> Result<(), AllocError> {
+    base.first.push(None)?;
+    base.first.push(None)?;
+    Ok(())
+}
+
 /// The literals of a clause.
 pub fn clause_at(base: &Base, c: u32) -> &[Lit] {
     match base.spans.get(c as usize) {

@@ -52,6 +52,13 @@ pub fn new_columns(alloc: Global, terms: u32, atoms: usize) -> Result<Columns, A
     })
 }
 
+/// Makes room for one atom more.
+pub fn grow_columns(columns: &mut Columns) -> Result<(), AllocError> {
+    columns.limits.push(None)?;
+    columns.reduced.push(None)?;
+    Ok(())
+}
+
 /// A row as a bound: of the sum whose first coefficient is positive.
 #[derive(Drop)]
 pub struct Facing {

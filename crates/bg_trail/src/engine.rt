@@ -1,12 +1,12 @@
 //! The state of a search.
 
-use crate::base::{Base, new_base};
-use crate::columns::{Columns, count_open, new_columns};
+use crate::base::{Base, grow_base, new_base};
+use crate::columns::{Columns, count_open, grow_columns, new_columns};
 use crate::lemmas::{Lemmas, new_lemmas};
 use crate::literals::atom_of;
 use crate::reason::{Reason, Reasons, new_reasons};
 use crate::table::{Table, new_table};
-use crate::trail::{Start, Trail, new_trail, pop, put, rise};
+use crate::trail::{Start, Trail, grow_trail, new_trail, pop, put, rise};
 use bg_formula::Clauses;
 use bg_simplex::{Lit, Simplex, Told, mark, new_simplex, take_back};
 use bg_solved::{Solved, new_solved};
@@ -40,12 +40,13 @@ pub struct Counts {
     pub has_met: bool,
 }
 
-/// A search: the formula; the values on its path, the clauses known, and why each value came; what rows say, by columns; what was
+/// A search: the formula, and how many atoms there may be with those of rows of the certificate's own; the values on its path, the clauses known, and why each value came; what rows say, by columns; what was
 /// learned; and how much was done, and may be.
 #[derive(Drop)]
 pub struct Engine<'a> {
     pub alloc: Global,
     pub formula: &'a Clauses,
+    pub room: usize,
     pub trail: Trail,
     pub base: Base,
     pub reasons: Reasons,
@@ -78,12 +79,14 @@ fn new_desk(alloc: Global, atoms: usize) -> Result<Desk, AllocError> {
     })
 }
 
-/// A search before its start. Time and memory are bounded by the formula and by the limits.
+/// A search before its start. Time and memory are bounded by the formula and by the limits. Rows of the certificate's own get their
+/// place as they come (`grow`).
 pub fn new_engine(alloc: Global, f: &Clauses, limits: Limits) -> Result<Engine<'_>, AllocError> {
-    let atoms = room(f);
+    let atoms = f.atoms.len();
     Ok(Engine {
         alloc,
         formula: f,
+        room: room(f),
         trail: new_trail(alloc, atoms)?,
         base: new_base(alloc, atoms)?,
         reasons: new_reasons(alloc, atoms)?,
@@ -102,6 +105,16 @@ pub fn new_engine(alloc: Global, f: &Clauses, limits: Limits) -> Result<Engine<'
         },
         limits,
     })
+}
+
+/// Makes a place for one atom more.
+pub fn grow(e: &mut Engine<'_>) -> Result<(), AllocError> {
+    grow_trail(&mut e.trail)?;
+    grow_base(&mut e.base)?;
+    grow_columns(&mut e.columns)?;
+    e.reasons.of.push(Reason::Decision)?;
+    e.desk.seen.push(false)?;
+    Ok(())
 }
 
 /// Makes an undecided literal true.

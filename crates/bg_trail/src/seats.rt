@@ -1,7 +1,7 @@
 //! Atoms of rows take their seats: the reduced row, and the column that it bounds.
 
 use crate::columns::{Limit, column_of, face};
-use crate::engine::Engine;
+use crate::engine::{Engine, grow};
 use crate::literals::literal;
 use crate::table::{push_row, row_number};
 use crate::trail::is_open;
@@ -78,12 +78,13 @@ fn atom_of_row(e: &Engine<'_>, r: usize) -> u32 {
 /// Takes a row into the table, and seats its atom, if there is room.
 fn add_row(e: &mut Engine<'_>, row: Row) -> Result<Option<u32>, AllocError> {
     let a = atom_of_row(e, e.table.rows.len());
-    if a as usize >= e.trail.atoms.len() {
+    if a as usize >= e.room {
         return Ok(None);
     }
     let Some(both) = with_denial(e.alloc, row)? else {
         return Ok(None);
     };
+    grow(e)?;
     let _known = seat(e, a, &both.row)?;
     push_row(e.alloc, &mut e.table, both)?;
     Ok(Some(a))

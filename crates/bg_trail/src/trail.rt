@@ -1,5 +1,5 @@
 //! The trail: the atoms' values, in the order in which they came, by levels of decisions (Silva and Sakallah, GRASP: a new search
-//! algorithm for satisfiability, 1996). All room is made at the start, so that a value takes no memory.
+//! algorithm for satisfiability, 1996). The room of an atom is made with it, so that a value takes no memory.
 
 use crate::literals::{atom_of, is_positive};
 use bg_simplex::Lit;
@@ -34,27 +34,39 @@ pub struct Trail {
     pub rows: usize,
 }
 
+/// What holds of an atom without a value.
+const NO_VALUE: Standing = Standing {
+    value: None,
+    level: 0,
+    place: 0,
+};
+
+/// Where no level has begun yet.
+const NO_START: Start = Start {
+    place: 0,
+    mark: 0,
+    parts: 0,
+};
+
 /// The trail of no values, with room for so many atoms.
 pub fn new_trail(alloc: Global, atoms: usize) -> Result<Trail, AllocError> {
-    let standing = Standing {
-        value: None,
-        level: 0,
-        place: 0,
-    };
-    let start = Start {
-        place: 0,
-        mark: 0,
-        parts: 0,
-    };
     Ok(Trail {
-        atoms: vec![in alloc; standing; atoms]?,
+        atoms: vec![in alloc; NO_VALUE; atoms]?,
         order: vec![in alloc; 0; atoms]?,
         len: 0,
-        starts: vec![in alloc; start; atoms]?,
+        starts: vec![in alloc; NO_START; atoms]?,
         level: 0,
         head: 0,
         rows: 0,
     })
+}
+
+/// Makes room for one atom more, without a value.
+pub fn grow_trail(trail: &mut Trail) -> Result<(), AllocError> {
+    trail.atoms.push(NO_VALUE)?;
+    trail.order.push(0)?;
+    trail.starts.push(NO_START)?;
+    Ok(())
 }
 
 /// Whether a literal is true, or false, if its atom has a value.
