@@ -1,12 +1,13 @@
-use Rattle.std.proofs.Common.{◌+◌, ◌++◌, map, drop, ap, refl, ◌∙◌}
+use Rattle.std.proofs.Common.{◌+◌, ◌++◌, map, drop, ap, refl, ◌∙◌, sym}
+use Rattle.std.proofs.lemmas.List.{at_drop_all}
 use Rattle.bg_ast.specs.Views.{type_of, tys_of, indexed_of, index_view}
 use Rattle.bg_kinds.specs.Faults.{first_of}
 use Rattle.bg_kinds.specs.Kinds.{key_in, keys_in, kind_in, types_faults, indices_faults, type_faults, index_fault, start_of, named_by}
-use Rattle.bg_kinds.specs.Rows.{rows_in, keys_read, rows_read, both_keys}
+use Rattle.bg_kinds.specs.Rows.{rows_in, keys_read, rows_read, both_keys, in_front}
 use Rattle.bg_kinds.specs.FaultViews.{best_of}
 use Rattle.bg_kinds.specs.KindViews.{kinds_in, kind_in_of}
 use Rattle.bg_kinds.proofs.Loops.{dropped, step_best, both}
-use Rattle.bg_kinds.proofs.Gathered.{map_best, map_kind_of, types_step, gather_step}
+use Rattle.bg_kinds.proofs.Gathered.{map_best, map_kind_of, types_step, gather_step, front_end}
 use Rattle.bg_kinds.proofs.written.+written.Goals as goal
 
 pub judge_type-returns-in_ok-made-in-Map-clause-best : goal.judge_type-returns-in_ok-made-in-Map-clause-best
@@ -57,3 +58,38 @@ judge_brackets-loop-bracket-preserved t c =
           gather_step (λ l. rows_in (keys_in named) (indexed_of (map index_view l))) (rows_read c.loop-bracket.maps) (rows_read c.in_ok-maps.maps) keys _ rest x at refl (c.in_ok-maps.ensures ∙ ap (both_keys (rows_read c.loop-bracket.maps)) (c.in_ok-keys.ensures.keys ∙ ap (λ l. keys_in named (tys_of (map type_of l))) c.deref.ensures.value))
           ∙ c.loop-bracket.invariant.maps;
     }
+
+pub judge_brackets-returns-clause-best : goal.judge_brackets-returns-clause-best
+judge_brackets-returns-clause-best t c =
+    sym (at_drop_all (λ l. first_of (best_of c.loop-bracket.best) (indices_faults (named_by (kinds_in c.args.named.now)) (indexed_of (map index_view l)))) c.args.brackets.now c.loop-bracket.bracket-index c.loop-bracket-test.false) ∙ c.loop-bracket.invariant.best
+
+pub judge_brackets-returns-clause-maps : goal.judge_brackets-returns-clause-maps
+judge_brackets-returns-clause-maps t c =
+    let maps = rows_read c.loop-bracket.maps in
+    sym (front_end maps)
+    ∙ sym (at_drop_all (λ l. in_front maps (rows_in (keys_in (named_by (kinds_in c.args.named.now))) (indexed_of (map index_view l)))) c.args.brackets.now c.loop-bracket.bracket-index c.loop-bracket-test.false)
+    ∙ c.loop-bracket.invariant.maps
+
+pub judge_indices-returns-in-None-clause-best : goal.judge_indices-returns-in-None-clause-best
+judge_indices-returns-in-None-clause-best t c =
+    sym (at_drop_all (λ l. first_of (best_of c.loop-t.best) (types_faults (named_by (kinds_in c.args.named.now)) (tys_of (map type_of l)))) c.args.ts.now c.loop-t.t-index c.loop-t-test.false) ∙ c.loop-t.invariant.best
+
+pub judge_indices-returns-in-None-clause-keys : goal.judge_indices-returns-in-None-clause-keys
+judge_indices-returns-in-None-clause-keys t c =
+    let keys = keys_read c.loop-t.keys in
+    ap keys_read (sym c.in-None.is)
+    ∙ sym (front_end keys)
+    ∙ sym (at_drop_all (λ l. in_front keys (keys_in (named_by (kinds_in c.args.named.now)) (tys_of (map type_of l)))) c.args.ts.now c.loop-t.t-index c.loop-t-test.false)
+    ∙ c.loop-t.invariant.keys
+
+pub judge_indices-returns-in-Some-clause-best : goal.judge_indices-returns-in-Some-clause-best
+judge_indices-returns-in-Some-clause-best t c =
+    sym (at_drop_all (λ l. first_of (best_of c.loop-t.best) (types_faults (named_by (kinds_in c.args.named.now)) (tys_of (map type_of l)))) c.args.ts.now c.loop-t.t-index c.loop-t-test.false) ∙ c.loop-t.invariant.best
+
+pub judge_indices-returns-in-Some-clause-keys : goal.judge_indices-returns-in-Some-clause-keys
+judge_indices-returns-in-Some-clause-keys t c =
+    let keys = keys_read c.loop-t.keys in
+    ap keys_read (sym c.in-Some.is)
+    ∙ sym (front_end keys)
+    ∙ sym (at_drop_all (λ l. in_front keys (keys_in (named_by (kinds_in c.args.named.now)) (tys_of (map type_of l)))) c.args.ts.now c.loop-t.t-index c.loop-t-test.false)
+    ∙ c.loop-t.invariant.keys
