@@ -1,11 +1,11 @@
-use Rattle.std.proofs.Common.{◌+◌, ◌∷◌, [], ◌++◌, map, drop, ap, ◌∙◌}
-use Rattle.std.proofs.lemmas.List.{map-append}
-use Rattle.bg_ast.specs.Views.{exs_in}
+use Rattle.std.proofs.Common.{◌+◌, ◌∷◌, [], ◌++◌, map, drop, ap, ◌∙◌, sym, append-nil}
+use Rattle.std.proofs.lemmas.List.{map-append, at_drop_all}
+use Rattle.bg_ast.specs.Views.{exs_in, brackets_of, bracket_view, links_of, link_view}
 use Rattle.bg_kinds.specs.Faults.{first_of}
-use Rattle.bg_typing.specs.Exprs.{judge_all, sides_of}
-use Rattle.bg_typing.specs.Chains.{left_side, left_faults}
+use Rattle.bg_typing.specs.Exprs.{judge_all, sides_of, faults_of, behind, chained}
+use Rattle.bg_typing.specs.Chains.{left_side, left_faults, unwound}
 use Rattle.bg_kinds.specs.FaultViews.{best_of}
-use Rattle.bg_typing.specs.SideViews.{side_of, scope_of}
+use Rattle.bg_typing.specs.SideViews.{side_of, scope_of, waiting_of}
 use Rattle.bg_kinds.proofs.Loops.{dropped}
 use Rattle.bg_typing.proofs.Forms.{list_best, list_sides, brackets_best, brackets_side}
 use Rattle.bg_typing.proofs.Forms as F
@@ -86,3 +86,32 @@ pub judge_bracket-returns-in_ok-e-in-Update-clause-side : goal.judge_bracket-ret
 judge_bracket-returns-in_ok-e-in-Update-clause-side t c =
     let sides = ap (map side_of) c.deref-in-Update-2.ensures.value ∙ c.in_ok-es-in-Update.ensures.sides in
     J.update_one (scope_of c.args.g) (side_of c.args.m) _ _ _ _ _ _ _ _ c.in-Update.is c.deref-in-Update.ensures.value sides c.in_ok-e-in-Update.ensures.side c.update.ensures.side
+
+pub judge_list-returns-clause-best : goal.judge_list-returns-clause-best
+judge_list-returns-clause-best t c =
+    sym (at_drop_all (λ l. first_of (best_of c.loop-e.best) (faults_of (judge_all (scope_of c.args.g) (exs_in l)))) c.args.es.now c.loop-e.e-index c.loop-e-test.false) ∙ c.loop-e.invariant.best
+
+pub judge_list-returns-clause-sides : goal.judge_list-returns-clause-sides
+judge_list-returns-clause-sides t c =
+    let made = map side_of c.loop-e.made.items in
+    sym (append-nil made) ∙ sym (at_drop_all (λ l. made ++ sides_of (judge_all (scope_of c.args.g) (exs_in l))) c.args.es.now c.loop-e.e-index c.loop-e-test.false) ∙ c.loop-e.invariant.sides
+
+pub judge_brackets-returns-clause-best : goal.judge_brackets-returns-clause-best
+judge_brackets-returns-clause-best t c =
+    sym (at_drop_all (λ l. first_of (best_of c.loop-bracket.best) (behind (scope_of c.args.g) (side_of c.loop-bracket.side) (brackets_of (map bracket_view l))).faults) c.args.brackets.now c.loop-bracket.bracket-index c.loop-bracket-test.false) ∙ c.loop-bracket.invariant.best
+
+pub judge_brackets-returns-clause-side : goal.judge_brackets-returns-clause-side
+judge_brackets-returns-clause-side t c =
+    sym (at_drop_all (λ l. (behind (scope_of c.args.g) (side_of c.loop-bracket.side) (brackets_of (map bracket_view l))).side) c.args.brackets.now c.loop-bracket.bracket-index c.loop-bracket-test.false) ∙ c.loop-bracket.invariant.side
+
+pub judge_chain-returns-clause-best : goal.judge_chain-returns-clause-best
+judge_chain-returns-clause-best t c =
+    c.unwind.ensures.best
+    ∙ sym (at_drop_all (λ l. first_of (best_of c.loop-link.best) (unwound (map waiting_of c.loop-link.waiting.items) (chained (scope_of c.args.g) (side_of c.loop-link.side) (links_of (map link_view l)))).faults) c.args.links.now c.loop-link.link-index c.loop-link-test.false)
+    ∙ c.loop-link.invariant.best
+
+pub judge_chain-returns-clause-side : goal.judge_chain-returns-clause-side
+judge_chain-returns-clause-side t c =
+    c.unwind.ensures.side
+    ∙ sym (at_drop_all (λ l. (unwound (map waiting_of c.loop-link.waiting.items) (chained (scope_of c.args.g) (side_of c.loop-link.side) (links_of (map link_view l)))).side) c.args.links.now c.loop-link.link-index c.loop-link-test.false)
+    ∙ c.loop-link.invariant.side

@@ -1,5 +1,7 @@
-use Rattle.std.proofs.Common.{◌+◌, ◌∷◌, [], ◌++◌, map, drop, ap, sym, refl, ◌∙◌}
-use Rattle.std.proofs.lemmas.List.{map-append}
+use Rattle.std.proofs.Common.{◌+◌, ◌∷◌, [], ◌++◌, map, drop, ap, sym, refl, ◌∙◌, append-nil}
+use Rattle.std.proofs.lemmas.List.{map-append, at_drop_all}
+use Rattle.bg_kinds.specs.FaultViews.{best_of}
+use Rattle.bg_kinds.specs.Faults.{first_of}
 use Rattle.bg_ast.specs.Views.{target_of}
 use Rattle.bg_typing.specs.Exprs.{sides_of, faults_of}
 use Rattle.bg_typing.specs.Stmts.{targets}
@@ -19,3 +21,12 @@ loop-t-preserved c =
           ∙ (step_sides (λ l. sides_of (targets g (map target_of l))) (side_of c.in_ok-judge_target.field-0) _ _ _ (map side_of c.loop-t.made.items) at (ap (λ a. a ∷ sides_of (targets g (map target_of (drop (c.loop-t.t-index + 1) c.args.ts.now)))) (sym c.in_ok-judge_target.ensures.side))
           ∙ c.loop-t.invariant.sides);
     }
+
+pub returns-clause-best : goal.returns-clause-best
+returns-clause-best c =
+    sym (at_drop_all (λ l. first_of (best_of c.loop-t.best) (faults_of (targets (scope_of c.args.g) (map target_of l)))) c.args.ts.now c.loop-t.t-index c.loop-t-test.false) ∙ c.loop-t.invariant.best
+
+pub returns-clause-sides : goal.returns-clause-sides
+returns-clause-sides c =
+    let made = map side_of c.loop-t.made.items in
+    sym (append-nil made) ∙ sym (at_drop_all (λ l. made ++ sides_of (targets (scope_of c.args.g) (map target_of l))) c.args.ts.now c.loop-t.t-index c.loop-t-test.false) ∙ c.loop-t.invariant.sides

@@ -1,4 +1,6 @@
-use Rattle.std.proofs.Common.{map, ap, ◌∙◌}
+use Rattle.std.proofs.Common.{map, ap, ◌∙◌, sym}
+use Rattle.std.proofs.lemmas.List.{at_drop_all}
+use Rattle.bg_typing.specs.Stmts.{indexed}
 use Rattle.bg_ast.specs.Views.{bracket_of, exs_in}
 use Rattle.bg_kinds.specs.Faults.{first_of}
 use Rattle.bg_typing.specs.Exprs.{judge_all, sides_of, faults_of}
@@ -18,3 +20,11 @@ loop-bracket-preserved c =
       best = indexed_best g (side_of c.loop-bracket.side) _ _ _ _ _ _ _ _ _ at sides c.select-side.ensures.side best c.select-side.ensures.best ∙ c.loop-bracket.invariant.best;
       side = indexed_side g (side_of c.loop-bracket.side) _ _ _ _ _ _ at sides c.select-side.ensures.side ∙ c.loop-bracket.invariant.side;
     }
+
+pub returns-clause-best : goal.returns-clause-best
+returns-clause-best c =
+    sym (at_drop_all (λ l. first_of (best_of c.loop-bracket.best) (indexed (scope_of c.args.g) (side_of c.loop-bracket.side) (map bracket_of l)).faults) c.args.brackets.now c.loop-bracket.bracket-index c.loop-bracket-test.false) ∙ c.loop-bracket.invariant.best
+
+pub returns-clause-side : goal.returns-clause-side
+returns-clause-side c =
+    sym (at_drop_all (λ l. (indexed (scope_of c.args.g) (side_of c.loop-bracket.side) (map bracket_of l)).side) c.args.brackets.now c.loop-bracket.bracket-index c.loop-bracket-test.false) ∙ c.loop-bracket.invariant.side

@@ -1,4 +1,7 @@
-use Rattle.std.proofs.Common.{◌+◌, ◌++◌, map, drop, refl, ◌∙◌}
+use Rattle.std.proofs.Common.{◌+◌, ◌++◌, map, drop, refl, ◌∙◌, sym}
+use Rattle.std.proofs.lemmas.List.{at_drop_all}
+use Rattle.bg_kinds.specs.FaultViews.{best_of}
+use Rattle.bg_kinds.specs.Faults.{first_of}
 use Rattle.bg_ast.specs.Views.{sts_in, arms_from, arm_view}
 use Rattle.bg_typing.specs.Stmts.{guard_faults, sts_faults, arms_faults}
 use Rattle.bg_typing.specs.SideViews.{scope_of}
@@ -26,3 +29,11 @@ check_stmt-returns-in_ok-check_stmts-in-If t c =
 pub check_stmt-returns-in_ok-check_stmts-in-While : goal.check_stmt-returns-in_ok-check_stmts-in-While
 check_stmt-returns-in_ok-check_stmts-in-While t c =
     while_best (scope_of c.args.g) _ _ _ _ _ _ _ _ _ _ _ _ c.in-While.is c.deref-in-While.ensures.value c.deref-in-While-2.ensures.value c.in_ok-want_guard-in-While.ensures c.in_ok-want_clauses-in-While.ensures c.in_ok-check_stmts-in-While.ensures
+
+pub check_stmts-returns : goal.check_stmts-returns
+check_stmts-returns t c =
+    sym (at_drop_all (λ l. first_of (best_of c.loop-s.best) (sts_faults (scope_of c.args.g) (sts_in l))) c.args.ss.now c.loop-s.s-index c.loop-s-test.false) ∙ c.loop-s.invariant
+
+pub check_arms-returns : goal.check_arms-returns
+check_arms-returns t c =
+    sym (at_drop_all (λ l. first_of (best_of c.loop-arm.best) (arms_faults (scope_of c.args.g) (arms_from (map arm_view l)))) c.args.arms.now c.loop-arm.arm-index c.loop-arm-test.false) ∙ c.loop-arm.invariant
