@@ -60,10 +60,11 @@ fn take(e: &mut Engine<'_>, sides: &mut Sides, l: Lit) -> Result<(), AllocError>
     Ok(())
 }
 
-/// Solves the equalities whose two rows are true at the root.
+/// Solves the equalities whose two rows are true at the root. Clauses stand from the last block of the program back, so the literals
+/// are taken from the last on: a variable is then solved for those from which it is made.
 pub fn solve_equalities(e: &mut Engine<'_>) -> Result<(), AllocError> {
     let mut sides = BTreeMap::new(e.alloc);
-    for place in 0..e.trail.len {
+    for place in (0..e.trail.len).rev() {
         if let Some(l) = at_place(&e.trail, place) {
             take(e, &mut sides, l)?;
         }

@@ -1,6 +1,7 @@
 //! Rows are rewritten over the terms that stay.
 use crate::equality::{Dep, Solved, solved_for};
-use bg_rows::{Entry, Refused, Row, combine, common_divisor, copy, tighten};
+use crate::equation::made_row;
+use bg_rows::{Entry, Row, common_divisor, copy, tighten};
 use std::alloc::{AllocError, Global};
 
 /// A row without terms that are eliminated, and the equalities that were taken from it, in order.
@@ -43,15 +44,93 @@ fn next(s: &Solved, entries: &[Entry]) -> Option<Dep> {
     found
 }
 
+/// How far the entries of two rows are read.
+#[derive(Clone, Copy)]
+struct Read {
+    first: usize,
+    second: usize,
+}
+
+/// The entry of a variable that stands in both rows; none where a number leaves 128 bits.
+fn both(t: Entry, u: Entry, times: i128) -> Option<Entry> {
+    let by = t.by.checked_add(u.by.checked_mul(times)?)?;
+    Some(Entry {
+        variable: t.variable,
+        by,
+    })
+}
+
+/// So many times an entry; none where a number leaves 128 bits.
+fn multiple(u: Entry, times: i128) -> Option<Entry> {
+    let by = u.by.checked_mul(times)?;
+    Some(Entry {
+        variable: u.variable,
+        by,
+    })
+}
+
+/// The next entry of a row and so many times another, of which not both are read; none where a number leaves 128 bits.
+fn next_sum(a: &[Entry], b: &[Entry], times: i128, read: &mut Read) -> Option<Entry> {
+    match (a.get(read.first).copied(), b.get(read.second).copied()) {
+        (Some(t), Some(u)) if t.variable == u.variable => {
+            read.first = read.first.saturating_add(1);
+            read.second = read.second.saturating_add(1);
+            both(t, u, times)
+        }
+        (Some(t), Some(u)) if u.variable < t.variable => {
+            read.second = read.second.saturating_add(1);
+            multiple(u, times)
+        }
+        (Some(t), _) => {
+            read.first = read.first.saturating_add(1);
+            Some(t)
+        }
+        (None, Some(u)) => {
+            read.second = read.second.saturating_add(1);
+            multiple(u, times)
+        }
+        (None, None) => None,
+    }
+}
+
+/// The entries of a row and so many times another; none where a number leaves 128 bits.
+fn entries_of(
+    alloc: Global,
+    a: &[Entry],
+    b: &[Entry],
+    times: i128,
+) -> Result<Option<Vec<Entry>>, AllocError> {
+    let most = a.len().saturating_add(b.len());
+    let mut made = Vec::with_capacity(alloc, most)?;
+    let mut read = Read {
+        first: 0,
+        second: 0,
+    };
+    for _ in 0..most {
+        if read.first >= a.len() && read.second >= b.len() {
+            break;
+        }
+        let Some(t) = next_sum(a, b, times, &mut read) else {
+            return Ok(None);
+        };
+        if t.by != 0 {
+            made.push(t)?;
+        }
+    }
+    Ok(Some(made))
+}
+
 /// The sum of a row and a multiple of another, if it is within 128 bits.
 fn sum(alloc: Global, a: &Row, b: &Row, times: i128) -> Result<Option<Row>, AllocError> {
-    if times < 0 {
+    let Some(more) = b.bound.checked_mul(times) else {
         return Ok(None);
-    }
-    match combine(alloc, a, 1, b, times) {
-        Ok(row) => Ok(Some(row)),
-        Err(Refused::Range(_)) => Ok(None),
-        Err(Refused::Memory) => Err(AllocError),
+    };
+    let Some(bound) = a.bound.checked_add(more) else {
+        return Ok(None);
+    };
+    match entries_of(alloc, &a.entries, &b.entries, times)? {
+        Some(entries) => Ok(made_row(entries, bound)),
+        None => Ok(None),
     }
 }
 
