@@ -1,4 +1,7 @@
-use Rattle.std.proofs.Common.{◌+◌, map, drop, refl, ◌∙◌}
+use Rattle.std.proofs.Common.{◌+◌, map, drop, refl, ◌∙◌, sym, append-nil, ◌++◌}
+use Rattle.std.proofs.lemmas.List.{at_drop_all}
+use Rattle.bg_kinds.specs.FaultViews.{best_of}
+use Rattle.bg_kinds.specs.Faults.{first_of}
 use Rattle.bg_ast.specs.Views.{const_of}
 use Rattle.bg_kinds.specs.Kinds.{type_faults, named_by}
 use Rattle.bg_types.specs.Programs.{consts_faults, const_kind}
@@ -16,3 +19,12 @@ loop-c-preserved c =
       best = step_best (λ l. consts_faults named (map const_of l)) (type_faults named (const_of x).ty) _ rest x _ _ at refl c.in_ok-judge_type.ensures.best ∙ c.loop-c.invariant.best;
       kinds = step_made (λ l. map (const_kind named) (map const_of l)) kind_in_of (const_kind named (const_of x)) c.loop-c.made.items _ c.in_ok-judge_type.field-0 _ rest x at refl c.in_ok-push.ensures.items c.in_ok-judge_type.ensures.kind ∙ c.loop-c.invariant.kinds;
     }
+
+pub returns-clause-best : goal.returns-clause-best
+returns-clause-best c =
+    sym (at_drop_all (λ l. first_of (best_of c.loop-c.best) (consts_faults (named_by (kinds_in c.args.named.now)) (map const_of l))) c.args.cs.now c.loop-c.c-index c.loop-c-test.false) ∙ c.loop-c.invariant.best
+
+pub returns-clause-kinds : goal.returns-clause-kinds
+returns-clause-kinds c =
+    let made = kinds_in c.loop-c.made.items in
+    sym (append-nil made) ∙ sym (at_drop_all (λ l. made ++ map (const_kind (named_by (kinds_in c.args.named.now))) (map const_of l)) c.args.cs.now c.loop-c.c-index c.loop-c-test.false) ∙ c.loop-c.invariant.kinds
