@@ -1,3 +1,7 @@
+use Rattle.std.proofs.Common.{sym, ◌∙◌, map, flat_map}
+use Rattle.std.proofs.lemmas.List.{at_drop_all}
+use Rattle.bg_names.specs.Views.{first_of}
+use Rattle.bg_names.specs.Faults.{better}
 use Rattle.bg_text.specs.Views as v
 use Rattle.bg_spaces.specs.Declarations.{group_faults}
 use Rattle.bg_spaces.specs.SpaceViews.{spaces_in}
@@ -6,3 +10,7 @@ use Rattle.bg_spaces.proofs.groups.note_groups.Goals as goal
 
 pub loop-x-preserved : goal.loop-x-preserved
 loop-x-preserved c = noted_step (group_faults (spaces_in c.args.g.now)) v.group_of _ _ c.args.xs.now c.loop-x.x-index c.x-item.result _ c.loop-x-test.true c.x-item.is c.loop-x.invariant c.in_ok-note_ty.ensures.first
+
+pub returns-clause-first : goal.returns-clause-first
+returns-clause-first c =
+    sym (at_drop_all (λ l. better (first_of c.loop-x.notes) (flat_map (group_faults (spaces_in c.args.g.now)) (map v.group_of l))) c.args.xs.now c.loop-x.x-index c.loop-x-test.false) ∙ c.loop-x.invariant
