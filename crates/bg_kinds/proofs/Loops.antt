@@ -30,3 +30,8 @@ step_made F shows k old new a xs rest x h f e s =
 -- the same step, of the faults alone
 pub step_on : (fs whole rest : List Fault) (b0 b1 : Option Fault) → whole ≡ fs ++ rest → b1 ≡ first_of b0 fs → first_of b1 rest ≡ first_of b0 whole
 step_on fs whole rest b0 b1 h e = ap (λ b. first_of b rest) e ∙ (sym (first_of_append b0 fs rest) ∙ ap (first_of b0) (sym h))
+
+-- the step of a loop that adds to a list, where the rest may be told otherwise than the whole
+pub step_more : {A B : Type 0} (F G : List A → List B) (fs : List B) (xs rest : List A) (x : A) (o0 o1 : List B) → xs ≡ x ∷ rest → F (x ∷ rest) ≡ fs ++ G rest → o1 ≡ o0 ++ fs → o1 ++ G rest ≡ o0 ++ F xs
+step_more F G fs xs rest x o0 o1 h f e =
+    ap (λ o. o ++ G rest) e ∙ (append_assoc o0 fs (G rest) ∙ (ap (λ l. o0 ++ l) (sym f) ∙ ap (λ l. o0 ++ F l) (sym h)))
