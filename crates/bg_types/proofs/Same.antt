@@ -14,11 +14,16 @@ use Rattle.bg_kinds.specs.Faults.{Fault, first_of}
 use Rattle.bg_kinds.specs.Kinds.{Kind}
 use Rattle.bg_typing.specs.Sides.{Scope, Shape, matched_faults}
 use Rattle.bg_typing.specs.Stmts.{sts_faults, truths_faults}
-use Rattle.bg_types.specs.Programs.{declared_kind, declared_kinds, declared_side, declared_sides, function_shape, procedure_shape, procedure_frame, implementation_frame, scope_in, with_frame, without_globals, bodies_part, body_faults, bodies_faults, specification_faults, specifications_faults, matching_faults, implementation_faults, impls_faults}
+use Rattle.bg_types.specs.Programs.{declared_kind, declared_kinds, declared_side, declared_sides, function_shape, procedure_shape, procedure_frame, implementation_frame, scope_in, with_frame, without_globals, synonyms_faults, consts_faults, declared_faults, functions_faults, procedures_faults, implementations_faults, types_part, bodies_part, body_faults, bodies_faults, specification_faults, specifications_faults, matching_faults, implementation_faults, impls_faults}
 use Rattle.bg_types.specs.Checks.{bodies_by, specifications_by, sides_by, matching_by, implementations_by}
 
 pub slice_get_map : {A B : Type 0} (f : A → B) (xs : List A) (i : ℕ) (x : A) → slice_get xs i ≡ Some x → slice_get (map f xs) i ≡ Some (f x)
 slice_get_map f xs i x h = slice_get-map f xs i ∙ ap (option_map f) h
+
+-- two lists are as long as one another where what is read of them is the same
+pub as_long : {A B C D : Type 0} (f : A → D) (g : C → D) (h : B → C) (xs xs' : List A) (ys ys' : List B) → xs' ≡ xs → ys' ≡ ys → map f xs ≡ map g (map h ys) → length xs' ≡ length ys'
+as_long f g h xs xs' ys ys' i j e =
+    ap length i ∙ (sym (length-map xs f) ∙ (ap length e ∙ (length-map (map h ys) g ∙ (length-map ys h ∙ sym (ap length j)))))
 
 pub same_bodies : (named : ℕ → Kind) (g : Scope) (fs : List r.Fun) → bodies_by g (map (function_shape named) fs) fs ≡ bodies_faults named g fs
 same_bodies named g [] = refl
@@ -112,3 +117,11 @@ wide named frames ms h i f m hf hm =
     let c = length-map m.results.items declared_of in
     let d = ap length e in
     omega (arith, a, b, c, d, frame_long named (impl_of m))
+
+-- the faults of the types of declarations, kind by kind
+pub types_best : (named : ℕ → Kind) (p : r.Program) (b0 b1 b2 b3 b4 b5 b6 : Option Fault) → b1 ≡ first_of b0 (synonyms_faults named p.types) → b2 ≡ first_of b1 (consts_faults named p.constants) → b3 ≡ first_of b2 (declared_faults named p.globals) → b4 ≡ first_of b3 (functions_faults named p.functions) → b5 ≡ first_of b4 (procedures_faults named p.procedures) → b6 ≡ first_of b5 (implementations_faults named p.implementations) → b6 ≡ first_of b0 (types_part named p)
+types_best named p b0 b1 b2 b3 b4 b5 b6 h1 h2 h3 h4 h5 h6 =
+    let five = procedures_faults named p.procedures ++ implementations_faults named p.implementations in
+    let four = functions_faults named p.functions ++ five in
+    let three = declared_faults named p.globals ++ four in
+    both b0 b1 b6 (synonyms_faults named p.types) (consts_faults named p.constants ++ three) h1 (both b1 b2 b6 (consts_faults named p.constants) three h2 (both b2 b3 b6 (declared_faults named p.globals) four h3 (both b3 b4 b6 (functions_faults named p.functions) five h4 (both b4 b5 b6 (procedures_faults named p.procedures) (implementations_faults named p.implementations) h5 h6))))
