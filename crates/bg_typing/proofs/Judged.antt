@@ -1,6 +1,7 @@
 -- What the code finds of each form of an expression is what is defined of it.
 use Rattle.std.proofs.Common.{◌≡◌, ℕ, List, ◌++◌, map, Option, Some, None, slice_get, sym, ap, ◌∙◌, Vec, Box, Global}
 use Rattle.bg_base.specs.declared.pos.Pos.{Pos}
+use Rattle.bg_text.specs.declared.expr.TreePrefix.{TreePrefix}
 use Rattle.bg_ast.specs.declared.resolved.Expr.{Expr}
 use Rattle.bg_ast.specs.declared.resolved.Expr.TheVariants as expr
 use Rattle.bg_ast.specs.declared.resolved.Bracket.{Bracket}
@@ -9,7 +10,7 @@ use Rattle.bg_ast.specs.declared.resolved.Link.{Link}
 use Rattle.bg_ast.specs.Resolved as r
 use Rattle.bg_ast.specs.Views.{ex_of, exs_in, brackets_of, bracket_view, links_of, link_view}
 use Rattle.bg_kinds.specs.Faults.{Fault, first_of}
-use Rattle.bg_typing.specs.Sides.{Scope, Side, Judged, apply_side, apply_faults, select_side, select_faults, update_side, update_faults}
+use Rattle.bg_typing.specs.Sides.{Scope, Side, Judged, apply_side, apply_faults, signed, select_side, select_faults, update_side, update_faults}
 use Rattle.bg_typing.specs.Exprs.{judge, judge_all, sides_of, faults_of, behind, chained, bracket_side, bracket_faults}
 use Rattle.bg_kinds.proofs.Loops.{both}
 use Rattle.bg_typing.proofs.Forms.{judged_apply, judged_postfix, judged_chain, viewed_select, viewed_update}
@@ -28,6 +29,22 @@ apply_one g e p f args xs es a h x s k =
     k
     ∙ (ap (apply_side p (slice_get g.functions f)) s
     ∙ (ap (λ l. apply_side p (slice_get g.functions f) (sides_of (all_in g l))) x ∙ ap (λ j. j.side) (sym (judged_apply g e p f args h))))
+
+pub prefix_best : (g : Scope) (e : Expr) (signs : Vec TreePrefix Global) (m : Box Expr Global) (x : Expr) (ys : List TreePrefix) (a : Side) (b0 b1 b2 : Option Fault) → e ≡ expr.Prefix signs m → x ≡ m.value → ys ≡ signs.items → a ≡ (judge g (ex_of x)).side → b1 ≡ first_of b0 (judge g (ex_of x)).faults → b2 ≡ first_of b1 (signed ys a).faults → b2 ≡ first_of b0 (judge g (ex_of e)).faults
+prefix_best g e signs m x ys a b0 b1 b2 h i y s k n =
+    let rest : Expr → List TreePrefix → Judged = λ x ys. signed ys (judge g (ex_of x)).side in
+    both b0 b1 b2 (judge g (ex_of x)).faults (rest x ys).faults k (n ∙ ap (λ a. first_of b1 (signed ys a).faults) s)
+    ∙ (ap (λ x. first_of b0 ((judge g (ex_of x)).faults ++ (rest x ys).faults)) i
+    ∙ (ap (λ ys. first_of b0 ((judge g (ex_of m.value)).faults ++ (rest m.value ys).faults)) y
+    ∙ ap (λ e. first_of b0 (judge g (ex_of e)).faults) (sym h)))
+
+pub prefix_one : (g : Scope) (e : Expr) (signs : Vec TreePrefix Global) (m : Box Expr Global) (x : Expr) (ys : List TreePrefix) (a c : Side) → e ≡ expr.Prefix signs m → x ≡ m.value → ys ≡ signs.items → a ≡ (judge g (ex_of x)).side → c ≡ (signed ys a).side → c ≡ (judge g (ex_of e)).side
+prefix_one g e signs m x ys a c h i y s k =
+    k
+    ∙ (ap (λ a. (signed ys a).side) s
+    ∙ (ap (λ x. (signed ys (judge g (ex_of x)).side).side) i
+    ∙ (ap (λ ys. (signed ys (judge g (ex_of m.value)).side).side) y
+    ∙ ap (λ e. (judge g (ex_of e)).side) (sym h))))
 
 pub postfix_best : (g : Scope) (e : Expr) (m : Box Expr Global) (bs : Vec Bracket Global) (x : Expr) (ys : List Bracket) (a : Side) (b0 b1 b2 : Option Fault) → e ≡ expr.Postfix m bs → x ≡ m.value → ys ≡ bs.items → a ≡ (judge g (ex_of x)).side → b1 ≡ first_of b0 (judge g (ex_of x)).faults → b2 ≡ first_of b1 (behind g a (brackets_of (map bracket_view ys))).faults → b2 ≡ first_of b0 (judge g (ex_of e)).faults
 postfix_best g e m bs x ys a b0 b1 b2 h i y s k n =

@@ -1,6 +1,5 @@
 -- Statements that hold lists, and brackets behind variables.
-use Rattle.std.proofs.Common.{◌≡◌, ℕ, List, [], ◌∷◌, ◌++◌, map, Option, sym, ap, ◌∙◌, append_assoc, Vec, Global}
-use Rattle.std.proofs.lemmas.List.{map-append}
+use Rattle.std.proofs.Common.{◌≡◌, ℕ, List, ◌∷◌, ◌++◌, map, Option, sym, ap, ◌∙◌, append_assoc, Vec, Global}
 use Rattle.bg_base.specs.declared.pos.Pos.{Pos}
 use Rattle.bg_ast.specs.declared.resolved.Arm.{Arm}
 use Rattle.bg_ast.specs.declared.resolved.Clause.{Clause}

@@ -51,6 +51,14 @@ judge-returns-in_ok-es-in-Apply-clause-side t c =
     let sides = ap (map side_of) c.deref-in-Apply.ensures.value ∙ c.in_ok-es-in-Apply.ensures.sides in
     J.apply_one (scope_of c.args.g) _ _ _ _ _ _ _ c.in-Apply.is c.deref.ensures.value sides c.apply.ensures.side
 
+pub judge-returns-in_ok-a-in-Prefix-clause-best : goal.judge-returns-in_ok-a-in-Prefix-clause-best
+judge-returns-in_ok-a-in-Prefix-clause-best t c =
+    J.prefix_best (scope_of c.args.g) _ _ _ _ _ _ _ _ _ c.in-Prefix.is c.deref-in-Prefix.ensures c.deref-in-Prefix-2.ensures.value c.in_ok-a-in-Prefix.ensures.side c.in_ok-a-in-Prefix.ensures.best c.put_signs.ensures.best
+
+pub judge-returns-in_ok-a-in-Prefix-clause-side : goal.judge-returns-in_ok-a-in-Prefix-clause-side
+judge-returns-in_ok-a-in-Prefix-clause-side t c =
+    J.prefix_one (scope_of c.args.g) _ _ _ _ _ _ _ c.in-Prefix.is c.deref-in-Prefix.ensures c.deref-in-Prefix-2.ensures.value c.in_ok-a-in-Prefix.ensures.side c.put_signs.ensures.side
+
 pub judge-returns-in_ok-side-in-Postfix-clause-best : goal.judge-returns-in_ok-side-in-Postfix-clause-best
 judge-returns-in_ok-side-in-Postfix-clause-best t c =
     J.postfix_best (scope_of c.args.g) _ _ _ _ _ _ _ _ _ c.in-Postfix.is c.deref-in-Postfix.ensures c.deref-in-Postfix-2.ensures.value c.in_ok-m-in-Postfix.ensures.side c.in_ok-m-in-Postfix.ensures.best c.in_ok-side-in-Postfix.ensures.best
