@@ -22,3 +22,12 @@ loop-worker-preserved g c = let k = g.C.Checker in let s = c.args.checker.now in
       count = let a = c.in-Some.ensures.len in let e = i.count in let b = p.len in let r = c.loop-worker.workers.ok in let u = c.pop.new.self.ok in let x = c.push.new.self.ok in let y = c.loop-worker.keepers.ok in omega arith;
       shelved = c.shelve.ensures;
     }
+
+pub returns-clause-keepers : goal.returns-clause-keepers
+returns-clause-keepers g c = c.loop-worker.invariant.keepers
+
+pub returns-clause-shelved : goal.returns-clause-shelved
+returns-clause-shelved g c = c.loop-worker.invariant.shelved
+
+pub returns-then-lacked-clause-shelved : goal.returns-then-lacked-clause-shelved
+returns-then-lacked-clause-shelved g c = c.loop-worker.invariant.shelved

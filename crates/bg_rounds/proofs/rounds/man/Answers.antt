@@ -26,3 +26,6 @@ loop-keeper-preserved g c = let k = g.C.Checker in let s = c.args.checker.now in
       workers = subst (λ (ws : List (Worker g.row.P.Denot g.row.V.Denot g.row.D.Denot)). All W ws) (sym p.items) (All-push W c.loop-keeper.workers.items w i.workers right);
       count = let a = c.in-Some.ensures.len in let e = i.count in let b = p.len in let r = c.loop-keeper.keepers.ok in let u = c.pop.new.self.ok in let x = c.push.new.self.ok in let y = c.loop-keeper.workers.ok in omega arith;
     }
+
+pub returns-clause-workers : goal.returns-clause-workers
+returns-clause-workers g c = c.loop-keeper.invariant.workers
