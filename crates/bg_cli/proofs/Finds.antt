@@ -9,7 +9,7 @@ use Rattle.clap.specs.declared.parser.matches.ArgMatches.{ArgMatches}
 use Rattle.clap.specs.declared.error.Error.{Error}
 use Rattle.clap.specs.declared.error.kind.ErrorKind.TheVariants.{OutOfMemory}
 use Rattle.clap.proofs.OnLiterals.{clap_on_literals}
-use Rattle.bg_cli.specs.Cli.{cli, IsTaken, rows_in, is_annotate, annotates_in}
+use Rattle.bg_cli.specs.Cli.{cli, IsTaken, rows_in, is_annotate, annotates_in, is_generate, generates_in}
 
 pub is_plain : is_simple_and_free cli ≡ true
 unfolding clap_on_literals cli
@@ -66,6 +66,18 @@ entered_name (Some x) s v h k = let e : x ≡ v = cc in rw (sym e) (ap is_annota
 pub no_name : (r : Option Entered) (s : Option Text) → option_map (λ p. p.0.now) r ≡ s → r ≡ None → false ≡ is_annotate s
 no_name None s h k = ap is_annotate h
 no_name (Some x) s h k = absurd cc
+
+-- the same of the name `generate`
+pub generate_is : (a : App) (ws : List Text) (s : Option (Text × List Row)) → a ≡ cli → (is_simple a ≡ true → s ≡ subcommand_of a ws) → is_generate (option_map (λ p. p.0) s) ≡ generates_in ws
+generate_is a ws s same h = ap (λ x. is_generate (option_map (λ p. p.0) x)) (h (ap is_simple same ∙ is_simple_too) ∙ ap (λ x. subcommand_of x ws) same)
+
+pub entered_generate : (r : Option Entered) (s : Option Text) (v : Entered) → option_map (λ p. p.0.now) r ≡ s → r ≡ Some v → is_generate (Some v.0.now) ≡ is_generate s
+entered_generate None s v h k = absurd cc
+entered_generate (Some x) s v h k = let e : x ≡ v = cc in rw (sym e) (ap is_generate h)
+
+pub no_generate : (r : Option Entered) (s : Option Text) → option_map (λ p. p.0.now) r ≡ s → r ≡ None → false ≡ is_generate s
+no_generate None s h k = ap is_generate h
+no_generate (Some x) s h k = absurd cc
 
 -- an argument that isn't global leaves a command without global ones
 pub none_global : (a b c : Bool) → a ≡ (b || c) → b ≡ false → c ≡ false → a ≡ false

@@ -14,7 +14,7 @@ use Rattle.clap.specs.ValueTests.{accepts, is_numeral, fits_i64}
 use Rattle.clap.proofs.FaultLemmas.{stopped_fault}
 use Rattle.clap.proofs.OnLiterals.{clap_on_literals}
 use Rattle.std.proofs.lemmas.Bool.{le-leb}
-use Rattle.bg_cli.specs.Cli.{cli, workers, nodes, most_rows, files, verify, IsTaken, Plain, AllPlain, IsNumberTo, IsBudget, IsWorkers, rows_in, files_in, workers_in, nodes_in, most_rows_in, files_of, workers_of, as_workers, nodes_of, most_rows_of, guess, history, guess_of, history_of, guess_in, history_in, number_or, annotate, is_annotate, annotates_in}
+use Rattle.bg_cli.specs.Cli.{cli, workers, nodes, most_rows, files, verify, IsTaken, Plain, AllPlain, IsNumberTo, IsBudget, IsWorkers, rows_in, files_in, workers_in, nodes_in, most_rows_in, files_of, workers_of, as_workers, nodes_of, most_rows_of, guess, history, guess_of, history_of, guess_in, history_in, number_or, annotate, is_annotate, annotates_in, seed, size, generate, is_generate, generates_in, wide_number, seed_of, size_of, seed_in, size_in, IsSeed, IsSize}
 
 abbrev rules : List Rule
 rules = filled_from 1 (workers ∷ nodes ∷ most_rows ∷ guess ∷ history ∷ files ∷ help_rule ∷ [])
@@ -536,3 +536,133 @@ annotate_guess own f fs h = ap guess_of (annotate_rows own f fs h)
 pub annotate_annotates : (own f : Text) (fs : List Text) → AllPlain (f ∷ fs) → annotates_in (own ∷ codes "annotate" ∷ f ∷ fs) ≡ true
 unfolding cli
 annotate_annotates own f fs h = ap (λ w. is_annotate (option_map (λ p. p.0) (entered command w.stopped))) (halt_walk (f ∷ fs))
+
+pub plain_generates : (own f : Text) (fs : List Text) → AllPlain (f ∷ fs) → generates_in (own ∷ codes "verify" ∷ f ∷ fs) ≡ false
+unfolding cli
+plain_generates own f fs h = ap (λ w. is_generate (option_map (λ p. p.0) (entered command w.stopped))) (top_walk (f ∷ fs))
+
+pub annotate_generates : (own f : Text) (fs : List Text) → AllPlain (f ∷ fs) → generates_in (own ∷ codes "annotate" ∷ f ∷ fs) ≡ false
+unfolding cli
+annotate_generates own f fs h = ap (λ w. is_generate (option_map (λ p. p.0) (entered command w.stopped))) (halt_walk (f ∷ fs))
+
+-- the same for `generate`, which takes two numbers
+abbrev makings : List Rule
+makings = filled_from 1 (seed ∷ size ∷ help_rule ∷ [])
+
+abbrev maker : Shape
+maker = record (marked_built generate.top) { rules = makings; disable_help_subcommand = true }
+
+-- the seed was read
+abbrev seeded : Text → Walk
+seeded s =
+    record {
+      held = record { rows = []; pending = Some (codes "SEED", s ∷ []); skip = 0 };
+      waiting = idle;
+      position = 2;
+      is_trailing = false;
+      stopped = None;
+    }
+
+-- and the size behind it
+abbrev sized : Text → Text → Walk
+sized s n =
+    record {
+      held = record { rows = used (filled seed) (s ∷ []) []; pending = Some (codes "SIZE", n ∷ []); skip = 0 };
+      waiting = idle;
+      position = 3;
+      is_trailing = false;
+      stopped = None;
+    }
+
+seed_walk : (s : Text) → Plain s → walked makings [] (walk_from nothing_held) s ≡ seeded s
+unfolding clap_on_literals
+seed_walk [] h = absurd h
+seed_walk (b ∷ bs) h = simp h refl
+
+seed_fine : (s : Text) → Plain s → turn_fault maker [] (walk_from nothing_held) s ≡ []
+unfolding clap_on_literals
+seed_fine [] h = absurd h
+seed_fine (b ∷ bs) h = simp h refl
+
+size_walk : (s n : Text) → Plain n → walked makings [] (seeded s) n ≡ sized s n
+unfolding clap_on_literals
+size_walk s [] h = absurd h
+size_walk s (b ∷ bs) h = simp h refl
+
+size_fine : (s n : Text) → IsSeed s → Plain n → turn_fault maker [] (seeded s) n ≡ []
+unfolding clap_on_literals
+size_fine s [] k h = absurd h
+size_fine s (b ∷ bs) k h = simp (h, k.passes) refl
+
+two_walk : (s n : Text) → Plain s → Plain n → walk makings [] nothing_held (s ∷ n ∷ []) ≡ sized s n
+two_walk s n h k = ap (λ w. fold (walked makings []) w (n ∷ [])) (seed_walk s h) ∙ size_walk s n k
+
+abbrev behind_two : Kinds → Walk → Kinds
+behind_two first w =
+    or_else first
+    (or_else [] (or_else (settle_fault makings maker.args_override_self w.held)
+    (or_else (defaults_fault (settled makings w.held).rows makings) (check_fault maker (finished makings w.held) false))))
+
+size_settled : (s n : Text) → IsSize n → settle_fault makings false (sized s n).held ≡ []
+unfolding clap_on_literals
+size_settled s n k = simp (k.passes) refl
+
+maker_fine : (s n : Text) → IsSeed s → IsSize n → level_fault maker [] nothing_held (s ∷ n ∷ []) false [] ≡ []
+unfolding walk_fault defaults_fault
+maker_fine s n k l =
+    let first : walk_fault maker [] (walk_from nothing_held) (s ∷ n ∷ []) ≡ [] =
+    ap₂ or_else (seed_fine s k.is_plain) (ap (λ w. walk_fault maker [] w (n ∷ [])) (seed_walk s k.is_plain) ∙ ap (λ x. or_else x []) (size_fine s n k l.is_plain)) in
+    ap₂ behind_two first (two_walk s n k.is_plain l.is_plain) ∙ ap (λ x. or_else x []) (size_settled s n l)
+
+abbrev made_at : List Text → Walk
+made_at ws = record (walk_from nothing_held) { stopped = Some (codes "generate", ws) }
+
+make_more : (c : List Rule) (names : Names) (xs ws : List Text) → fold (walked c names) (made_at xs) ws ≡ made_at (xs ++ ws)
+unfolding walked
+make_more c names xs [] = ap made_at (sym (append-nil xs))
+make_more c names xs (w ∷ ws) = make_more c names (xs ++ w ∷ []) ws ∙ ap made_at (append_assoc xs (w ∷ []) ws)
+
+make_walk : (ws : List Text) → walk command.top.rules (names_of command) nothing_held (codes "generate" ∷ ws) ≡ made_at ws
+unfolding clap_on_literals cli
+make_walk ws = make_more command.top.rules (names_of command) [] ws
+
+make_first : (ws : List Text) → walk_fault command.top (names_of command) (walk_from nothing_held) (codes "generate" ∷ ws) ≡ []
+unfolding clap_on_literals cli
+make_first ws = stopped_fault command.top (names_of command) (walk_from nothing_held) (codes "generate", []) ws
+
+pub generate_taken : (own s n : Text) → IsSeed s → IsSize n → IsTaken (own ∷ codes "generate" ∷ s ∷ n ∷ [])
+unfolding defaults_fault cli
+generate_taken own s n k l = ap₂ whole (make_first (s ∷ n ∷ [])) (make_walk (s ∷ n ∷ [])) ∙ ap (λ x. or_else x []) (maker_fine s n k l)
+
+generate_rows : (own s n : Text) → Plain s → Plain n → rows_in (own ∷ codes "generate" ∷ s ∷ n ∷ []) ≡ finished makings (sized s n).held
+unfolding cli
+generate_rows own s n h k =
+    ap (λ w. unwrap_or (option_map (λ p. p.1) (entered command w.stopped)) []) (make_walk (s ∷ n ∷ [])) ∙ ap (λ w. finished makings w.held) (two_walk s n h k)
+
+size_passes : (n : Text) → IsSize n → accepts false (parser.Unsigned 0 4294967295) n ≡ true
+size_passes n k =
+    let s = no_sign n (as_plain n k.is_plain).1 in
+    let z : ℤ = signed_digits_value 10 n in
+    let a = both (is_numeral (without_leading_sign n)) (fits_i64 z && (int_le (pos 0) z && int_le z (pos 4294967295))) k.passes in
+    let b = both (fits_i64 z) (int_le (pos 0) z && int_le z (pos 4294967295)) a.1 in
+    let c = both (int_le (pos 0) z) (int_le z (pos 4294967295)) b.1 in
+    let top : digits_value 10 (without_leading_plus n) ≤ 4294967295 = leb-true _ _ (subst (λ z. int_le z (pos 4294967295) ≡ true) s.1 c.1) in
+    let numeral = subst (IsNumeral 10) s.0 (accepts-Accepts false (parser.Signed (pos 0) (pos 4294967295)) n k.passes).0 in
+    Accepts-accepts false (parser.Unsigned 0 4294967295) n (numeral, omega (arith, top), omega arith, top)
+
+read_size : (n : Text) → IsSize n → number_or 0 (Some n) ≡ digits_value 10 (without_leading_plus n)
+read_size n k = rw (size_passes n k) refl
+
+read_seed : (s : Text) → IsSeed s → wide_number (Some s) ≡ digits_value 10 (without_leading_plus s)
+read_seed s k = rw k.passes refl
+
+pub generate_seed : (own s n : Text) → IsSeed s → IsSize n → seed_in (own ∷ codes "generate" ∷ s ∷ n ∷ []) ≡ digits_value 10 (without_leading_plus s)
+generate_seed own s n k l = ap seed_of (generate_rows own s n k.is_plain l.is_plain) ∙ read_seed s k
+
+pub generate_size : (own s n : Text) → IsSeed s → IsSize n → size_in (own ∷ codes "generate" ∷ s ∷ n ∷ []) ≡ digits_value 10 (without_leading_plus n)
+generate_size own s n k l =
+    ap size_of (generate_rows own s n k.is_plain l.is_plain) ∙ ap (λ t. number_or 0 (Some t)) (as_plain n l.is_plain).0 ∙ read_size n l
+
+pub generate_generates : (own s n : Text) → generates_in (own ∷ codes "generate" ∷ s ∷ n ∷ []) ≡ true
+unfolding cli
+generate_generates own s n = ap (λ w. is_generate (option_map (λ p. p.0) (entered command w.stopped))) (make_walk (s ∷ n ∷ []))

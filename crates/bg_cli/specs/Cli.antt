@@ -68,12 +68,34 @@ verify = with_rule (with_rule (with_rule (with_rule (with_rule (with_rule (new_a
 abbrev pub annotate : App
 annotate = with_rule (with_rule (with_rule (with_rule (with_rule (new_app (codes "annotate")) workers) nodes) most_rows) guess) files
 
+-- a number that fits in 64 bits
+abbrev pub seed : Rule
+seed =
+    record (new_rule (codes "SEED")) {
+      required = true;
+      parser = Some (parser.Unsigned 0 18446744073709551615);
+      action = Some Set;
+    }
+
+-- a number that fits in 32 bits
+abbrev pub size : Rule
+size =
+    record (new_rule (codes "SIZE")) {
+      required = true;
+      parser = Some (parser.Signed (pos 0) (pos 4294967295));
+      action = Some Set;
+    }
+
+abbrev pub generate : App
+generate = with_rule (with_rule (new_app (codes "generate")) seed) size
+
 abbrev pub required : App → App
 required a = record a { top = record a.top { subcommand_required = true } }
 
--- the commands: `bg verify [--workers N] [--nodes N] [--rows N] [--guess] [--history] FILE..`, and `bg annotate` without `--history`
+-- the commands: `bg verify [--workers N] [--nodes N] [--rows N] [--guess] [--history] FILE..`, `bg annotate` without `--history`, and
+-- `bg generate SEED SIZE`
 unfoldable pub cli : App
-cli = with_subcommand (with_subcommand (required (new_app (codes "bg"))) verify.top) annotate.top
+cli = with_subcommand (with_subcommand (with_subcommand (required (new_app (codes "bg"))) verify.top) annotate.top) generate.top
 
 -- the bytes of the words
 abbrev pub texts_of : List (String Global) → List Text
@@ -153,6 +175,39 @@ annotates_in words = is_annotate (option_map (λ p. p.0) (subcommand_of cli word
 abbrev pub annotates_for : ArgMatches → Bool
 annotates_for m = is_annotate (option_map (λ p. p.0) (subcommand_rows_of m))
 
+-- whether this is the name of the command `generate`
+abbrev pub is_generate : Option Text → Bool
+is_generate None = false
+is_generate (Some name) = bytes_eq name (codes "generate")
+
+-- whether a program is to be made, and no files are read
+abbrev pub generates_in : List Text → Bool
+generates_in words = is_generate (option_map (λ p. p.0) (subcommand_of cli words))
+
+-- the same of what a parse found
+abbrev pub generates_for : ArgMatches → Bool
+generates_for m = is_generate (option_map (λ p. p.0) (subcommand_rows_of m))
+
+-- the decimal number, where it fits in 64 bits, else 0
+abbrev pub wide_number : Option Text → ℕ
+wide_number None = 0
+wide_number (Some text) =
+    if accepts false (parser.Unsigned 0 18446744073709551615) text then digits_value 10 (without_leading_plus text) else 0
+
+-- the seed of the program that is made
+abbrev pub seed_of : List Row → ℕ
+seed_of rows = wide_number (one_of (codes "SEED") rows)
+
+-- its size
+abbrev pub size_of : List Row → ℕ
+size_of rows = number_or 0 (one_of (codes "SIZE") rows)
+
+abbrev pub seed_in : List Text → ℕ
+seed_in words = seed_of (rows_in words)
+
+abbrev pub size_in : List Text → ℕ
+size_in words = size_of (rows_in words)
+
 abbrev pub files_in : List Text → List Text
 files_in words = files_of (rows_in words)
 
@@ -193,3 +248,13 @@ IsBudget = IsNumberTo 1000000
 -- one that `--workers` takes
 abbrev pub IsWorkers : Text → Type 0
 IsWorkers = IsNumberTo 16
+
+-- one that is a seed
+pub record IsSeed (n : Text) : Type 0 where
+  pub is_plain : Plain n
+  pub passes : accepts false (parser.Unsigned 0 18446744073709551615) n ≡ true
+
+-- one that is a size
+pub record IsSize (n : Text) : Type 0 where
+  pub is_plain : Plain n
+  pub passes : accepts false (parser.Signed (pos 0) (pos 4294967295)) n ≡ true

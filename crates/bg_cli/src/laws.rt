@@ -1,10 +1,10 @@
 //! Plain words are taken, and ask what they say.
-ghost use Rattle.std.specs.Prelude.{◌≡◌, true, false, ◌≤◌, ◌^◌, ◌-◌, List, ℕ, ◌∷◌, length, codes};
+ghost use Rattle.std.specs.Prelude.{◌≡◌, true, false, ◌≤◌, ◌^◌, ◌-◌, List, ℕ, [], ◌∷◌, length, codes};
 ghost use Rattle.std.specs.Str.Parse.{digits_value, without_leading_plus};
-ghost use Rattle.bg_cli.specs.Cli.{AllPlain, IsBudget, IsWorkers, IsTaken, files_in, workers_in, nodes_in, most_rows_in, guess_in, history_in, annotates_in};
+ghost use Rattle.bg_cli.specs.Cli.{AllPlain, IsBudget, IsWorkers, IsSeed, IsSize, IsTaken, files_in, workers_in, nodes_in, most_rows_in, guess_in, history_in, annotates_in, generates_in, seed_in, size_in};
 
 /// `verify` and plain words: these are the files, and the numbers of nodes, rows and workers are the usual ones; neither guesses nor the
-/// history nor annotations are asked for.
+/// history nor annotations nor a program that is made are asked for.
 pub fn plain_words_are_taken()
     ensures taken { (own f : List ℕ) (fs : List (List ℕ)) → AllPlain (f ∷ fs) → length (f ∷ fs) ≤ 2 ^ 64 - 1 → IsTaken (own ∷ codes "verify" ∷ f ∷ fs) }
     ensures files { (own f : List ℕ) (fs : List (List ℕ)) → AllPlain (f ∷ fs) → files_in (own ∷ codes "verify" ∷ f ∷ fs) ≡ f ∷ fs }
@@ -14,6 +14,7 @@ pub fn plain_words_are_taken()
     ensures guess { (own f : List ℕ) (fs : List (List ℕ)) → AllPlain (f ∷ fs) → guess_in (own ∷ codes "verify" ∷ f ∷ fs) ≡ false }
     ensures history { (own f : List ℕ) (fs : List (List ℕ)) → AllPlain (f ∷ fs) → history_in (own ∷ codes "verify" ∷ f ∷ fs) ≡ false }
     ensures annotates { (own f : List ℕ) (fs : List (List ℕ)) → AllPlain (f ∷ fs) → annotates_in (own ∷ codes "verify" ∷ f ∷ fs) ≡ false }
+    ensures generates { (own f : List ℕ) (fs : List (List ℕ)) → AllPlain (f ∷ fs) → generates_in (own ∷ codes "verify" ∷ f ∷ fs) ≡ false }
 {}
 
 /// `annotate` and plain words: these are the files, and the program with its annotations is asked for, without guesses.
@@ -22,6 +23,15 @@ pub fn plain_words_of_annotate_are_taken()
     ensures files { (own f : List ℕ) (fs : List (List ℕ)) → AllPlain (f ∷ fs) → files_in (own ∷ codes "annotate" ∷ f ∷ fs) ≡ f ∷ fs }
     ensures guess { (own f : List ℕ) (fs : List (List ℕ)) → AllPlain (f ∷ fs) → guess_in (own ∷ codes "annotate" ∷ f ∷ fs) ≡ false }
     ensures annotates { (own f : List ℕ) (fs : List (List ℕ)) → AllPlain (f ∷ fs) → annotates_in (own ∷ codes "annotate" ∷ f ∷ fs) ≡ true }
+    ensures generates { (own f : List ℕ) (fs : List (List ℕ)) → AllPlain (f ∷ fs) → generates_in (own ∷ codes "annotate" ∷ f ∷ fs) ≡ false }
+{}
+
+/// `generate` and two numbers: the program of this seed and this size is asked for.
+pub fn plain_words_of_generate_are_taken()
+    ensures taken { (own s n : List ℕ) → IsSeed s → IsSize n → IsTaken (own ∷ codes "generate" ∷ s ∷ n ∷ []) }
+    ensures generates { (own s n : List ℕ) → generates_in (own ∷ codes "generate" ∷ s ∷ n ∷ []) ≡ true }
+    ensures seed { (own s n : List ℕ) → IsSeed s → IsSize n → seed_in (own ∷ codes "generate" ∷ s ∷ n ∷ []) ≡ digits_value 10 (without_leading_plus s) }
+    ensures size { (own s n : List ℕ) → IsSeed s → IsSize n → size_in (own ∷ codes "generate" ∷ s ∷ n ∷ []) ≡ digits_value 10 (without_leading_plus n) }
 {}
 
 /// `verify --nodes` with a number, and plain words.

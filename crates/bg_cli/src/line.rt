@@ -3,7 +3,7 @@ ghost use Rattle.std.specs.Prelude.{◌≡◌, ◌≢◌, ◌<◌, ◌≤◌, If
 ghost use Rattle.clap.specs.Walk.{rule_of};
 ghost use Rattle.clap.specs.Words.{app_of, found_of, kind_of, rows_of};
 ghost use Rattle.bg_cli.specs.declared.line.LineError.TheVariants.{Memory};
-ghost use Rattle.bg_cli.specs.Cli.{cli, workers, budget, files, texts_of, IsTaken, files_in, workers_in, nodes_in, most_rows_in, files_of, workers_of, as_workers, nodes_of, most_rows_of, flag, flag_of, guess_of, history_of, guess_in, history_in, rows_for, is_annotate, annotates_for, annotates_in};
+ghost use Rattle.bg_cli.specs.Cli.{cli, workers, budget, files, texts_of, IsTaken, files_in, workers_in, nodes_in, most_rows_in, files_of, workers_of, as_workers, nodes_of, most_rows_of, flag, flag_of, guess_of, history_of, guess_in, history_in, rows_for, is_annotate, annotates_for, annotates_in, seed, size, is_generate, generates_for, generates_in, seed_of, size_of, seed_in, size_in};
 
 use clap::error::ErrorKind;
 use clap::{Arg, ArgAction, ArgMatches, Command, Error, value_parser};
@@ -20,7 +20,8 @@ pub const WORKERS: u32 = 4;
 
 /// What a command line asks: the files in order, how many workers check places of candidates, how many nodes of a certificate's tree
 /// may count, and the most rows that an elimination keeps; whether the program is judged with its guesses; whether the history of
-/// the candidates that went is asked for; and whether the program with its annotations is asked for, and no report.
+/// the candidates that went is asked for; whether the program with its annotations is asked for, and no report; and whether a program
+/// of a seed and a size is to be made, for which no file is read.
 #[derive(Drop)]
 pub struct Line<'a> {
     pub files: Vec<&'a str>,
@@ -30,6 +31,9 @@ pub struct Line<'a> {
     pub guess: bool,
     pub history: bool,
     pub annotates: bool,
+    pub generates: bool,
+    pub seed: u64,
+    pub size: u32,
 }
 
 /// Why nothing is asked.
@@ -84,8 +88,30 @@ fn files<'a>(alloc: Global) -> Arg<'a>
         .action(ArgAction::Append)
 }
 
-/// The commands `bg verify [--workers N] [--nodes N] [--rows N] [--guess] [--history] FILE..`, and `bg annotate` without
-/// `--history`.
+/// The seed of a program that is made.
+fn seed<'a>(alloc: Global) -> Arg<'a>
+    ensures rule { rule_of result ≡ seed }
+    ensures own { result.global ≡ false }
+{
+    Arg::new(alloc, "SEED")
+        .required(true)
+        .value_parser(value_parser!(u64))
+        .action(ArgAction::Set)
+}
+
+/// The size of a program that is made.
+fn size<'a>(alloc: Global) -> Arg<'a>
+    ensures rule { rule_of result ≡ size }
+    ensures own { result.global ≡ false }
+{
+    Arg::new(alloc, "SIZE")
+        .required(true)
+        .value_parser(value_parser!(u32))
+        .action(ArgAction::Set)
+}
+
+/// The commands `bg verify [--workers N] [--nodes N] [--rows N] [--guess] [--history] FILE..`, `bg annotate` without `--history`,
+/// and `bg generate SEED SIZE`.
 pub fn cli<'a>(alloc: Global) -> Result<Command<'a>, AllocError>
     ensures { IfOk result (λ c. app_of c ≡ cli) }
 {
@@ -102,10 +128,14 @@ pub fn cli<'a>(alloc: Global) -> Result<Command<'a>, AllocError>
         .arg(budget(alloc, "rows"))?
         .arg(flag(alloc, "guess"))?
         .arg(files(alloc))?;
+    let generate = Command::new(alloc, "generate")
+        .arg(seed(alloc))?
+        .arg(size(alloc))?;
     Command::new(alloc, "bg")
         .subcommand_required(true)
         .subcommand(verify)?
-        .subcommand(annotate)
+        .subcommand(annotate)?
+        .subcommand(generate)
 }
 
 /// Why a parse failed.
@@ -173,6 +203,27 @@ fn is_annotate(name: &str) -> bool
     name == "annotate"
 }
 
+/// Whether this is the name of the command `generate`.
+fn is_generate(name: &str) -> bool
+    ensures { result ≡ is_generate (Some name.now) }
+{
+    name == "generate"
+}
+
+/// The seed that the matches of the command hold.
+fn seed_of(generate: &ArgMatches<'_>) -> u64
+    ensures { result ≡ seed_of (rows_of (found_of generate.now)) }
+{
+    generate.get_one::<u64>("SEED").unwrap_or(0)
+}
+
+/// The size that the matches of the command hold.
+fn size_of(generate: &ArgMatches<'_>) -> u32
+    ensures { result ≡ size_of (rows_of (found_of generate.now)) }
+{
+    generate.get_one::<u32>("SIZE").unwrap_or(0)
+}
+
 /// What the matches ask.
 fn line_of<'a>(alloc: Global, matches: &ArgMatches<'a>) -> Result<Line<'a>, AllocError>
     ensures files { IfOk result (λ line. map (λ file. file.now) line.files.items ≡ files_of (rows_for matches.now)) }
@@ -183,8 +234,11 @@ fn line_of<'a>(alloc: Global, matches: &ArgMatches<'a>) -> Result<Line<'a>, Allo
     ensures guess { IfOk result (λ line. line.guess ≡ guess_of (rows_for matches.now)) }
     ensures history { IfOk result (λ line. line.history ≡ history_of (rows_for matches.now)) }
     ensures annotates { IfOk result (λ line. line.annotates ≡ annotates_for matches.now) }
+    ensures generates { IfOk result (λ line. line.generates ≡ generates_for matches.now) }
+    ensures seed { IfOk result (λ line. line.seed ≡ seed_of (rows_for matches.now)) }
+    ensures size { IfOk result (λ line. line.size ≡ size_of (rows_for matches.now)) }
 {
-    let Some((name, verify)) = matches.subcommand() else {
+    let Some((name, found)) = matches.subcommand() else {
         return Ok(Line {
             files: Vec::new(alloc),
             workers: WORKERS,
@@ -193,16 +247,22 @@ fn line_of<'a>(alloc: Global, matches: &ArgMatches<'a>) -> Result<Line<'a>, Allo
             guess: false,
             history: false,
             annotates: false,
+            generates: false,
+            seed: 0,
+            size: 0,
         });
     };
     Ok(Line {
-        files: files_of(alloc, verify)?,
-        workers: workers_of(verify),
-        nodes: nodes_of(verify),
-        rows: most_rows_of(verify),
-        guess: flag_of(verify, "guess"),
-        history: flag_of(verify, "history"),
+        files: files_of(alloc, found)?,
+        workers: workers_of(found),
+        nodes: nodes_of(found),
+        rows: most_rows_of(found),
+        guess: flag_of(found, "guess"),
+        history: flag_of(found, "history"),
         annotates: is_annotate(name),
+        generates: is_generate(name),
+        seed: seed_of(found),
+        size: size_of(found),
     })
 }
 
@@ -220,6 +280,9 @@ pub fn read_line<'a>(alloc: Global, words: &'a [String]) -> Result<Line<'a>, Lin
     ensures guess { IfOk result (λ line. line.guess ≡ guess_in (texts_of words.now)) }
     ensures history { IfOk result (λ line. line.history ≡ history_in (texts_of words.now)) }
     ensures annotates { IfOk result (λ line. line.annotates ≡ annotates_in (texts_of words.now)) }
+    ensures generates { IfOk result (λ line. line.generates ≡ generates_in (texts_of words.now)) }
+    ensures seed { IfOk result (λ line. line.seed ≡ seed_in (texts_of words.now)) }
+    ensures size { IfOk result (λ line. line.size ≡ size_in (texts_of words.now)) }
     ensures refused { IsErrOf result LineError.Usage → IsTaken (texts_of words.now) → ⊥ }
 {
     let matches = match cli(alloc)?.try_get_matches_from(words) {

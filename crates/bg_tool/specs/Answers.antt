@@ -22,7 +22,7 @@ use Rattle.bg_tool.specs.declared.status.Status.{Status}
 use Rattle.bg_tool.specs.declared.status.Status.TheVariants as status
 use Rattle.bg_tool.specs.Statuses.{number_of, refusal_status, is_report, is_refused}
 use Rattle.bg_tool.specs.Reports.{IsTrueText, MayWrite}
-use Rattle.bg_cli.specs.Cli.{IsTaken, files_in, nodes_in, most_rows_in, guess_in, history_in, annotates_in}
+use Rattle.bg_cli.specs.Cli.{IsTaken, files_in, nodes_in, most_rows_in, guess_in, history_in, annotates_in, generates_in}
 use Rattle.bg_tree.specs.declared.outcome.Budget.{Budget}
 
 -- what a search may use up, as the words say
@@ -123,6 +123,10 @@ pub record WroteFrontOf (asked : Asked) (contents : Option (List ℕ → List �
 abbrev pub WroteSome : Asked → Option (List ℕ → List ℕ) → List (List ℕ) → Option (List ℕ) → Option (List ℕ) → Type 0
 WroteSome asked contents names before now = (now ≡ before) ⊎ WroteFrontOf asked contents names before now
 
+-- nothing was written, or the first bytes of the text
+abbrev pub WroteSomeOf : List ℕ → Option (List ℕ) → Option (List ℕ) → Type 0
+WroteSomeOf text before now = (now ≡ before) ⊎ ((count : ℕ) × (now ≡ joined before (take count text)))
+
 -- the text of these files is refused for a reason that gives the status, and its line was written, whole
 pub record Refuses (guess : Bool) (contents : Option (List ℕ → List ℕ)) (names : List (List ℕ)) (ends : Status) (before now : Option (List ℕ)) : Type 0 where
   pub bytes : List ℕ
@@ -148,7 +152,9 @@ pub record Judges (guess : Bool) (contents : Option (List ℕ → List ℕ)) (na
   pub refused : (held : List ℕ → List ℕ) (r : Refusal) → contents ≡ Some held → IsRefusedBy guess (joined_text held names) r → (ends ≡ refusal_status r) ⊎ (ends ≡ status.Memory)
   pub none : (held : List ℕ → List ℕ) → contents ≡ Some held → ((p : Program) → IsProgramOf guess (joined_text held names) p → ⊥) → IsTrue (is_refused ends) ⊎ (ends ≡ status.Memory)
 
--- the same of the files that taken words name; words that aren't taken are refused
+-- the same of the files that taken words name; where they ask for a program that is made, it is written, unless memory ran out; words
+-- that aren't taken are refused
 pub record Completes (contents : Option (List ℕ → List ℕ)) (words : List (List ℕ)) (ends : Status) : Type 0 where
-  pub taken : IsTaken words → Judges (guess_in words) contents (files_in words) ends
+  pub taken : generates_in words ≡ false → IsTaken words → Judges (guess_in words) contents (files_in words) ends
+  pub made : generates_in words ≡ true → IsTaken words → (ends ≡ status.Verified) ⊎ (ends ≡ status.Memory)
   pub usage : (IsTaken words → ⊥) → (ends ≡ status.Usage) ⊎ (ends ≡ status.Memory)

@@ -1,7 +1,7 @@
 //! The top call.
 ghost use Rattle.std.specs.Prelude.{◌≡◌, ◌⊎◌, ◌<◌, ◌≤◌, ℕ, Bool, true, false, List, ◌++◌, IsTrue, IfOk, IfErr, map, string_bytes, codes, length, ◌≢◌};
 ghost use Rattle.bg_io.specs.Causes.{Rose, joined, IsTextOf, IsTextOver};
-ghost use Rattle.bg_cli.specs.Cli.{IsTaken, texts_of, files_in, guess_in, history_in, annotates_in};
+ghost use Rattle.bg_cli.specs.Cli.{IsTaken, texts_of, files_in, guess_in, history_in, annotates_in, generates_in, seed_in, size_in};
 ghost use Rattle.bg_ast.specs.Views.{program_of};
 ghost use Rattle.bg_ast.specs.Meaning.{meaning_of};
 ghost use Rattle.bg_sense.specs.Typed.{IsTyped};
@@ -12,9 +12,10 @@ ghost use Rattle.bg_front.specs.Programs.{IsProgramOf, IsProgramFrom, IsRefused,
 ghost use Rattle.bg_front.specs.Refusals.{refusal_of};
 ghost use Rattle.bg_front.specs.Lines.{line_of};
 ghost use Rattle.bg_told.specs.Views.{status_in};
+ghost use Rattle.bg_gen.specs.Generated.{generated};
 ghost use Rattle.bg_tool.specs.Statuses.{number_of, refusal_status, is_report, is_refused, is_refusal};
 ghost use Rattle.bg_tool.specs.Reports.{IsTrueText, Wrote};
-ghost use Rattle.bg_tool.specs.Answers.{asked_in, AreSome, Answered, AnsweredSome, RefusedFor, IsReport, IsAnnotation, IsAnswer, WroteSome, Refuses, usage_line, NamesFile, Judges, Completes};
+ghost use Rattle.bg_tool.specs.Answers.{asked_in, AreSome, Answered, AnsweredSome, RefusedFor, IsReport, IsAnnotation, IsAnswer, WroteSome, WroteSomeOf, Refuses, usage_line, NamesFile, Judges, Completes};
 
 use crate::asked::Asked;
 use crate::report::text_of;
@@ -27,6 +28,7 @@ use bg_front::laws::{
     programs_are_typed,
 };
 use bg_front::{MOST_BYTES, ReadError as TextError, Refusal, Written, read_program, read_text};
+use bg_gen::generate;
 use bg_houdini::infer;
 use bg_houdini::laws::true_outcomes_are_sound;
 use bg_io::{Files, ReadError, Sink, read_all, write_all};
@@ -308,8 +310,26 @@ fn names_of(alloc: Global, files: &[&str]) -> Result<Vec<String>, AllocError>
     Ok(names)
 }
 
+/// Writes the program of a seed and a size.
+fn make<S: Sink>(alloc: Global, seed: u64, size: u32, out: &mut S) -> Status
+    ensures made { IsTrue (is_report result) → (result ≡ Status.Verified) × (S.written out.new ≡ joined (S.written out.old) (generated seed size)) }
+    ensures part { ((result ≡ Status.Write) ⊎ (result ≡ Status.Memory)) → WroteSomeOf (generated seed size) (S.written out.old) (S.written out.new) }
+    ensures ends { (Rose (S.faults out.old) (S.faults out.new) → ⊥) → (result ≡ Status.Verified) ⊎ (result ≡ Status.Memory) }
+    ensures cause { result ≡ Status.Write → Rose (S.faults out.old) (S.faults out.new) }
+    ensures fine { (IsTrue (is_refused result) → ⊥) × ((IsTrue (is_refusal result) → ⊥) × ((result ≢ Status.Usage) × (result ≢ Status.Read))) }
+{
+    let Ok(made) = generate(alloc, seed, size) else {
+        return Status::Memory;
+    };
+    match write_all(out, &made) {
+        Ok(()) => Status::Verified,
+        Err(_) => Status::Write,
+    }
+}
+
 /// Judges the program of the files that the words name, and writes its report to `out`, or the program with its retained annotations
-/// where the words ask for that; a refusal is one line on `err`.
+/// where the words ask for that; a refusal is one line on `err`. Where the words ask for a program of a seed and a size, it is written,
+/// and nothing is read or judged.
 /// What such a report tells is true of the program that the files spell (`sound`): with status 0 some interpretation meets it, and no
 /// execution of any implementation fails (`bg_sound`'s law `status_zero_is_safe`); two reports of one program agree where they should
 /// (`greatest_sets_agree`, `settled_words_agree`); and its bytes decide what it tells of sets and implementations (`bg_told`'s laws).
@@ -324,9 +344,10 @@ pub fn run<R: AllocGlobal + Threads + Sync, F: Files, S: Sink, E: Sink, G: Gate>
     gate: &G,
 ) -> Status
     ensures taken { (IsTrue (is_report result) ⊎ (IsTrue (is_refused result) ⊎ (result ≡ Status.Read))) → IsTaken (texts_of words.now) }
-    ensures sound { annotates_in (texts_of words.now) ≡ false → IsTrue (is_report result) → Wrote (IsTrueText (guess_in (texts_of words.now)) (history_in (texts_of words.now))) (F.contents files.old) (files_in (texts_of words.now)) result (S.written out.old) (S.written out.new) }
-    ensures report { annotates_in (texts_of words.now) ≡ false → IsTrue (is_report result) → Wrote (IsReport (asked_in (texts_of words.now))) (F.contents files.old) (files_in (texts_of words.now)) result (S.written out.old) (S.written out.new) }
+    ensures sound { generates_in (texts_of words.now) ≡ false → annotates_in (texts_of words.now) ≡ false → IsTrue (is_report result) → Wrote (IsTrueText (guess_in (texts_of words.now)) (history_in (texts_of words.now))) (F.contents files.old) (files_in (texts_of words.now)) result (S.written out.old) (S.written out.new) }
+    ensures report { generates_in (texts_of words.now) ≡ false → annotates_in (texts_of words.now) ≡ false → IsTrue (is_report result) → Wrote (IsReport (asked_in (texts_of words.now))) (F.contents files.old) (files_in (texts_of words.now)) result (S.written out.old) (S.written out.new) }
     ensures annotation { annotates_in (texts_of words.now) ≡ true → IsTrue (is_report result) → Wrote (IsAnnotation (asked_in (texts_of words.now))) (F.contents files.old) (files_in (texts_of words.now)) result (S.written out.old) (S.written out.new) }
+    ensures generation { generates_in (texts_of words.now) ≡ true → IsTrue (is_report result) → (result ≡ Status.Verified) × (S.written out.new ≡ joined (S.written out.old) (generated (seed_in (texts_of words.now)) (size_in (texts_of words.now)))) }
     ensures quiet { (IsTrue (is_report result) ⊎ (result ≡ Status.Memory)) → E.written err.new ≡ E.written err.old }
     ensures text { IsTrue (is_refused result) → Refuses (guess_in (texts_of words.now)) (F.contents files.old) (files_in (texts_of words.now)) result (E.written err.old) (E.written err.new) }
     ensures usage { result ≡ Status.Usage → IsTaken (texts_of words.now) → ⊥ }
@@ -335,7 +356,8 @@ pub fn run<R: AllocGlobal + Threads + Sync, F: Files, S: Sink, E: Sink, G: Gate>
     ensures line { result ≡ Status.Usage → E.written err.new ≡ joined (E.written err.old) usage_line }
     ensures file { result ≡ Status.Read → NamesFile (files_in (texts_of words.now)) (F.starts files.old) (F.starts files.new) (E.written err.old) (E.written err.new) }
     ensures still { IsTrue (is_refusal result) → S.written out.new ≡ S.written out.old }
-    ensures prefix { ((result ≡ Status.Write) ⊎ (result ≡ Status.Memory)) → WroteSome (asked_in (texts_of words.now)) (F.contents files.old) (files_in (texts_of words.now)) (S.written out.old) (S.written out.new) }
+    ensures front { generates_in (texts_of words.now) ≡ true → ((result ≡ Status.Write) ⊎ (result ≡ Status.Memory)) → WroteSomeOf (generated (seed_in (texts_of words.now)) (size_in (texts_of words.now))) (S.written out.old) (S.written out.new) }
+    ensures prefix { generates_in (texts_of words.now) ≡ false → ((result ≡ Status.Write) ⊎ (result ≡ Status.Memory)) → WroteSome (asked_in (texts_of words.now)) (F.contents files.old) (files_in (texts_of words.now)) (S.written out.old) (S.written out.new) }
     ensures complete { (Rose (F.faults files.old) (F.faults files.new) → ⊥) → (Rose (S.faults out.old) (S.faults out.new) → ⊥) → (Rose (E.faults err.old) (E.faults err.new) → ⊥) → Completes (F.contents files.old) (texts_of words.now) result }
 {
     let line = match read_line(rt.alloc(), words) {
@@ -349,6 +371,9 @@ pub fn run<R: AllocGlobal + Threads + Sync, F: Files, S: Sink, E: Sink, G: Gate>
             );
         }
     };
+    if line.generates {
+        return make(rt.alloc(), line.seed, line.size, out);
+    }
     let Ok(names) = names_of(rt.alloc(), &line.files) else {
         return Status::Memory;
     };

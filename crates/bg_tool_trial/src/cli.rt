@@ -10,7 +10,15 @@ type Case = (
     Option<(&'static str, u32, u32, u32)>,
 );
 
-const WORDS: [Case; 27] = [
+const WORDS: [Case; 32] = [
+    (
+        &["bg", "generate", "1", "4294967295"],
+        Some(("", 4, 20_000, 20_000)),
+    ),
+    (&["bg", "generate", "1", "4294967296"], None),
+    (&["bg", "generate", "18446744073709551616", "1"], None),
+    (&["bg", "generate", "1"], None),
+    (&["bg", "generate", "1", "2", "3"], None),
     (
         &["bg", "verify", "a.bpl"],
         Some(("a.bpl", 4, 20_000, 20_000)),

@@ -26,6 +26,11 @@ const BAD: &str = "procedure P(a: bool, b: bool, c: bool) { assert a && b || c; 
 
 const USAGE: &str = "usage: bg verify|annotate|certify|check|generate|bench ..\n";
 
+/// The program of seed 1 and size 2.
+const MADE: &str =
+    "const {:existential true} a0: bool;\nconst {:existential true} d0: bool;\nconst {:existential true} e0: bool;\nprocedure G0(n: int) returns (i: int)\n  requires 0 <= n;\n  ensures i == n + 8;\n{\n  i := 8;\n  while (i < n + 8)\n    invariant a0 ==> i >= 8;\n    invariant e0 ==> i <= n + 8;\n    invariant d0 ==> i >= 9;\n  {\n    i := i + 1;\n  }\n}\n\
+    const {:existential true} a1: bool;\nconst {:existential true} d1: bool;\nconst {:existential true} e1: bool;\nprocedure G1(n: int) returns (i: int)\n  requires 0 <= n;\n  ensures i == n + 3;\n{\n  var j: int;\n  call j := G0(n);\n  assert j == n + 8;\n  i := 3;\n  while (i < n + 3)\n    invariant a1 ==> i >= 3;\n    invariant e1 ==> i <= n + 3;\n    invariant d1 ==> i >= 4;\n  {\n    i := i + 1;\n  }\n}\n";
+
 /// The 201st bracket is open.
 const TOO_DEEP: &str =
     "var m: [[[[[[[[[[[[[[[[[[[[[[[[[[[[[[[[[[[[[[[[[[[[[[[[[[[[[[[[[[[[[[[[[[[[[[[[[[[[[[[[[[[[[[[[[[\
@@ -65,7 +70,21 @@ type Case = (
     &'static str,
 );
 
-const TEXTS: [Case; 25] = [
+const TEXTS: [Case; 27] = [
+    (
+        &["bg", "generate", "1", "2"],
+        "",
+        Status::Verified,
+        MADE,
+        "",
+    ),
+    (
+        &["bg", "generate", "18446744073709551615", "0"],
+        "",
+        Status::Verified,
+        "",
+        "",
+    ),
     (VERIFY, COPY, Status::Verified, COPY_REPORT, ""),
     (VERIFY, "", Status::Verified, EMPTY_REPORT, ""),
     (VERIFY, "// forall", Status::Verified, EMPTY_REPORT, ""),

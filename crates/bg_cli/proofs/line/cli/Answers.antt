@@ -2,7 +2,7 @@ use Rattle.std.proofs.Common.{ap, ap₂, codes, ◌≡◌, ◌∙◌}
 use Rattle.std.proofs.lemmas.Result.{IfOk-weaker}
 use Rattle.clap.specs.Walk.{rule_of}
 use Rattle.clap.specs.Simple.{App, app_of, app_of_fields, new_app, with_rule, with_subcommand}
-use Rattle.bg_cli.specs.Cli.{workers, nodes, most_rows, guess, history, verify, annotate, required, cli}
+use Rattle.bg_cli.specs.Cli.{workers, nodes, most_rows, guess, history, verify, annotate, seed, size, generate, required, cli}
 use Rattle.bg_cli.proofs.Finds.{none_global}
 use Rattle.bg_cli.proofs.line.cli.Goals as goal
 
@@ -26,7 +26,14 @@ returns c =
     ∙ ap₂ with_rule (c.in_ok-arg-9.ensures.shape c.flag-3.ensures.own ∙ ap₂ with_rule (c.in_ok-arg-8.ensures.shape c.budget-4.ensures.own ∙ ap₂ with_rule (c.in_ok-arg-7.ensures.shape c.budget-3.ensures.own ∙ ap₂ with_rule (c.in_ok-arg-6.ensures.shape c.workers-2.ensures.own ∙ ap₂ with_rule c.new-2.ensures.app workers_too) nodes_too) rows_too) guess_too) c.files-2.ensures.rule in
     let verify_own = none_global _ _ _ c.in_ok-verify.ensures.globals (none_global _ _ _ c.in_ok-arg-5.ensures.globals (none_global _ _ _ c.in_ok-arg-4.ensures.globals (none_global _ _ _ c.in_ok-arg-3.ensures.globals (none_global _ _ _ c.in_ok-arg-2.ensures.globals (none_global _ _ _ c.in_ok-arg.ensures.globals c.new.ensures.local c.workers.ensures.own) c.budget.ensures.own) c.budget-2.ensures.own) c.flag.ensures.own) c.flag-2.ensures.own) c.files.ensures.own in
     let annotate_own = none_global _ _ _ c.in_ok-annotate.ensures.globals (none_global _ _ _ c.in_ok-arg-9.ensures.globals (none_global _ _ _ c.in_ok-arg-8.ensures.globals (none_global _ _ _ c.in_ok-arg-7.ensures.globals (none_global _ _ _ c.in_ok-arg-6.ensures.globals c.new-2.ensures.local c.workers-2.ensures.own) c.budget-3.ensures.own) c.budget-4.ensures.own) c.flag-3.ensures.own) c.files-2.ensures.own in
-    let bg_is : app_of c.subcommand_required.result ≡ required (new_app (codes "bg")) = ap app_of_fields c.subcommand_required.ensures ∙ ap required c.new-3.ensures.app in
+    let seed_is : rule_of c.seed.result ≡ seed = c.seed.ensures.rule in
+    let size_is : rule_of c.size.result ≡ size = c.size.ensures.rule in
+    let generate_is : app_of c.in_ok-generate.generate ≡ generate =
+    c.in_ok-generate.ensures.shape c.size.ensures.own ∙ ap₂ with_rule (c.in_ok-arg-10.ensures.shape c.seed.ensures.own ∙ ap₂ with_rule c.new-3.ensures.app seed_is) size_is in
+    let generate_own = none_global _ _ _ c.in_ok-generate.ensures.globals (none_global _ _ _ c.in_ok-arg-10.ensures.globals c.new-3.ensures.local c.seed.ensures.own) c.size.ensures.own in
+    let bg_is : app_of c.subcommand_required.result ≡ required (new_app (codes "bg")) = ap app_of_fields c.subcommand_required.ensures ∙ ap required c.new-4.ensures.app in
     let first_is : app_of c.in_ok-subcommand.field-0 ≡ with_subcommand (required (new_app (codes "bg"))) verify.top =
     c.in_ok-subcommand.ensures.shape verify_own ∙ ap₂ with_subcommand bg_is (ap (λ (x : App). x.top) verify_is) in
-    IfOk-weaker c.subcommand-2.result _ _ (λ m h. h.shape annotate_own ∙ ap₂ with_subcommand first_is (ap (λ (x : App). x.top) annotate_is)) c.subcommand-2.ensures
+    let second_is : app_of c.in_ok-subcommand-2.field-0 ≡ with_subcommand (with_subcommand (required (new_app (codes "bg"))) verify.top) annotate.top =
+    c.in_ok-subcommand-2.ensures.shape annotate_own ∙ ap₂ with_subcommand first_is (ap (λ (x : App). x.top) annotate_is) in
+    IfOk-weaker c.subcommand-3.result _ _ (λ m h. h.shape generate_own ∙ ap₂ with_subcommand second_is (ap (λ (x : App). x.top) generate_is)) c.subcommand-3.ensures
