@@ -33,7 +33,6 @@ use Rattle.bg_atoms.specs.Kinds.{IsTruth}
 use Rattle.bg_atoms.specs.Orders.{before_sign, behind_sign}
 use Rattle.bg_atoms.specs.Over.{relates_numbers, relation_ex, over, refusal, first_refused}
 use Rattle.bg_atoms.specs.Worlds.{Means}
-use Rattle.bg_atoms.specs.Parts.{HasRelation, on_left, on_right, denied}
 
 one_link : (ls old : List Link) (l : Link) → ls ≡ old ++ l ∷ [] → old ≡ [] → map u.link_view ls ≡ u.link_view l ∷ []
 one_link ls old l h k = rw (h, k) refl
@@ -48,7 +47,7 @@ and-is b ls old l a h is none sign =
 
 -- ---- kinds of truths
 
-truth_given : (b : Bool) → is_truth (truth_if b) ≡ true → b ≡ true
+pub truth_given : (b : Bool) → is_truth (truth_if b) ≡ true → b ≡ true
 truth_given true h = refl
 truth_given false h = absurd (let bad : ⊥ = cc in bad)
 
@@ -68,25 +67,25 @@ no_number (Some kind.Truth) h k = let bad : ⊥ = cc in bad
 no_number (Some kind.Constant) h k = let bad : ⊥ = cc in bad
 no_number (Some kind.Number) h k = let bad : ⊥ = cc in bad
 
-no_sides : (a b : Option Kind) → is_truth (related_kind a b) ≡ true → (is_number a && is_number b) ≡ false → ⊥
+pub no_sides : (a b : Option Kind) → is_truth (related_kind a b) ≡ true → (is_number a && is_number b) ≡ false → ⊥
 no_sides a b h k =
     let both = truth_given (is_number a && is_number b) h in
     let bad : ⊥ = cc in
     bad
 
-equal_truths : (a b : Option Kind) → is_truth a ≡ true → is_truth (equal_kind a b) ≡ true → is_truth b ≡ true
+pub equal_truths : (a b : Option Kind) → is_truth a ≡ true → is_truth (equal_kind a b) ≡ true → is_truth b ≡ true
 equal_truths None b k h = absurd (let bad : ⊥ = cc in bad)
 equal_truths (Some kind.Truth) b k h = (two_truths (Some kind.Truth) b h).1
 equal_truths (Some kind.Constant) b k h = absurd (let bad : ⊥ = cc in bad)
 equal_truths (Some kind.Number) b k h = absurd (let bad : ⊥ = cc in bad)
 
-equal_sides : (a b : Option Kind) → is_truth (equal_kind a b) ≡ true → (is_number a && is_number b) ≡ false → is_truth a ≡ true
+pub equal_sides : (a b : Option Kind) → is_truth (equal_kind a b) ≡ true → (is_number a && is_number b) ≡ false → is_truth a ≡ true
 equal_sides None b h k = absurd (no_sides None b h k)
 equal_sides (Some kind.Truth) b h k = refl
 equal_sides (Some kind.Constant) b h k = absurd (no_sides (Some kind.Constant) b h k)
 equal_sides (Some kind.Number) b h k = absurd (no_sides (Some kind.Number) b h k)
 
-number_alone : (k : Option Kind) → is_truth (number_only k) ≡ true → ⊥
+pub number_alone : (k : Option Kind) → is_truth (number_only k) ≡ true → ⊥
 number_alone None h = let bad : ⊥ = cc in bad
 number_alone (Some kind.Truth) h = let bad : ⊥ = cc in bad
 number_alone (Some kind.Constant) h = let bad : ⊥ = cc in bad
@@ -221,6 +220,22 @@ relation_is p op.Times e ls a l = absurd (let bad : ⊥ = cc in bad)
 
 -- ---- one more sign behind a truth
 
+pub implies_is : (sign : InfixSign) → is_implies sign ≡ true → sign ≡ op.Implies
+implies_is op.Iff h = absurd (let bad : ⊥ = cc in bad)
+implies_is op.Implies h = refl
+implies_is op.Explies h = absurd (let bad : ⊥ = cc in bad)
+implies_is op.And h = absurd (let bad : ⊥ = cc in bad)
+implies_is op.Or h = absurd (let bad : ⊥ = cc in bad)
+implies_is op.Equal h = absurd (let bad : ⊥ = cc in bad)
+implies_is op.Unequal h = absurd (let bad : ⊥ = cc in bad)
+implies_is op.Less h = absurd (let bad : ⊥ = cc in bad)
+implies_is op.AtMost h = absurd (let bad : ⊥ = cc in bad)
+implies_is op.Greater h = absurd (let bad : ⊥ = cc in bad)
+implies_is op.AtLeast h = absurd (let bad : ⊥ = cc in bad)
+implies_is op.Plus h = absurd (let bad : ⊥ = cc in bad)
+implies_is op.Minus h = absurd (let bad : ⊥ = cc in bad)
+implies_is op.Times h = absurd (let bad : ⊥ = cc in bad)
+
 pub next_is : (sign : InfixSign) → is_implies sign ≡ false → (p : Pos) (e : r.Ex) (ls : r.Links) (a : s.Ex) → m.chained a (r.Link p sign e ls) ≡ m.chained (m.infix_of sign a (m.ex_of e)) ls
 next_is op.Iff i p e ls a = refl
 next_is op.Implies i p e ls a = absurd (let bad : ⊥ = cc in bad)
@@ -238,7 +253,7 @@ next_is op.Minus i p e ls a = refl
 next_is op.Times i p e ls a = refl
 
 module _ (sorts : List Sort) where
-  infix_other : (sign : InfixSign) → is_implies sign ≡ false → (a e : s.Ex) → NoNumber sorts a → NoNumber sorts (m.infix_of sign a e)
+  pub infix_other : (sign : InfixSign) → is_implies sign ≡ false → (a e : s.Ex) → NoNumber sorts a → NoNumber sorts (m.infix_of sign a e)
   infix_other op.Iff i a e n = no_truth _
   infix_other op.Implies i a e n = absurd (let bad : ⊥ = cc in bad)
   infix_other op.Explies i a e n = no_truth _
@@ -287,7 +302,7 @@ none_both : (o p : Option OutOfRange) → first_of o p ≡ None → (o ≡ None)
 none_both None p h = (refl, h)
 none_both (Some x) p h = absurd (let bad : ⊥ = cc in bad)
 
-no_numbers : (sorts : List Sort) (o : s.Op) (a b : s.Ex) → NoNumber sorts a → relates_numbers sorts o a b ≡ false
+pub no_numbers : (sorts : List Sort) (o : s.Op) (a b : s.Ex) → NoNumber sorts a → relates_numbers sorts o a b ≡ false
 no_numbers sorts o a b h = and_no (relates o) (is_number (kind_ex sorts a)) (is_number (kind_ex sorts b)) h
 
 over_parts : (sorts : List Sort) (n : ℕ) (rows : List AtomOf) (o : s.Op) (a b : s.Ex) → relates_numbers sorts o a b ≡ false → over sorts n rows (s.Binary o a b) ≡ s.Binary o (over sorts n rows a) (over sorts n rows b)
@@ -395,55 +410,6 @@ module _ (sorts : List Sort) where
       let made = infix_refused sign i a (m.ex_of e) t ∙ ap (λ x. behind_sign sign x (first_refused sorts (m.ex_of e))) is ∙ ap (λ x. behind_sign sign here x) right in
       ap (first_refused sorts) (next_is sign i p e ls a) ∙ rest (m.infix_of sign a (m.ex_of e)) both (subst (IsTruth sorts) (next_is sign i p e ls a) w) made
 
--- ---- relations in a chain
-
-module _ (sorts : List Sort) (P : s.Op → s.Ex → s.Ex → Type 0) where
-  pub first_has : (ls : r.Links) (a : s.Ex) → HasRelation sorts P a → HasRelation sorts P (m.chained a ls)
-  first_has r.NoLink a h = h
-  first_has (r.Link p op.Iff e ls) a h = first_has ls _ (on_left s.Iff a (m.ex_of e) h)
-  first_has (r.Link p op.Implies e ls) a h = on_left s.Implies a _ h
-  first_has (r.Link p op.Explies e ls) a h = first_has ls _ (on_right s.Implies (m.ex_of e) a h)
-  first_has (r.Link p op.And e ls) a h = first_has ls _ (on_left s.And a (m.ex_of e) h)
-  first_has (r.Link p op.Or e ls) a h = first_has ls _ (on_left s.Or a (m.ex_of e) h)
-  first_has (r.Link p op.Equal e ls) a h = first_has ls _ (on_left s.Equal a (m.ex_of e) h)
-  first_has (r.Link p op.Unequal e ls) a h = first_has ls _ (on_left s.Unequal a (m.ex_of e) h)
-  first_has (r.Link p op.Less e ls) a h = first_has ls _ (on_left s.Less a (m.ex_of e) h)
-  first_has (r.Link p op.AtMost e ls) a h = first_has ls _ (on_left s.AtMost a (m.ex_of e) h)
-  first_has (r.Link p op.Greater e ls) a h = first_has ls _ (on_left s.Greater a (m.ex_of e) h)
-  first_has (r.Link p op.AtLeast e ls) a h = first_has ls _ (on_left s.AtLeast a (m.ex_of e) h)
-  first_has (r.Link p op.Plus e ls) a h = first_has ls _ (on_left s.Plus a (m.ex_of e) h)
-  first_has (r.Link p op.Minus e ls) a h = first_has ls _ (on_left s.Minus a (m.ex_of e) h)
-  first_has (r.Link p op.Times e ls) a h = first_has ls _ (on_left s.Times a (m.ex_of e) h)
-
-  -- in the operand behind a sign
-  next_has : (p : Pos) (sign : InfixSign) (e : r.Ex) (ls : r.Links) (a : s.Ex) → HasRelation sorts P (m.ex_of e) → HasRelation sorts P (m.chained a (r.Link p sign e ls))
-  next_has p op.Iff e ls a h = first_has ls _ (on_right s.Iff a (m.ex_of e) h)
-  next_has p op.Implies e ls a h = on_right s.Implies a _ (first_has ls (m.ex_of e) h)
-  next_has p op.Explies e ls a h = first_has ls _ (on_left s.Implies (m.ex_of e) a h)
-  next_has p op.And e ls a h = first_has ls _ (on_right s.And a (m.ex_of e) h)
-  next_has p op.Or e ls a h = first_has ls _ (on_right s.Or a (m.ex_of e) h)
-  next_has p op.Equal e ls a h = first_has ls _ (on_right s.Equal a (m.ex_of e) h)
-  next_has p op.Unequal e ls a h = first_has ls _ (on_right s.Unequal a (m.ex_of e) h)
-  next_has p op.Less e ls a h = first_has ls _ (on_right s.Less a (m.ex_of e) h)
-  next_has p op.AtMost e ls a h = first_has ls _ (on_right s.AtMost a (m.ex_of e) h)
-  next_has p op.Greater e ls a h = first_has ls _ (on_right s.Greater a (m.ex_of e) h)
-  next_has p op.AtLeast e ls a h = first_has ls _ (on_right s.AtLeast a (m.ex_of e) h)
-  next_has p op.Plus e ls a h = first_has ls _ (on_right s.Plus a (m.ex_of e) h)
-  next_has p op.Minus e ls a h = first_has ls _ (on_right s.Minus a (m.ex_of e) h)
-  next_has p op.Times e ls a h = first_has ls _ (on_right s.Times a (m.ex_of e) h)
-
-  abbrev pub Has : r.Links → Type 0
-  Has ls = (b : s.Ex) → IsTruth sorts b → IsTruth sorts (m.chained b ls) → HasRelation sorts P (m.chained b ls)
-
-  pub operand_has : (sign : InfixSign) → is_implies sign ≡ false → (p : Pos) (e : r.Ex) (ls : r.Links) → (IsTruth sorts (m.ex_of e) → HasRelation sorts P (m.ex_of e)) → Has (r.Link p sign e ls)
-  operand_has sign i p e ls h a t w =
-      next_has p sign e ls a (h (infix_right sorts sign i a (m.ex_of e) t (infix_truth sorts sign i p e ls a t w)))
-
-  -- in what stands behind one more operand
-  pub step_has : (sign : InfixSign) → is_implies sign ≡ false → (p : Pos) (e : r.Ex) (ls : r.Links) → Has ls → Has (r.Link p sign e ls)
-  step_has sign i p e ls h a t w =
-      subst (HasRelation sorts P) (sym (next_is sign i p e ls a)) (h _ (infix_truth sorts sign i p e ls a t w) (subst (IsTruth sorts) (next_is sign i p e ls a) w))
-
 -- ---- rows of signs
 
 prefix_truth : (sorts : List Sort) (sign : PrefixSign) (a : s.Ex) → is_truth (kind_ex sorts (m.prefix_of sign a)) ≡ true → (sign ≡ prefix.Not) × (is_truth (kind_ex sorts a) ≡ true)
@@ -465,12 +431,6 @@ signed_refused sorts [] a t = refl
 signed_refused sorts (y ∷ xs) a t =
     let k = prefix_truth sorts y.sign (m.signed xs a) t in
     ap (λ g. first_refused sorts (m.prefix_of g (m.signed xs a))) k.0 ∙ signed_refused sorts xs a k.1
-
-pub signed_has : (sorts : List Sort) (P : s.Op → s.Ex → s.Ex → Type 0) (xs : List TreePrefix) (a : s.Ex) → is_truth (kind_ex sorts (m.signed xs a)) ≡ true → HasRelation sorts P a → HasRelation sorts P (m.signed xs a)
-signed_has sorts P [] a t h = h
-signed_has sorts P (y ∷ xs) a t h =
-    let k = prefix_truth sorts y.sign (m.signed xs a) t in
-    subst (λ g. HasRelation sorts P (m.prefix_of g (m.signed xs a))) (sym k.0) (denied (m.signed xs a) (signed_has sorts P xs a k.1 h))
 
 -- ---- brackets
 

@@ -6,7 +6,6 @@ use Rattle.bg_sense.specs.Eval.{Scope}
 use Rattle.bg_passive.specs.Passive.{PassiveCmd, Claims, Supposes, Edge, PassiveBlock}
 use Rattle.bg_formula.specs.declared.atom.Linear.{Linear}
 use Rattle.bg_formula.specs.Atoms.{AtomOf, view_linear}
-use Rattle.bg_formula.specs.Formulas.{rows_below}
 use Rattle.bg_formula.specs.Meaning.{AtomsAgree}
 use Rattle.bg_formed.specs.Agree.{AreRows, RowsAgree}
 use Rattle.bg_formed.specs.Formed.{Says, FormCmd, Asks, Takes, FormEdge, FormBlock, form_below, said, fits_candidate, cmds_below, edges_below, blocks_below}
@@ -14,12 +13,9 @@ use Rattle.bg_formed.specs.Said.{IsSaid, SaidCmds, SaidEdges, SaidBlocks}
 use Rattle.bg_formed.proofs.Below.{and_left, and_right, and_both}
 use Rattle.bg_linear.specs.declared.scalar.Sort.{Sort}
 use Rattle.bg_linear.specs.Sorts.{kind_ex, is_truth, HoldScalars}
-use Rattle.bg_atoms.specs.declared.table.Table.{Table}
 use Rattle.bg_atoms.specs.Ranks.{rank}
 use Rattle.bg_atoms.specs.Encoded.{cmd_over, edge_over, blocks_over}
 use Rattle.bg_atoms.specs.Worlds.{Begins}
-use Rattle.bg_atoms.specs.Made.{rows_in}
-use Rattle.bg_atoms.specs.Growing.{Grows}
 use Rattle.bg_atoms.specs.Sorted.{cmds_sorted, edges_sorted, blocks_sorted}
 use Rattle.bg_atoms.specs.Told.{IsWorth, CmdsTold, EdgesTold, BlocksTold}
 use Rattle.bg_atoms.proofs.Lists.{begins_itself}
@@ -150,10 +146,3 @@ module _ (sorts : List Sort) (m n : ℕ) (rows : List AtomOf) where
 pub told_now : (sorts sorts' : List Sort) (n n' : ℕ) (rows rows' : List Linear) (bs : List PassiveBlock) (fs : List FormBlock) → sorts ≡ sorts' → n ≡ n' → rows' ≡ rows → ((all : List AtomOf) → Begins (map view_linear rows) all → BlocksTold sorts n all bs fs) → BlocksTold sorts' n' (map view_linear rows') bs fs
 told_now sorts sorts' n n' rows rows' bs fs h k is told =
     subst (λ l. BlocksTold l n' (map view_linear rows') bs fs) h (subst (λ b. BlocksTold sorts b (map view_linear rows') bs fs) k (told (map view_linear rows') (subst (λ l. Begins (map view_linear rows) (map view_linear l)) (sym is) (begins_itself (map view_linear rows)))))
-
--- rows that grew from none name incarnations that are there
-pub inside_now : (sorts sorts' : List Sort) (base terms : ℕ) (start end : Table) (rows : List Linear) → sorts ≡ sorts' → terms ≡ length sorts' → start.rows.items ≡ [] → rows ≡ end.rows.items → Grows base (length sorts) start end → rows_below terms (map view_linear rows) ≡ true
-inside_now sorts sorts' base terms start end rows h k none is grows =
-    let same : terms ≡ length sorts = k ∙ ap length (sym h) in
-    let first : rows_below (length sorts) (rows_in start.rows) ≡ true = ap (λ l. rows_below (length sorts) (map view_linear l)) none in
-    subst (λ n. rows_below n (map view_linear rows) ≡ true) (sym same) (ap (λ l. rows_below (length sorts) (map view_linear l)) is ∙ grows.inside first)

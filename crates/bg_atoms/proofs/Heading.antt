@@ -1,6 +1,6 @@
 -- The relations of numbers with which chains begin.
-use Rattle.std.proofs.Common.{◌≡◌, ◌<◌, ◌≤◌, ◌+◌, ℕ, Bool, true, false, List, [], ◌∷◌, ◌++◌, length, take, drop, map, get_or, refl, sym, ap, ◌∙◌, subst, arith}
-use Rattle.std.specs.Prelude.{◌&&◌}
+use Rattle.std.proofs.Common.{◌≡◌, ◌<◌, ◌≤◌, ◌+◌, ℕ, suc, Bool, true, false, List, [], ◌∷◌, ◌++◌, length, take, drop, map, get_or, refl, sym, ap, ◌∙◌, subst, arith}
+use Rattle.std.specs.Prelude.{◌&&◌, if◌then◌else◌}
 use Rattle.std.proofs.lemmas.List.{take-append-drop, take_more, drop_all}
 use Rattle.bg_text.specs.declared.expr.InfixSign.{InfixSign}
 use Rattle.bg_text.specs.declared.expr.InfixSign.TheVariants as op
@@ -14,11 +14,14 @@ use Rattle.bg_linear.specs.declared.scalar.Sort.{Sort}
 use Rattle.bg_linear.specs.Chains.{is_implies}
 use Rattle.bg_linear.specs.Relations.{relates, op_of}
 use Rattle.bg_linear.specs.Sorts.{kind_ex, is_number}
+use Rattle.bg_linear.proofs.Sides.{no_truth, no_equal}
 use Rattle.bg_linear.proofs.Chained.{drop_item}
 use Rattle.bg_atoms.specs.Kinds.{IsTruth, IsNumber}
+use Rattle.bg_atoms.specs.Over.{relates_numbers}
 use Rattle.bg_atoms.specs.Made.{behind}
-use Rattle.bg_atoms.specs.Heads.{is_arithmetic, all_arithmetic, begins_arithmetic, IsSums, Relates, IsRelation, IsHead, IsNext}
-use Rattle.bg_atoms.proofs.Chained.{is_logical, no_sum, no_product, next_is, relation_is, left_truth, relation_sides, relation_other}
+use Rattle.bg_atoms.specs.Turned.{until_implies}
+use Rattle.bg_atoms.specs.Heads.{is_arithmetic, all_arithmetic, begins_arithmetic, IsSums, Relates, IsRelation, NoneRelates, IsHead, IsNext}
+use Rattle.bg_atoms.proofs.Chained.{is_logical, NoNumber, no_sum, no_product, no_numbers, infix_other, next_is, relation_is, left_truth, relation_sides, relation_other}
 
 -- ---- signs between numbers
 
@@ -120,6 +123,77 @@ relation_apart front l rest a h k =
     sums_apart front (l ∷ rest) a h
     ∙ relation_is l.pos l.sign (u.ex_of l.operand) (u.links_of (map u.link_view rest)) (behind a front) k
 
+-- ---- links before the next `==>`
+
+pub until_more : (links : List Link) (n i : ℕ) (l : Link) → i < length links → l ≡ get_or links i l → is_implies l.sign ≡ false → n + until_implies (drop i links) ≡ until_implies links → n + 1 + until_implies (drop (i + 1) links) ≡ until_implies links
+until_more links n i l lt is k h =
+    let here : until_implies (drop i links) ≡ suc (until_implies (drop (i + 1) links)) = ap until_implies (drop_item links i l lt is) ∙ ap (λ b. if b then 0 else suc (until_implies (drop (i + 1) links))) k in
+    omega (arith, here, h)
+
+pub until_stop : (links : List Link) (n i : ℕ) (l : Link) → i < length links → l ≡ get_or links i l → is_implies l.sign ≡ true → n + until_implies (drop i links) ≡ until_implies links → n ≡ until_implies links
+until_stop links n i l lt is k h =
+    let here : until_implies (drop i links) ≡ 0 = ap until_implies (drop_item links i l lt is) ∙ ap (λ b. if b then 0 else suc (until_implies (drop (i + 1) links))) k in
+    omega (arith, here, h)
+
+pub until_end : (links : List Link) (n i : ℕ) → length links ≤ i → n + until_implies (drop i links) ≡ until_implies links → n ≡ until_implies links
+until_end links n i end h =
+    let here : until_implies (drop i links) ≡ 0 = ap until_implies (drop_all i links end) in
+    omega (arith, here, h)
+
+-- ---- signs that relate no numbers
+
+-- whether a link relates this number with another one
+abbrev relates_it : List Sort → s.Ex → Link → Bool
+relates_it sorts b l = relates_numbers sorts (op_of l.sign) b (m.ex_of (u.ex_of l.operand))
+
+arithmetic_apart : (sorts : List Sort) (sign : InfixSign) (a e : s.Ex) → is_arithmetic sign ≡ true → relates_numbers sorts (op_of sign) a e ≡ false
+arithmetic_apart sorts op.Iff a e h = absurd (let bad : ⊥ = cc in bad)
+arithmetic_apart sorts op.Implies a e h = absurd (let bad : ⊥ = cc in bad)
+arithmetic_apart sorts op.Explies a e h = absurd (let bad : ⊥ = cc in bad)
+arithmetic_apart sorts op.And a e h = absurd (let bad : ⊥ = cc in bad)
+arithmetic_apart sorts op.Or a e h = absurd (let bad : ⊥ = cc in bad)
+arithmetic_apart sorts op.Equal a e h = absurd (let bad : ⊥ = cc in bad)
+arithmetic_apart sorts op.Unequal a e h = absurd (let bad : ⊥ = cc in bad)
+arithmetic_apart sorts op.Less a e h = absurd (let bad : ⊥ = cc in bad)
+arithmetic_apart sorts op.AtMost a e h = absurd (let bad : ⊥ = cc in bad)
+arithmetic_apart sorts op.Greater a e h = absurd (let bad : ⊥ = cc in bad)
+arithmetic_apart sorts op.AtLeast a e h = absurd (let bad : ⊥ = cc in bad)
+arithmetic_apart sorts op.Plus a e h = refl
+arithmetic_apart sorts op.Minus a e h = refl
+arithmetic_apart sorts op.Times a e h = refl
+
+-- what a sign makes that stands not between numbers alone is no number
+other_number : (sorts : List Sort) (sign : InfixSign) (a e : s.Ex) → is_arithmetic sign ≡ false → NoNumber sorts (m.infix_of sign a e)
+other_number sorts op.Iff a e h = no_truth _
+other_number sorts op.Implies a e h = no_truth _
+other_number sorts op.Explies a e h = no_truth _
+other_number sorts op.And a e h = no_truth _
+other_number sorts op.Or a e h = no_truth _
+other_number sorts op.Equal a e h = no_equal (kind_ex sorts a) (kind_ex sorts e)
+other_number sorts op.Unequal a e h = no_equal (kind_ex sorts a) (kind_ex sorts e)
+other_number sorts op.Less a e h = no_truth _
+other_number sorts op.AtMost a e h = no_truth _
+other_number sorts op.Greater a e h = no_truth _
+other_number sorts op.AtLeast a e h = no_truth _
+other_number sorts op.Plus a e h = absurd (let bad : ⊥ = cc in bad)
+other_number sorts op.Minus a e h = absurd (let bad : ⊥ = cc in bad)
+other_number sorts op.Times a e h = absurd (let bad : ⊥ = cc in bad)
+
+-- behind what is no number
+none_behind : (sorts : List Sort) (ls : List Link) (a : s.Ex) → NoNumber sorts a → NoneRelates sorts a ls
+none_behind sorts [] a h = tt
+none_behind sorts (l ∷ ls) a h =
+    let right = m.ex_of (u.ex_of l.operand) in
+    λ i. (no_numbers sorts (op_of l.sign) a right h, none_behind sorts ls (m.infix_of l.sign a right) (infix_other sorts l.sign i a right h))
+
+-- behind signs between numbers
+none_sums : (sorts : List Sort) (front rest : List Link) (a : s.Ex) → all_arithmetic front ≡ true → NoneRelates sorts (behind a front) rest → NoneRelates sorts a (front ++ rest)
+none_sums sorts [] rest a h k = k
+none_sums sorts (l ∷ front) rest a h k =
+    let both = all_of l front h in
+    let right = m.ex_of (u.ex_of l.operand) in
+    λ i. (arithmetic_apart sorts l.sign a right both.0, none_sums sorts front rest (m.infix_of l.sign a right) both.1 (subst (λ b. NoneRelates sorts b rest) (next_made l front a both.0) k))
+
 -- ---- lists
 
 no_end : (before : List Link) (l : Link) → [] ≡ before ++ l ∷ [] → ⊥
@@ -141,11 +215,6 @@ same_end (a ∷ xs) (b ∷ ys) x y h =
 pub no_relation : (sorts : List Sort) (a : s.Ex) → IsRelation sorts a []
 no_relation sorts a before l h = absurd (no_end before l h)
 
--- whether a link relates this number with another one
-abbrev relates_numbers : List Sort → s.Ex → Link → Bool
-relates_numbers sorts b l =
-    relates (op_of l.sign) && (is_number (kind_ex sorts b) && is_number (kind_ex sorts (m.ex_of (u.ex_of l.operand))))
-
 module _ (sorts : List Sort) (l : Link) (rest : List Link) (b : s.Ex) where
   abbrev e : s.Ex
   e = m.ex_of (u.ex_of l.operand)
@@ -153,7 +222,7 @@ module _ (sorts : List Sort) (l : Link) (rest : List Link) (b : s.Ex) where
   abbrev ls : r.Links
   ls = u.links_of (map u.link_view rest)
 
-  other_left : is_logical l.sign ≡ false → is_arithmetic l.sign ≡ false → relates_numbers sorts b l ≡ false → IsTruth sorts (behind b (l ∷ rest)) → IsTruth sorts b
+  other_left : is_logical l.sign ≡ false → is_arithmetic l.sign ≡ false → relates_it sorts b l ≡ false → IsTruth sorts (behind b (l ∷ rest)) → IsTruth sorts b
   other_left i n not_so w =
       let related = relation_left l.sign i n in
       let sides : (is_number (kind_ex sorts b) && is_number (kind_ex sorts e)) ≡ false = sym (ap (λ c. c && (is_number (kind_ex sorts b) && is_number (kind_ex sorts e))) related) ∙ not_so in
@@ -165,7 +234,7 @@ module _ (sorts : List Sort) (l : Link) (rest : List Link) (b : s.Ex) where
       left_truth sorts (r.Link l.pos l.sign (u.ex_of l.operand) ls) b (λ q. absurd (let k : is_logical l.sign ≡ false = q in let bad : ⊥ = cc in bad)) w
 
   -- what stands on the left of a sign that relates no numbers is a truth where the chain is one
-  left_of : is_arithmetic l.sign ≡ false → relates_numbers sorts b l ≡ false → IsTruth sorts (behind b (l ∷ rest)) → IsTruth sorts b
+  left_of : is_arithmetic l.sign ≡ false → relates_it sorts b l ≡ false → IsTruth sorts (behind b (l ∷ rest)) → IsTruth sorts b
   left_of n not_so w = by_logical (is_logical l.sign) refl
     where
       by_logical : (c : Bool) → is_logical l.sign ≡ c → IsTruth sorts b
@@ -174,30 +243,37 @@ module _ (sorts : List Sort) (l : Link) (rest : List Link) (b : s.Ex) where
 
 module _ (sorts : List Sort) (a : s.Ex) (links : List Link) (n : ℕ) (sums : IsSums links n) where
   -- no link belongs to a relation of numbers
-  none_by : (rest : List Link) → take n links ++ rest ≡ links → begins_arithmetic rest ≡ false → ((l : Link) (ls : List Link) → rest ≡ l ∷ ls → relates_numbers sorts (behind a (take n links)) l ≡ false) → IsTruth sorts (behind a links) → IsTruth sorts a
+  none_by : (rest : List Link) → take n links ++ rest ≡ links → begins_arithmetic rest ≡ false → ((l : Link) (ls : List Link) → rest ≡ l ∷ ls → relates_it sorts (behind a (take n links)) l ≡ false) → IsTruth sorts (behind a links) → IsTruth sorts a
   none_by [] split ends not_so w =
       sums_truth sorts (take n links) a sums.sums (subst (IsTruth sorts) (ap (behind a) (sym split) ∙ sums_apart (take n links) [] a sums.sums) w)
   none_by (l ∷ rest) split ends not_so w =
       sums_truth sorts (take n links) a sums.sums (left_of sorts l rest (behind a (take n links)) ends (not_so l rest refl) (subst (IsTruth sorts) (ap (behind a) (sym split) ∙ sums_apart (take n links) (l ∷ rest) a sums.sums) w))
 
-  head_none : ((l : Link) (ls : List Link) → drop n links ≡ l ∷ ls → relates_numbers sorts (behind a (take n links)) l ≡ false) → IsHead sorts a links 0
+  -- and no sign relates numbers
+  none_left : (rest : List Link) → take n links ++ rest ≡ links → begins_arithmetic rest ≡ false → ((l : Link) (ls : List Link) → rest ≡ l ∷ ls → relates_it sorts (behind a (take n links)) l ≡ false) → NoneRelates sorts a links
+  none_left [] split ends not_so = subst (NoneRelates sorts a) split (none_sums sorts (take n links) [] a sums.sums tt)
+  none_left (l ∷ rest) split ends not_so =
+      subst (NoneRelates sorts a) split (none_sums sorts (take n links) (l ∷ rest) a sums.sums (λ i. (not_so l rest refl, none_behind sorts rest _ (other_number sorts l.sign (behind a (take n links)) (m.ex_of (u.ex_of l.operand)) ends))))
+
+  head_none : ((l : Link) (ls : List Link) → drop n links ≡ l ∷ ls → relates_it sorts (behind a (take n links)) l ≡ false) → IsHead sorts a links 0
   head_none not_so =
       record {
         within = omega arith;
         apart = refl;
         leads = none_by (drop n links) (take-append-drop n links) sums.ends not_so;
         relation = no_relation sorts a;
+        others = none_left (drop n links) (take-append-drop n links) sums.ends not_so;
       }
 
   pub head_at_end : length links ≤ n → IsHead sorts a links 0
   head_at_end h = head_none (λ l ls is. let none : drop n links ≡ [] = drop_all n links h in absurd (let bad : ⊥ = cc in bad))
 
-  pub head_other : (l : Link) → n < length links → l ≡ get_or links n l → relates_numbers sorts (behind a (take n links)) l ≡ false → IsHead sorts a links 0
+  pub head_other : (l : Link) → n < length links → l ≡ get_or links n l → relates_it sorts (behind a (take n links)) l ≡ false → IsHead sorts a links 0
   head_other l lt is not_so =
       head_none (λ k ls split.
       let item : drop n links ≡ l ∷ drop (n + 1) links = drop_item links n l lt is in
       let same : l ≡ k = cc in
-      subst (λ x. relates_numbers sorts (behind a (take n links)) x ≡ false) same not_so)
+      subst (λ x. relates_it sorts (behind a (take n links)) x ≡ false) same not_so)
 
   -- the relation's links are those of its left side, and its own
   module _ (l : Link) (lt : n < length links) (is : l ≡ get_or links n l) (related : relates (op_of l.sign) ≡ true) (left : IsNumber sorts (behind a (take n links))) (right : IsNumber sorts (m.ex_of (u.ex_of l.operand))) where
@@ -234,6 +310,7 @@ module _ (sorts : List Sort) (a : s.Ex) (links : List Link) (n : ℕ) (sums : Is
           apart = whole ∙ ap (λ x. behind x (drop (n + 1) links)) (sym front_taken);
           leads = λ w. subst (IsTruth sorts) (sym front_taken) (left_truth sorts (u.links_of (map u.link_view (drop (n + 1) links))) made (λ q. relation_other sorts l.sign (behind a (take n links)) (m.ex_of (u.ex_of l.operand)) related) (subst (IsTruth sorts) whole w));
           relation = related_at;
+          others = none_behind sorts (drop (n + 1) links) _ (subst (NoNumber sorts) (sym front_taken) (relation_other sorts l.sign (behind a (take n links)) (m.ex_of (u.ex_of l.operand)) related));
         }
 
 pub three : (a b c : Bool) → (a && (b && c)) ≡ true → (a ≡ true) × (b ≡ true) × (c ≡ true)

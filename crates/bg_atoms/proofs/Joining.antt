@@ -27,14 +27,18 @@ use Rattle.bg_atoms.specs.declared.made.Linked.{Linked}
 use Rattle.bg_atoms.specs.Orders.{before_sign, behind_sign}
 use Rattle.bg_atoms.specs.Over.{first_refused}
 use Rattle.bg_atoms.specs.Kinds.{IsTruth}
-use Rattle.bg_atoms.specs.Worlds.{Means}
-use Rattle.bg_atoms.specs.Parts.{HasRelation, on_right}
-use Rattle.bg_atoms.specs.Made.{Shows, Makes, IsMade, AreMade, Carries, Refuses, HasBehind, behind}
-use Rattle.bg_atoms.specs.Sources.{IsRowOf, IsFrom}
-use Rattle.bg_atoms.specs.Added.{Adds, IsFromTruth, IsFromLinks}
+use Rattle.bg_atoms.specs.declared.table.Table.{Table}
+use Rattle.bg_atoms.specs.Worlds.{Begins, Means}
+use Rattle.bg_atoms.specs.Made.{rows_in, Shows, Makes, IsMade, AreMade, Carries, Refuses, behind}
+use Rattle.bg_atoms.specs.Listed.{with_ex}
+use Rattle.bg_atoms.specs.Turned.{turned_in, with_turned, with_links, with_operand, operand_in}
+use Rattle.bg_atoms.specs.Tables.{IsTable}
+use Rattle.bg_atoms.specs.Growing.{Grows}
 use Rattle.bg_atoms.specs.Heads.{IsHead, IsNext, Relates}
-use Rattle.bg_atoms.proofs.Adding.{adds_as, adds_both}
-use Rattle.bg_atoms.proofs.Chained.{two_truths, step_means, step_has, operand_has, implies_means, first_has, signed_truth, signed_means, signed_refused, signed_has, step_refused, before_left}
+use Rattle.bg_atoms.proofs.Lists.{begins_itself, begins_on}
+use Rattle.bg_atoms.proofs.Listing.{begins_grown}
+use Rattle.bg_atoms.proofs.Turning.{head_rows, next_rows, begins_operand}
+use Rattle.bg_atoms.proofs.Chained.{two_truths, implies_is, step_means, implies_means, signed_truth, signed_means, signed_refused, step_refused, before_left}
 
 -- what stands behind signs
 pub signed_made : (sorts : List Sort) (n : ℕ) (rows : List AtomOf) (signs : List TreePrefix) (a : s.Ex) (x y : Made) (kept : List TreePrefix) → kept ≡ signs → Shows (m.signed kept (m.ex_of (u.ex_of x.says))) x.refused y → IsMade sorts n rows a x → IsMade sorts n rows (m.signed signs a) y
@@ -95,37 +99,14 @@ chain_whole sorts n rows x1 x2 l1 l2 l3 e links whole k first rest y h1 h2 k1 k2
     let led = λ (t : IsTruth sorts (behind front (drop k l1))). head.leads (subst (IsTruth sorts) (sym head.apart) t) in
     subst (λ w. IsMade sorts n rows w y) (sym head.apart ∙ chain_node x1 l1 e links whole h1 k1 is) (behind_made sorts n rows front (drop k l1) first rest y led shows first' rest')
 
--- the rows of both are from the chain
-pub chain_from : (sorts : List Sort) (x1 x2 : Expr) (l1 l2 l3 : List Link) (e : Box Expr Global) (links : Vec Link Global) (whole : Expr) (k : ℕ) (xs ys zs : List AtomOf) → x1 ≡ e.value → x2 ≡ e.value → l1 ≡ links.items → l2 ≡ links.items → l3 ≡ links.items → whole ≡ expr.Chain e links → IsHead sorts (m.ex_of (u.ex_of x1)) l1 k → Adds (IsFromTruth sorts (behind (m.ex_of (u.ex_of x2)) (take k l2))) xs ys → Adds (IsFromLinks sorts (drop k l3)) ys zs → Adds (IsFromTruth sorts (m.ex_of (u.ex_of whole))) xs zs
-chain_from sorts x1 x2 l1 l2 l3 e links whole k xs ys zs h1 h2 k1 k2 k3 is head first behind_it =
-    let first' = subst (λ l. Adds (IsFromTruth sorts (behind (m.ex_of (u.ex_of x1)) (take k l))) xs ys) (k2 ∙ sym k1) (subst (λ x. Adds (IsFromTruth sorts (behind (m.ex_of (u.ex_of x)) (take k l2))) xs ys) (h2 ∙ sym h1) first) in
-    let rest' = subst (λ l. Adds (IsFromLinks sorts (drop k l)) ys zs) (k3 ∙ sym k1) behind_it in
-    let front = behind (m.ex_of (u.ex_of x1)) (take k l1) in
-    let made = subst (λ w. Adds (IsFromTruth sorts w) xs zs) (sym head.apart ∙ chain_node x1 l1 e links whole h1 k1 is) in
-    let led = λ (t : IsTruth sorts (behind front (drop k l1))). head.leads (subst (IsTruth sorts) (sym head.apart) t) in
-    made (adds_both (IsFromTruth sorts front) (IsFromLinks sorts (drop k l1)) (IsFromTruth sorts (behind front (drop k l1))) xs ys zs (λ r h t. first_has sorts (IsRowOf r) (u.links_of (map u.link_view (drop k l1))) front (h (led t))) (λ r h t. h front (led t) t) first' rest')
-
 pub no_front : (a : s.Ex) (ls : List Link) → length ls ≡ 0 → a ≡ behind a ls
 no_front a [] h = refl
 no_front a (l ∷ ls) h = absurd (omega (arith, h))
-
-pub from_same : (sorts : List Sort) (a b : s.Ex) (xs ys : List AtomOf) → a ≡ b → Adds (IsFromTruth sorts a) xs ys → Adds (IsFromTruth sorts b) xs ys
-from_same sorts a b xs ys h k = subst (λ e. Adds (IsFromTruth sorts e) xs ys) h k
 
 -- what was made of a relation of numbers is what the links make
 pub relation_made : (sorts : List Sort) (n : ℕ) (rows : List AtomOf) (a : s.Ex) (front before : List Link) (l : Link) (x : Made) → front ≡ before ++ l ∷ [] → Relates sorts a before l → Makes sorts n rows (s.Binary (op_of l.sign) (behind a before) (m.ex_of (u.ex_of l.operand))) x → IsMade sorts n rows (behind a front) x
 relation_made sorts n rows a front before l x split is h t =
     subst (λ f. Makes sorts n rows (behind a f) x) (sym split) (subst (λ e. Makes sorts n rows e x) (sym is.whole) h)
-
--- rows from what stands behind signs
-pub signed_from : (sorts : List Sort) (signs : List TreePrefix) (a : s.Ex) (xs ys : List AtomOf) → Adds (IsFromTruth sorts a) xs ys → Adds (IsFromTruth sorts (m.signed signs a)) xs ys
-signed_from sorts signs a xs ys h =
-    adds_as (IsFromTruth sorts a) (IsFromTruth sorts (m.signed signs a)) xs ys (λ r f t. signed_has sorts (IsRowOf r) signs a t (f (signed_truth sorts signs a t))) h
-
--- rows from the relation of numbers that the links make
-pub relation_from : (sorts : List Sort) (a : s.Ex) (front before : List Link) (l : Link) (xs ys : List AtomOf) → front ≡ before ++ l ∷ [] → Relates sorts a before l → Adds (IsFrom sorts (s.Binary (op_of l.sign) (behind a before) (m.ex_of (u.ex_of l.operand)))) xs ys → Adds (IsFromTruth sorts (behind a front)) xs ys
-relation_from sorts a front before l xs ys split is h =
-    subst (λ f. Adds (IsFromTruth sorts (behind a f)) xs ys) (sym split) (subst (λ w. Adds (IsFromTruth sorts w) xs ys) (sym is.whole) (adds_as (IsFrom sorts (s.Binary (op_of l.sign) (behind a before) (m.ex_of (u.ex_of l.operand)))) (IsFromTruth sorts (s.Binary (op_of l.sign) (behind a before) (m.ex_of (u.ex_of l.operand)))) xs ys (λ r f t. f) h))
 
 -- ---- links
 
@@ -137,22 +118,6 @@ first_assoc (Some o) b c = refl
 abbrev pub Ordered : List Sort → Option OutOfRange → List Link → Option OutOfRange → Option OutOfRange → List Link → Type 0
 Ordered sorts first whole before here rest =
     (all : Option OutOfRange) → Refuses sorts here rest all → Refuses sorts first whole (first_of before all)
-
-implies_is : (sign : InfixSign) → is_implies sign ≡ true → sign ≡ op.Implies
-implies_is op.Iff h = absurd (let bad : ⊥ = cc in bad)
-implies_is op.Implies h = refl
-implies_is op.Explies h = absurd (let bad : ⊥ = cc in bad)
-implies_is op.And h = absurd (let bad : ⊥ = cc in bad)
-implies_is op.Or h = absurd (let bad : ⊥ = cc in bad)
-implies_is op.Equal h = absurd (let bad : ⊥ = cc in bad)
-implies_is op.Unequal h = absurd (let bad : ⊥ = cc in bad)
-implies_is op.Less h = absurd (let bad : ⊥ = cc in bad)
-implies_is op.AtMost h = absurd (let bad : ⊥ = cc in bad)
-implies_is op.Greater h = absurd (let bad : ⊥ = cc in bad)
-implies_is op.AtLeast h = absurd (let bad : ⊥ = cc in bad)
-implies_is op.Plus h = absurd (let bad : ⊥ = cc in bad)
-implies_is op.Minus h = absurd (let bad : ⊥ = cc in bad)
-implies_is op.Times h = absurd (let bad : ⊥ = cc in bad)
 
 module _ (sorts : List Sort) (l : Link) (links : List Link) (k : ℕ) (next : IsNext sorts l links k) where
   abbrev right : s.Ex
@@ -227,33 +192,6 @@ module _ (sorts : List Sort) (l : Link) (links : List Link) (k : ℕ) (next : Is
           let made = ordered all (refuse_left i here operand all h (subst (λ o. Refuses sorts o (drop k links) all) h' rest)) in
           subst (Refuses sorts first whole) (sym (ap (λ o. first_of o all) before_it)) made
 
-  module _ (P : s.Op → s.Ex → s.Ex → Type 0) where
-    pub has_here : (IsTruth sorts (behind right (take k links)) → HasRelation sorts P (behind right (take k links))) → HasBehind sorts P (l ∷ links)
-    has_here h = by_sign (is_implies l.sign) refl
-      where
-        by_sign : (b : Bool) → is_implies l.sign ≡ b → HasBehind sorts P (l ∷ links)
-        by_sign true i a t w =
-            let head = next.anew i in
-            let whole = implied l.sign refl (implies_is l.sign i) a in
-            let front = head.leads (two_truths (kind_ex sorts a) (kind_ex sorts (behind right links)) (subst (IsTruth sorts) whole w)).1 in
-            let more = first_has sorts P (u.links_of (map u.link_view (drop k links))) (behind right (take k links)) (h front) in
-            subst (HasRelation sorts P) (sym whole) (on_right s.Implies a (behind right links) (subst (HasRelation sorts P) (sym head.apart) more))
-        by_sign false i a t w =
-            operand_has sorts P l.sign i l.pos (u.ex_of l.operand) ls (subst (λ j. IsTruth sorts (behind right (take j links)) → HasRelation sorts P (behind right (take j links))) (next.alone i) h) a t w
-
-    pub has_behind : HasBehind sorts P (drop k links) → HasBehind sorts P (l ∷ links)
-    has_behind h = by_sign (is_implies l.sign) refl
-      where
-        by_sign : (b : Bool) → is_implies l.sign ≡ b → HasBehind sorts P (l ∷ links)
-        by_sign true i a t w =
-            let head = next.anew i in
-            let whole = implied l.sign refl (implies_is l.sign i) a in
-            let right_truth = (two_truths (kind_ex sorts a) (kind_ex sorts (behind right links)) (subst (IsTruth sorts) whole w)).1 in
-            let more = h (behind right (take k links)) (head.leads right_truth) (subst (IsTruth sorts) head.apart right_truth) in
-            subst (HasRelation sorts P) (sym whole) (on_right s.Implies a (behind right links) (subst (HasRelation sorts P) (sym head.apart) more))
-        by_sign false i a t w =
-            step_has sorts P l.sign i l.pos (u.ex_of l.operand) ls (subst (λ j. HasBehind sorts P (drop j links)) (next.alone i) h) a t w
-
 -- ---- the loop over links
 
 abbrev pub Going : List Sort → ℕ → List AtomOf → List Link → List Link → List Link → Type 0
@@ -264,8 +202,11 @@ pub record Linking (sorts : List Sort) (n : ℕ) (rows : List AtomOf) (first bef
   pub going : Going sorts n rows whole rest made
   pub ordered : Ordered sorts first whole before here rest
 
-abbrev pub Leading : List Sort → List Link → List Link → Type 0
-Leading sorts whole rest = (r : AtomOf) → IsFromLinks sorts rest r → IsFromLinks sorts whole r
+-- as far as the links are gone through, their rows are there
+pub record Passing (sorts : List Sort) (base : ℕ) (whole rest : List Link) (old new : Table) : Type 0 where
+  pub table : IsTable base new
+  pub begins : Begins (rows_in old.rows) (rows_in new.rows)
+  pub rows : with_links sorts whole (rows_in old.rows) ≡ with_links sorts rest (rows_in new.rows)
 
 module _ (sorts : List Sort) (links : List Link) (i : ℕ) (l : Link) (rest : List Link) (k : ℕ) (lt : i < length links) (is : l ≡ get_or links i l) (behind_it : rest ≡ drop (i + 1) links) (next : IsNext sorts l rest k) where
   here : drop i links ≡ l ∷ rest
@@ -292,20 +233,42 @@ module _ (sorts : List Sort) (links : List Link) (i : ℕ) (l : Link) (rest : Li
         ordered = ordered_on first whole before now before' now' x.refused j next_at b' n' (λ t. (h t).refused) linking.ordered;
       }
 
-  has_later : (P : s.Op → s.Ex → s.Ex → Type 0) (j : ℕ) → j ≡ i + 1 + k → HasBehind sorts P (drop j links) → HasBehind sorts P (drop i links)
-  has_later P j next_at more =
-      subst (HasBehind sorts P) (sym here) (has_behind sorts l rest k next P (subst (HasBehind sorts P) (later j next_at) more))
+  -- so much of the links is gone through
+  pub passing_on : (base : ℕ) (whole : List Link) (t o v : Table) (j : ℕ) → j ≡ i + 1 + k → Passing sorts base whole (drop i links) t o → Grows base (with_operand sorts (drop i links) k) o v → Passing sorts base whole (drop j links) t v
+  passing_on base whole t o v j next_at h g =
+      record {
+        table = g.table;
+        begins = begins_on (rows_in t.rows) (rows_in o.rows) (rows_in v.rows) h.begins (begins_grown (begins_operand sorts (drop i links) k) g);
+        rows =
+            h.rows
+            ∙ ap (λ d. with_links sorts d (rows_in o.rows)) here
+            ∙ next_rows sorts l rest k next (rows_in o.rows)
+            ∙ ap (with_links sorts (drop k rest)) (ap (λ d. with_operand sorts d k (rows_in o.rows)) (sym here) ∙ sym g.rows)
+            ∙ ap (λ d. with_links sorts d (rows_in v.rows)) (sym (later j next_at));
+      }
 
-  has_now : (P : s.Op → s.Ex → s.Ex → Type 0) → (IsTruth sorts (behind (m.ex_of (u.ex_of l.operand)) (take k rest)) → HasRelation sorts P (behind (m.ex_of (u.ex_of l.operand)) (take k rest))) → HasBehind sorts P (drop i links)
-  has_now P h = subst (HasBehind sorts P) (sym here) (has_here sorts l rest k next P h)
+  pub made_here : (n : ℕ) (rows : List AtomOf) (y : Made) → IsMade sorts n rows (operand_in (drop i links) k) y → IsMade sorts n rows (behind (m.ex_of (u.ex_of l.operand)) (take k rest)) y
+  made_here n rows y h = subst (λ d. IsMade sorts n rows (operand_in d k) y) here h
 
-  pub leading_on : (whole : List Link) (j : ℕ) → j ≡ i + 1 + k → Leading sorts whole (drop i links) → Leading sorts whole (drop j links)
-  leading_on whole j next_at leading r more = leading r (has_later (IsRowOf r) j next_at more)
+pub passing_none : (sorts : List Sort) (base : ℕ) (whole : List Link) (t : Table) → IsTable base t → Passing sorts base whole whole t t
+passing_none sorts base whole t is = record { table = is; begins = begins_itself (rows_in t.rows); rows = refl }
 
-  -- rows from the operand that is next, with the links of its relation, are from the links
-  pub adds_next : (whole : List Link) (xs ys zs : List AtomOf) → Leading sorts whole (drop i links) → Adds (IsFromLinks sorts whole) xs ys → Adds (IsFromTruth sorts (behind (m.ex_of (u.ex_of l.operand)) (take k rest))) ys zs → Adds (IsFromLinks sorts whole) xs zs
-  adds_next whole xs ys zs leading old new =
-      adds_both (IsFromLinks sorts whole) (IsFromTruth sorts (behind (m.ex_of (u.ex_of l.operand)) (take k rest))) (IsFromLinks sorts whole) xs ys zs (λ r h. h) (λ r h. leading r (has_now (IsRowOf r) h)) old new
+pub passed : (sorts : List Sort) (base : ℕ) (whole links : List Link) (i : ℕ) (t v : Table) → length links ≤ i → Passing sorts base whole (drop i links) t v → Grows base (with_links sorts whole) t v
+passed sorts base whole links i t v end h =
+    record { table = h.table; rows = sym (h.rows ∙ ap (λ d. with_links sorts d (rows_in v.rows)) (drop_all i links end)) }
+
+-- a chain's rows: those of what stands behind `<==`s, of its head, and of the links behind it
+pub chain_grows : (sorts : List Sort) (base : ℕ) (x1 x2 : Expr) (l1 l2 l3 l4 : List Link) (e : Box Expr Global) (links : Vec Link Global) (whole : Expr) (k : ℕ) (t o v w : Table) → x1 ≡ e.value → x2 ≡ e.value → l1 ≡ links.items → l2 ≡ links.items → l3 ≡ links.items → l4 ≡ links.items → whole ≡ expr.Chain e links → IsHead sorts (m.ex_of (u.ex_of x1)) l1 k → Grows base (with_turned sorts (turned_in (drop k l4))) t o → Grows base (with_ex sorts (behind (m.ex_of (u.ex_of x2)) (take k l2))) o v → Grows base (with_links sorts (drop k l3)) v w → Grows base (with_ex sorts (m.ex_of (u.ex_of whole))) t w
+chain_grows sorts base x1 x2 l1 l2 l3 l4 e links whole k t o v w h1 h2 k1 k2 k3 k4 is head turned first rest =
+    record {
+      table = rest.table;
+      rows =
+          rest.rows
+          ∙ ap (λ d. with_links sorts (drop k d) (rows_in v.rows)) (k3 ∙ sym k1)
+          ∙ ap (with_links sorts (drop k l1)) (first.rows ∙ ap (λ x. with_ex sorts (behind (m.ex_of (u.ex_of x)) (take k l2)) (rows_in o.rows)) (h2 ∙ sym h1) ∙ ap (λ d. with_ex sorts (behind (m.ex_of (u.ex_of x1)) (take k d)) (rows_in o.rows)) (k2 ∙ sym k1) ∙ ap (with_ex sorts (behind (m.ex_of (u.ex_of x1)) (take k l1))) (turned.rows ∙ ap (λ d. with_turned sorts (turned_in (drop k d)) (rows_in t.rows)) (k4 ∙ sym k1)))
+          ∙ sym (head_rows sorts (m.ex_of (u.ex_of x1)) l1 k head (rows_in t.rows))
+          ∙ ap (λ y. with_ex sorts y (rows_in t.rows)) (chain_node x1 l1 e links whole h1 k1 is);
+    }
 
 pub linking_none : (sorts : List Sort) (n : ℕ) (rows : List AtomOf) (first before now : Option OutOfRange) (whole old : List Link) → before ≡ None → now ≡ first → old ≡ [] → Linking sorts n rows first before now whole whole old
 linking_none sorts n rows first before now whole old b h none =

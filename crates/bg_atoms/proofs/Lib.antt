@@ -2,7 +2,8 @@ mod Equal
 mod Lists
 mod Adding
 mod Tabled
-mod Growing
+mod Listing
+mod Turning
 mod Reading
 mod Chained
 mod Heading

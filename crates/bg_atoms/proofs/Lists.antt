@@ -1,11 +1,8 @@
 -- Lists that go on behind others, and lists place by place.
-use Rattle.std.proofs.Common.{◌≡◌, ◌<◌, ◌+◌, ℕ, true, List, [], ◌∷◌, ◌++◌, length, map, take, get_or, refl, sym, ap, ◌∙◌, subst}
+use Rattle.std.proofs.Common.{◌≡◌, ◌<◌, ◌+◌, ℕ, List, [], ◌∷◌, ◌++◌, length, map, take, get_or, refl, sym, ap, ◌∙◌, subst}
 use Rattle.std.proofs.lemmas.List.{take_more}
-use Rattle.bg_formula.specs.declared.atom.Linear.{Linear}
-use Rattle.bg_formula.specs.Atoms.{AtomOf, view_linear}
-use Rattle.bg_formula.specs.Formulas.{atom_below, rows_below}
-use Rattle.bg_formed.proofs.Below.{and_left, and_right, and_both}
-use Rattle.bg_atoms.specs.Worlds.{Begins, AddsInside}
+use Rattle.bg_formula.specs.Atoms.{AtomOf}
+use Rattle.bg_atoms.specs.Worlds.{Begins}
 use Rattle.bg_atoms.specs.Pairs.{Pairs}
 
 pub begins_itself : (xs : List AtomOf) → Begins xs xs
@@ -17,32 +14,6 @@ begins_on [] ys zs h k = tt
 begins_on (x ∷ xs) [] zs h k = absurd h
 begins_on (x ∷ xs) (y ∷ ys) [] h k = absurd k
 begins_on (x ∷ xs) (y ∷ ys) (z ∷ zs) h k = (h.0 ∙ k.0, begins_on xs ys zs h.1 k.1)
-
-begins_end : (xs : List Linear) (a : Linear) → Begins (map view_linear xs) (map view_linear (xs ++ a ∷ []))
-begins_end [] a = tt
-begins_end (x ∷ xs) a = (refl, begins_end xs a)
-
-pub begins_push : (xs ys : List Linear) (a : Linear) → ys ≡ xs ++ a ∷ [] → Begins (map view_linear xs) (map view_linear ys)
-begins_push xs ys a h = subst (λ l. Begins (map view_linear xs) (map view_linear l)) (sym h) (begins_end xs a)
-
--- ---- rows that name terms that are there
-
-inside_end : (terms : ℕ) (xs : List Linear) (a : Linear) → rows_below terms (view_linear a ∷ []) ≡ true → rows_below terms (map view_linear xs) ≡ true → rows_below terms (map view_linear (xs ++ a ∷ [])) ≡ true
-inside_end terms [] a h k = h
-inside_end terms (x ∷ xs) a h k =
-    and_both (atom_below terms (view_linear x)) _ (and_left (atom_below terms (view_linear x)) (rows_below terms (map view_linear xs)) k) (inside_end terms xs a h (and_right (atom_below terms (view_linear x)) (rows_below terms (map view_linear xs)) k))
-
-pub inside_push : (xs ys : List Linear) (a : Linear) → ys ≡ xs ++ a ∷ [] → AddsInside (view_linear a ∷ []) (map view_linear xs) (map view_linear ys)
-inside_push xs ys a is terms h k = subst (λ l. rows_below terms (map view_linear l) ≡ true) (sym is) (inside_end terms xs a h k)
-
-inside_apart : (terms : ℕ) (xs : List Linear) (a : Linear) → rows_below terms (map view_linear (xs ++ a ∷ [])) ≡ true → (rows_below terms (map view_linear xs) ≡ true) × (rows_below terms (view_linear a ∷ []) ≡ true)
-inside_apart terms [] a h = (refl, h)
-inside_apart terms (x ∷ xs) a h =
-    let rest = inside_apart terms xs a (and_right (atom_below terms (view_linear x)) (rows_below terms (map view_linear (xs ++ a ∷ []))) h) in
-    (and_both (atom_below terms (view_linear x)) _ (and_left (atom_below terms (view_linear x)) (rows_below terms (map view_linear (xs ++ a ∷ []))) h) rest.0, rest.1)
-
-pub inside_split : (terms : ℕ) (ys xs : List Linear) (a : Linear) → ys ≡ xs ++ a ∷ [] → rows_below terms (map view_linear ys) ≡ true → (rows_below terms (map view_linear xs) ≡ true) × (rows_below terms (view_linear a ∷ []) ≡ true)
-inside_split terms ys xs a is h = inside_apart terms xs a (subst (λ l. rows_below terms (map view_linear l) ≡ true) is h)
 
 module _ {X Y A B : Type 0} (R : A → B → Type 0) (f : X → A) (g : Y → B) where
   pairs_end : (xs : List X) (ys : List Y) (x : X) (y : Y) → Pairs R (map f xs) (map g ys) → R (f x) (g y) → Pairs R (map f (xs ++ x ∷ [])) (map g (ys ++ y ∷ []))

@@ -1,6 +1,6 @@
 -- Relations of numbers over the atoms of their rows.
 use Rattle.std.proofs.Common.{◌≡◌, ℕ, ◌+◌, Bool, true, false, not, List, [], ◌∷◌, ◌++◌, length, map, Some, None, refl, sym, ap, ◌∙◌, subst}
-use Rattle.std.specs.Prelude.{◌&&◌, if◌then◌else◌, Result, Ok, Err, IsOkAnd, Contains}
+use Rattle.std.specs.Prelude.{◌&&◌, if◌then◌else◌, Result, Ok, Err}
 use Rattle.bg_base.specs.declared.exact.OutOfRange.{OutOfRange}
 use Rattle.bg_ast.specs.Values.{Truth, truth_of}
 use Rattle.bg_ast.specs.Syntax.{Ex, Fact, Binary, Op, And, Or, Implies, Iff, Equal, Unequal, Less, AtMost, Greater, AtLeast, Plus, Minus, Times}
@@ -25,8 +25,6 @@ use Rattle.bg_linear.proofs.Exact.{relations_exact}
 use Rattle.bg_atoms.specs.Built.{says_ex}
 use Rattle.bg_atoms.specs.declared.made.Made.{Made}
 use Rattle.bg_atoms.specs.Over.{relates_numbers, row_ex, rows_ex, relation_ex, over, refusal, first_refused}
-use Rattle.bg_atoms.specs.Parts.{here}
-use Rattle.bg_atoms.specs.Sources.{IsFrom}
 use Rattle.bg_atoms.specs.Made.{Makes, IsRange}
 use Rattle.bg_atoms.specs.Worlds.{World, Agrees, valuation_of, SaysRow, SaysAll, Means}
 
@@ -178,10 +176,6 @@ module _ (sorts : List Sort) (n : ℕ) (rows : List AtomOf) (op : Op) (a b : Ex)
         refused = first_relation ∙ ap refusal (on o refl) ∙ sym is.refused;
       }
   refused_makes Memory y on is = absurd is
-
--- a row of the relation is from it
-pub row_from : (sorts : List Sort) (op : Op) (a b : Ex) (rs : List AtomOf) (r : AtomOf) → relates op ≡ true → is_number (kind_ex sorts a) ≡ true → is_number (kind_ex sorts b) ≡ true → relation op a b ≡ Ok rs → Contains rs r → IsFrom sorts (Binary op a b) r
-row_from sorts op a b rs r k ka kb made c = here op a b k ka kb (subst (λ x. IsOkAnd x (λ ys. Contains ys r)) (sym made) c)
 
 pub range_of : (view : List Linear → List AtomOf) (q : Refused) (told : Result (List AtomOf) OutOfRange) → Told {A = List Linear} view (Err q) told → (o : OutOfRange) → q ≡ Range o → told ≡ Err o
 range_of view q told t o is = subst (λ p. Told {A = List Linear} view (Err p) told) is t

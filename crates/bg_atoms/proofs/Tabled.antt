@@ -106,7 +106,7 @@ none_last a (IsRow b e ∷ rs) r d h k =
     and_both (not (row_eq a b)) _ (and_left (not (row_eq a b)) (is_none_of a rs) h) (none_last a rs r d (and_right (not (row_eq a b)) (is_none_of a rs) h) k)
 
 -- a row that is not found is neither the first one nor its denial
-not_first : (r a d : RowOf) (n : ℕ) (rs : List AtomOf) → literal_of r n (IsRow a d ∷ rs) ≡ None → (row_eq a r ≡ false) × ((row_eq d r ≡ false) × (literal_of r (suc n) rs ≡ None))
+pub not_first : (r a d : RowOf) (n : ℕ) (rs : List AtomOf) → literal_of r n (IsRow a d ∷ rs) ≡ None → (row_eq a r ≡ false) × ((row_eq d r ≡ false) × (literal_of r (suc n) rs ≡ None))
 not_first r a d n rs h = by_tests (row_eq a r) (row_eq d r) refl refl h
   where
     by_tests : (b c : Bool) → row_eq a r ≡ b → row_eq d r ≡ c → cond b (Some (record { atom = n; sign = true })) (cond c (Some (record { atom = n; sign = false })) (literal_of r (suc n) rs)) ≡ None → (row_eq a r ≡ false) × ((row_eq d r ≡ false) × (literal_of r (suc n) rs ≡ None))
@@ -114,7 +114,7 @@ not_first r a d n rs h = by_tests (row_eq a r) (row_eq d r) refl refl h
     by_tests false true f g k = absurd (let bad : ⊥ = cc in bad)
     by_tests false false f g k = (f, (g, k))
 
-apart_last : (n : ℕ) (rows : List AtomOf) (r d : RowOf) → are_apart rows ≡ true → literal_of r n rows ≡ None → are_apart (rows ++ IsRow r d ∷ []) ≡ true
+pub apart_last : (n : ℕ) (rows : List AtomOf) (r d : RowOf) → are_apart rows ≡ true → literal_of r n rows ≡ None → are_apart (rows ++ IsRow r d ∷ []) ≡ true
 apart_last n [] r d h k = refl
 apart_last n (IsTruth x ∷ rs) r d h k = apart_last (suc n) rs r d h k
 apart_last n (IsRow a e ∷ rs) r d h k =
@@ -122,10 +122,6 @@ apart_last n (IsRow a e ∷ rs) r d h k =
     let rest = and_right (is_none_of a rs) (is_none_of e rs && are_apart rs) h in
     and_both (is_none_of a (rs ++ IsRow r d ∷ [])) _ (none_last a rs r d (and_left (is_none_of a rs) (is_none_of e rs && are_apart rs) h) new.0)
     (and_both (is_none_of e (rs ++ IsRow r d ∷ [])) _ (none_last e rs r d (and_left (is_none_of e rs) (are_apart rs) rest) new.1.0) (apart_last (suc n) rs r d (and_right (is_none_of e rs) (are_apart rs) rest) new.1.1))
-
-pub apart_push : (n : ℕ) (xs ys : List Linear) (a : Linear) → ys ≡ xs ++ a ∷ [] → are_apart (map view_linear xs) ≡ true → literal_by (key_of (row_of a.row)) n (map view_linear xs) ≡ None → are_apart (map view_linear ys) ≡ true
-apart_push n xs ys a h k new =
-    subst (λ l. are_apart l ≡ true) (sym (pushed xs ys a h)) (apart_last n (map view_linear xs) (row_of a.row) (row_of a.denial) k (sym (by_key (row_of a.row) n (map view_linear xs)) ∙ new))
 
 -- ---- literals stay, and say their rows
 

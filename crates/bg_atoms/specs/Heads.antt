@@ -10,6 +10,7 @@ use Rattle.bg_linear.specs.declared.scalar.Sort.{Sort}
 use Rattle.bg_linear.specs.Chains.{is_implies}
 use Rattle.bg_linear.specs.Relations.{relates, op_of}
 use Rattle.bg_atoms.specs.Kinds.{IsTruth, IsNumber}
+use Rattle.bg_atoms.specs.Over.{relates_numbers}
 use Rattle.bg_atoms.specs.Made.{behind}
 
 -- signs that make a number of two
@@ -44,13 +45,21 @@ pub record Relates (sorts : List Sort) (a : Ex) (before : List Link) (l : Link) 
 abbrev pub IsRelation : List Sort → Ex → List Link → Type 0
 IsRelation sorts a ls = (before : List Link) (l : Link) → ls ≡ before ++ l ∷ [] → Relates sorts a before l
 
--- the first n links are those of the relation of numbers with which a chain begins, or none. Where the chain is a truth, so is what
--- they make
+-- no sign before the next `==>` relates numbers, where this stands on the left of the first one
+abbrev pub NoneRelates : List Sort → Ex → List Link → Type 0
+NoneRelates sorts a [] = Unit {0}
+NoneRelates sorts a (l ∷ ls) =
+    is_implies l.sign ≡ false
+    → (relates_numbers sorts (op_of l.sign) a (m.ex_of (ex_of l.operand)) ≡ false) × NoneRelates sorts (m.infix_of l.sign a (m.ex_of (ex_of l.operand))) ls
+
+-- the first n links are those of the relation of numbers with which a chain begins, or none, and no other sign before the next `==>`
+-- relates numbers. Where the chain is a truth, so is what they make
 pub record IsHead (sorts : List Sort) (a : Ex) (links : List Link) (n : ℕ) : Type 0 where
   pub within : n ≤ length links
   pub apart : behind a links ≡ behind (behind a (take n links)) (drop n links)
   pub leads : IsTruth sorts (behind a links) → IsTruth sorts (behind a (take n links))
   pub relation : IsRelation sorts a (take n links)
+  pub others : NoneRelates sorts (behind a (take n links)) (drop n links)
 
 -- the same of the chain that begins behind a sign: `==>` alone begins one
 pub record IsNext (sorts : List Sort) (l : Link) (links : List Link) (n : ℕ) : Type 0 where
@@ -58,3 +67,8 @@ pub record IsNext (sorts : List Sort) (l : Link) (links : List Link) (n : ℕ) :
   pub relation : IsRelation sorts (m.ex_of (ex_of l.operand)) (take n links)
   pub anew : is_implies l.sign ≡ true → IsHead sorts (m.ex_of (ex_of l.operand)) links n
   pub alone : is_implies l.sign ≡ false → n ≡ 0
+
+-- the same of the first one of these links
+abbrev pub IsNextIn : List Sort → List Link → ℕ → Type 0
+IsNextIn sorts [] n = ⊥
+IsNextIn sorts (l ∷ ls) n = IsNext sorts l ls n

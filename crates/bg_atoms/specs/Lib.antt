@@ -8,9 +8,10 @@ pub mod Encoded
 pub mod Worlds
 pub mod Parts
 pub mod Sources
+pub mod Listed
 pub mod Made
+pub mod Turned
 pub mod Tables
-pub mod Added
 pub mod Orders
 pub mod Growing
 pub mod Heads

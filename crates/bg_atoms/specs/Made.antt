@@ -16,7 +16,6 @@ use Rattle.bg_atoms.specs.declared.made.Linked.{Linked}
 use Rattle.bg_atoms.specs.Kinds.{IsTruth}
 use Rattle.bg_atoms.specs.Over.{first_refused}
 use Rattle.bg_atoms.specs.Worlds.{Means}
-use Rattle.bg_atoms.specs.Parts.{HasRelation}
 
 abbrev pub rows_in : Vec Linear Global → List AtomOf
 rows_in rows = map view_linear rows.items
@@ -52,10 +51,6 @@ Carries sorts n rows ls xs =
 abbrev pub Refuses : List Sort → Option OutOfRange → List Link → Option OutOfRange → Type 0
 Refuses sorts first ls all =
     (a : Ex) → IsTruth sorts a → IsTruth sorts (behind a ls) → first_refused sorts a ≡ first → first_refused sorts (behind a ls) ≡ all
-
--- put behind a truth, some relation of two numbers in the links is such a one
-abbrev pub HasBehind : List Sort → (Op → Ex → Ex → Type 0) → List Link → Type 0
-HasBehind sorts P ls = (a : Ex) → IsTruth sorts a → IsTruth sorts (behind a ls) → HasRelation sorts P (behind a ls)
 
 -- what the links of a chain are over atoms, with the chain's first operation that leaves the range, where that of what they stand behind
 -- is `first`

@@ -8,7 +8,6 @@ use Rattle.bg_formula.specs.declared.atom.Literal.{Literal}
 use Rattle.bg_formula.specs.Atoms.{AtomOf, IsTruth, IsRow}
 use Rattle.bg_atoms.specs.declared.table.Table.{Table}
 use Rattle.bg_atoms.specs.Made.{rows_in}
-use Rattle.bg_atoms.specs.Literals.{are_apart}
 
 -- the literal of the first row with this key, or of which the denial has it, where rows are the atoms from n on
 abbrev pub literal_by : KeyOf → ℕ → List AtomOf → Option Literal
@@ -35,7 +34,6 @@ only_at k l q = if is_eq (key_cmp q k) then Some l else None
 abbrev pub IsPut : KeyOf → Literal → BTreeMap (Vec (ℕ × ℤ) Global × ℤ) Literal → BTreeMap (Vec (ℕ × ℤ) Global × ℤ) Literal → Type 0
 IsPut k l m n = (q : Vec (ℕ × ℤ) Global × ℤ) → known_at n (q.0.items, q.1) ≡ or_else (known_at m (q.0.items, q.1)) (only_at k l (q.0.items, q.1))
 
--- rows are found by their keys, and by those of their denials; no row stands twice, and none is the denial of another
+-- rows are found by their keys, and by those of their denials
 pub record IsTable (base : ℕ) (t : Table) : Type 0 where
   pub indexed : (k : Vec (ℕ × ℤ) Global × ℤ) → known_at t.known (k.0.items, k.1) ≡ literal_by (k.0.items, k.1) base (rows_in t.rows)
-  pub apart : are_apart (rows_in t.rows) ≡ true

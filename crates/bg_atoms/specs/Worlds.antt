@@ -6,7 +6,6 @@ use Rattle.bg_sense.specs.Eval.{Scope, ev, value_at}
 use Rattle.bg_rows.specs.Rows.{RowOf, holds}
 use Rattle.bg_formula.specs.declared.atom.Literal.{Literal}
 use Rattle.bg_formula.specs.Atoms.{AtomOf}
-use Rattle.bg_formula.specs.Formulas.{rows_below}
 use Rattle.bg_formula.specs.Meaning.{Valuation, AtomsAgree}
 use Rattle.bg_forms.specs.Forms.{literal_in}
 use Rattle.bg_forms.specs.Fitting.{fits_ex}
@@ -23,11 +22,6 @@ abbrev pub Begins : List AtomOf → List AtomOf → Type 0
 Begins [] ys = Unit {0}
 Begins (x ∷ xs) [] = ⊥
 Begins (x ∷ xs) (y ∷ ys) = (x ≡ y) × Begins xs ys
-
--- where rows and these further ones name the first terms alone, so do the rows that they became
-abbrev pub AddsInside : List AtomOf → List AtomOf → List AtomOf → Type 0
-AddsInside more xs ys =
-    (terms : ℕ) → rows_below terms more ≡ true → rows_below terms xs ≡ true → rows_below terms ys ≡ true
 
 -- numbers of incarnations and truth values of atoms, a scope over incarnations and one over atoms
 pub record World : Type 0 where

@@ -1,5 +1,5 @@
 //! Blocks of forms with their rows.
-ghost use Rattle.std.specs.Prelude.{List, length, map, IfOk, OnOk};
+ghost use Rattle.std.specs.Prelude.{List, map, IfOk, OnOk};
 ghost use Rattle.bg_ast.specs.Meaning as m;
 ghost use Rattle.bg_ast.specs.Views.{ex_of};
 ghost use Rattle.bg_incarnate.specs.Views.{passive_cmd_of, cmds_of, edge_of, passive_block_of};
@@ -7,9 +7,9 @@ ghost use Rattle.bg_formula.specs.Atoms.{AtomOf};
 ghost use Rattle.bg_formed.specs.Views.{says_of, form_cmd_of, form_cmds_of, form_edge_of, form_block_of};
 ghost use Rattle.bg_atoms.specs.Worlds.{Begins};
 ghost use Rattle.bg_atoms.specs.Made.{rows_in};
-ghost use Rattle.bg_atoms.specs.Sources.{expression_of, InCmds, InEdges, InBlock, InBlocks};
+ghost use Rattle.bg_atoms.specs.Sources.{expression_of};
+ghost use Rattle.bg_atoms.specs.Listed.{with_ex, with_cmds, with_edges, with_block, with_blocks};
 ghost use Rattle.bg_atoms.specs.Tables.{IsTable};
-ghost use Rattle.bg_atoms.specs.Added.{Adds, IsFromTruth};
 ghost use Rattle.bg_atoms.specs.Growing.{Grows};
 ghost use Rattle.bg_atoms.specs.Told.{IsTold, CmdTold, CmdsTold, EdgeTold, EdgesTold, BlockTold, BlocksTold};
 
@@ -25,8 +25,7 @@ use std::alloc::{AllocError, Global};
 /// What a truth over incarnations says.
 fn told(alloc: Global, table: &mut Table, names: &Names, e: &Expr) -> Result<Says, AllocError>
     requires table { IsTable names.now.base table.old }
-    ensures grows { OnOk result (Grows names.now.base (length names.now.sorts.items) table.old table.new) }
-    ensures adds { OnOk result (Adds (IsFromTruth names.now.sorts.items (m.ex_of (ex_of e.now))) (rows_in table.old.rows) (rows_in table.new.rows)) }
+    ensures grows { OnOk result (Grows names.now.base (with_ex names.now.sorts.items (m.ex_of (ex_of e.now))) table.old table.new) }
     ensures told { IfOk result (λ x. (all : List AtomOf) → Begins (rows_in table.new.rows) all → IsTold names.now.sorts.items names.now.base all (m.ex_of (ex_of e.now)) (says_of x)) }
 {
     let x = abstracted(alloc, table, names, e)?;
@@ -43,8 +42,7 @@ fn cmd(
     k: &PassiveCmd,
 ) -> Result<FormCmd, AllocError>
     requires table { IsTable names.now.base table.old }
-    ensures grows { OnOk result (Grows names.now.base (length names.now.sorts.items) table.old table.new) }
-    ensures adds { OnOk result (Adds (IsFromTruth names.now.sorts.items (expression_of (passive_cmd_of k.now))) (rows_in table.old.rows) (rows_in table.new.rows)) }
+    ensures grows { OnOk result (Grows names.now.base (with_ex names.now.sorts.items (expression_of (passive_cmd_of k.now))) table.old table.new) }
     ensures told { IfOk result (λ x. (all : List AtomOf) → Begins (rows_in table.new.rows) all → CmdTold names.now.sorts.items names.now.base all (passive_cmd_of k.now) (form_cmd_of x)) }
 {
     match k {
@@ -66,8 +64,7 @@ fn cmds(
     ks: &[PassiveCmd],
 ) -> Result<Vec<FormCmd>, AllocError>
     requires table { IsTable names.now.base table.old }
-    ensures grows { OnOk result (Grows names.now.base (length names.now.sorts.items) table.old table.new) }
-    ensures adds { OnOk result (Adds (λ r. InCmds (λ e. IsFromTruth names.now.sorts.items e r) (cmds_of ks.now)) (rows_in table.old.rows) (rows_in table.new.rows)) }
+    ensures grows { OnOk result (Grows names.now.base (with_cmds names.now.sorts.items (cmds_of ks.now)) table.old table.new) }
     ensures told { IfOk result (λ x. (all : List AtomOf) → Begins (rows_in table.new.rows) all → CmdsTold names.now.sorts.items names.now.base all (cmds_of ks.now) (form_cmds_of x.items)) }
 {
     let mut made = Vec::new(alloc);
@@ -80,8 +77,7 @@ fn cmds(
 
 fn edge(alloc: Global, table: &mut Table, names: &Names, e: &Edge) -> Result<FormEdge, AllocError>
     requires table { IsTable names.now.base table.old }
-    ensures grows { OnOk result (Grows names.now.base (length names.now.sorts.items) table.old table.new) }
-    ensures adds { OnOk result (Adds (λ r. InCmds (λ x. IsFromTruth names.now.sorts.items x r) (edge_of e.now).cmds) (rows_in table.old.rows) (rows_in table.new.rows)) }
+    ensures grows { OnOk result (Grows names.now.base (with_cmds names.now.sorts.items (edge_of e.now).cmds) table.old table.new) }
     ensures told { IfOk result (λ x. (all : List AtomOf) → Begins (rows_in table.new.rows) all → EdgeTold names.now.sorts.items names.now.base all (edge_of e.now) (form_edge_of x)) }
 {
     let made = cmds(alloc, table, names, &e.cmds)?;
@@ -98,8 +94,7 @@ fn edges(
     es: &[Edge],
 ) -> Result<Vec<FormEdge>, AllocError>
     requires table { IsTable names.now.base table.old }
-    ensures grows { OnOk result (Grows names.now.base (length names.now.sorts.items) table.old table.new) }
-    ensures adds { OnOk result (Adds (λ r. InEdges (λ e. IsFromTruth names.now.sorts.items e r) (map edge_of es.now)) (rows_in table.old.rows) (rows_in table.new.rows)) }
+    ensures grows { OnOk result (Grows names.now.base (with_edges names.now.sorts.items (map edge_of es.now)) table.old table.new) }
     ensures told { IfOk result (λ x. (all : List AtomOf) → Begins (rows_in table.new.rows) all → EdgesTold names.now.sorts.items names.now.base all (map edge_of es.now) (map form_edge_of x.items)) }
 {
     let mut made = Vec::new(alloc);
@@ -117,8 +112,7 @@ fn block(
     b: &PassiveBlock,
 ) -> Result<FormBlock, AllocError>
     requires table { IsTable names.now.base table.old }
-    ensures grows { OnOk result (Grows names.now.base (length names.now.sorts.items) table.old table.new) }
-    ensures adds { OnOk result (Adds (λ r. InBlock (λ e. IsFromTruth names.now.sorts.items e r) (passive_block_of b.now)) (rows_in table.old.rows) (rows_in table.new.rows)) }
+    ensures grows { OnOk result (Grows names.now.base (with_block names.now.sorts.items (passive_block_of b.now)) table.old table.new) }
     ensures told { IfOk result (λ x. (all : List AtomOf) → Begins (rows_in table.new.rows) all → BlockTold names.now.sorts.items names.now.base all (passive_block_of b.now) (form_block_of x)) }
 {
     let made = cmds(alloc, table, names, &b.cmds)?;
@@ -134,8 +128,7 @@ pub fn blocks_told(
     bs: &[PassiveBlock],
 ) -> Result<Vec<FormBlock>, AllocError>
     requires table { IsTable names.now.base table.old }
-    ensures grows { OnOk result (Grows names.now.base (length names.now.sorts.items) table.old table.new) }
-    ensures adds { OnOk result (Adds (λ r. InBlocks (λ e. IsFromTruth names.now.sorts.items e r) (map passive_block_of bs.now)) (rows_in table.old.rows) (rows_in table.new.rows)) }
+    ensures grows { OnOk result (Grows names.now.base (with_blocks names.now.sorts.items (map passive_block_of bs.now)) table.old table.new) }
     ensures told { IfOk result (λ x. (all : List AtomOf) → Begins (rows_in table.new.rows) all → BlocksTold names.now.sorts.items names.now.base all (map passive_block_of bs.now) (map form_block_of x.items)) }
 {
     let mut made = Vec::new(alloc);

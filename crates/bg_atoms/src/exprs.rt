@@ -1,22 +1,25 @@
 //! Expressions over incarnations as expressions over atoms.
-ghost use Rattle.std.specs.Prelude.{◌≡◌, List, length, drop, IfOk, OnOk};
+ghost use Rattle.std.specs.Prelude.{◌≡◌, ◌≤◌, ◌+◌, List, ◌++◌, length, drop, IfOk, OnOk};
+ghost use Rattle.bg_ast.specs.Syntax.{Ex};
 ghost use Rattle.bg_ast.specs.Meaning as m;
 ghost use Rattle.bg_ast.specs.Views.{ex_of};
 ghost use Rattle.bg_formula.specs.Atoms.{AtomOf};
 ghost use Rattle.bg_atoms.specs.Worlds.{Begins};
 ghost use Rattle.bg_atoms.specs.Made.{rows_in, behind, Shows, IsMade, AreMade};
+ghost use Rattle.bg_atoms.specs.Listed.{with_ex};
+ghost use Rattle.bg_atoms.specs.Turned.{turned_by, turned_in, with_turned, with_links, with_operand, operand_in, AreTurned};
 ghost use Rattle.bg_atoms.specs.Tables.{IsTable};
-ghost use Rattle.bg_atoms.specs.Added.{Adds, IsFromTruth, IsFromLinks};
 ghost use Rattle.bg_atoms.specs.Growing.{Grows};
-ghost use Rattle.bg_atoms.specs.Heads.{IsRelation};
+ghost use Rattle.bg_atoms.specs.Heads.{IsRelation, IsNextIn};
 
 use crate::build::plain;
 use crate::chains::{joined, prefixed};
-use crate::heads::{head, next};
-use crate::made::{Linked, Made};
+use crate::heads::{head, next, until_implies};
+use crate::made::{Linked, Made, last};
 use crate::named::Names;
 use crate::order::Order;
 use crate::relate::related;
+use crate::signs::{is_explies, is_implies};
 use crate::table::Table;
 use bg_ast::resolved::{Expr, Link};
 use bg_base::OutOfRange;
@@ -33,7 +36,6 @@ fn without_relations(says: Expr) -> Made
 }
 
 /// An expression with the links of the relation that it begins, if it begins one.
-#[tactic(auto, using(crate::proofs::Growing::grows_itself))]
 #[cycle(abstracting)]
 fn begun(
     alloc: Global,
@@ -44,8 +46,7 @@ fn begun(
 ) -> Result<Made, AllocError>
     requires front { IsRelation names.now.sorts.items (m.ex_of (ex_of first.now)) front.now }
     requires table { IsTable names.now.base table.old }
-    ensures grows { OnOk result (Grows names.now.base (length names.now.sorts.items) table.old table.new) }
-    ensures adds { OnOk result (Adds (IsFromTruth names.now.sorts.items (behind (m.ex_of (ex_of first.now)) front.now)) (rows_in table.old.rows) (rows_in table.new.rows)) }
+    ensures grows { OnOk result (Grows names.now.base (with_ex names.now.sorts.items (behind (m.ex_of (ex_of first.now)) front.now)) table.old table.new) }
     ensures made { IfOk result (λ x. (all : List AtomOf) → Begins (rows_in table.new.rows) all → IsMade names.now.sorts.items names.now.base all (behind (m.ex_of (ex_of first.now)) front.now) x) }
 {
     match front.split_last() {
@@ -54,8 +55,84 @@ fn begun(
     }
 }
 
-/// The links of a chain from this one on, where what stands before it has this refusal. `==>` begins a chain anew on its right.
-#[tactic(auto, using(crate::proofs::Growing::grows_itself))]
+/// What stands behind a link's sign on top of what was made, if the sign is `<==`.
+#[cycle(abstracting)]
+fn turn(
+    alloc: Global,
+    table: &mut Table,
+    names: &Names,
+    l: &Link,
+    made: &mut Vec<Made>,
+) -> Result<(), AllocError>
+    requires table { IsTable names.now.base table.old }
+    ensures grows { OnOk result (Grows names.now.base (with_turned names.now.sorts.items (turned_by l.now)) table.old table.new) }
+    ensures made { OnOk result ((all : List AtomOf) → Begins (rows_in table.new.rows) all → (es : List Ex) → AreTurned names.now.sorts.items names.now.base all es made.old.items → AreTurned names.now.sorts.items names.now.base all (turned_by l.now ++ es) made.new.items) }
+{
+    if !is_explies(l.sign) {
+        return Ok(());
+    }
+    let x = abstracted(alloc, table, names, &l.operand)?;
+    made.push(x)?;
+    Ok(())
+}
+
+/// What stands behind each `<==` from this link on and before the next `==>`, from the last one on: `a <== b` means `b ==> a`, so what b
+/// has comes first.
+#[cycle(abstracting)]
+fn turned(
+    alloc: Global,
+    table: &mut Table,
+    names: &Names,
+    links: &[Link],
+    from: usize,
+) -> Result<Vec<Made>, AllocError>
+    requires from { from ≤ length links.now }
+    requires table { IsTable names.now.base table.old }
+    ensures grows { OnOk result (Grows names.now.base (with_turned names.now.sorts.items (turned_in (drop from links.now))) table.old table.new) }
+    ensures made { IfOk result (λ xs. (all : List AtomOf) → Begins (rows_in table.new.rows) all → AreTurned names.now.sorts.items names.now.base all (turned_in (drop from links.now)) xs.items) }
+{
+    let mut made = Vec::new(alloc);
+    let mut i = from + until_implies(&links[from..]);
+    while i > from {
+        i -= 1;
+        turn(alloc, table, names, &links[i], &mut made)?;
+    }
+    Ok(made)
+}
+
+/// The operand of link i with the n links of the relation that it begins; behind `<==` it was made before. `==>` begins a chain anew.
+#[cycle(abstracting)]
+fn operand(
+    alloc: Global,
+    table: &mut Table,
+    names: &Names,
+    links: &[Link],
+    i: usize,
+    n: usize,
+    made: &mut Vec<Made>,
+) -> Result<Made, AllocError>
+    requires within { i + 1 + n ≤ length links.now }
+    requires next { IsNextIn names.now.sorts.items (drop i links.now) n }
+    requires table { IsTable names.now.base table.old }
+    requires made { (all : List AtomOf) → Begins (rows_in table.old.rows) all → AreTurned names.now.sorts.items names.now.base all (turned_in (drop i links.now)) made.old.items }
+    ensures grows { OnOk result (Grows names.now.base (with_operand names.now.sorts.items (drop i links.now) n) table.old table.new) }
+    ensures turned { OnOk result ((all : List AtomOf) → Begins (rows_in table.new.rows) all → AreTurned names.now.sorts.items names.now.base all (turned_in (drop (i + 1 + n) links.now)) made.new.items) }
+    ensures made { IfOk result (λ x. (all : List AtomOf) → Begins (rows_in table.new.rows) all → IsMade names.now.sorts.items names.now.base all (operand_in (drop i links.now) n) x) }
+{
+    let l = &links[i];
+    let next = i + 1 + n;
+    if is_implies(l.sign) {
+        *made = turned(alloc, table, names, links, next)?;
+        return begun(alloc, table, names, &l.operand, &links[i + 1..next]);
+    }
+    if is_explies(l.sign) {
+        return Ok(last(made));
+    }
+    abstracted(alloc, table, names, &l.operand)
+}
+
+/// The links of a chain from this one on, where what stands before it has this refusal, and what stands behind each `<==` before the
+/// next `==>` is made already.
 #[cycle(abstracting)]
 fn links_from(
     alloc: Global,
@@ -64,20 +141,22 @@ fn links_from(
     first: Option<OutOfRange>,
     links: &[Link],
     from: usize,
+    before: Vec<Made>,
 ) -> Result<Linked, AllocError>
     requires table { IsTable names.now.base table.old }
-    ensures grows { OnOk result (Grows names.now.base (length names.now.sorts.items) table.old table.new) }
-    ensures adds { OnOk result (Adds (IsFromLinks names.now.sorts.items (drop from links.now)) (rows_in table.old.rows) (rows_in table.new.rows)) }
+    requires before { (all : List AtomOf) → Begins (rows_in table.old.rows) all → AreTurned names.now.sorts.items names.now.base all (turned_in (drop from links.now)) before.items }
+    ensures grows { OnOk result (Grows names.now.base (with_links names.now.sorts.items (drop from links.now)) table.old table.new) }
     ensures made { IfOk result (λ x. (all : List AtomOf) → Begins (rows_in table.new.rows) all → AreMade names.now.sorts.items names.now.base all first (drop from links.now) x) }
 {
     let mut order = Order::new(first);
+    let mut before = before;
     let mut made = Vec::new(alloc);
     let mut i = from;
     while i < links.len() {
         let l = &links[i];
         let rest = &links[i + 1..];
         let n = next(names, l, rest);
-        let x = begun(alloc, table, names, &l.operand, &rest[..n])?;
+        let x = operand(alloc, table, names, links, i, n, &mut before)?;
         order = order.then(l.sign, x.refused);
         made.push(Link {
             pos: l.pos,
@@ -93,7 +172,6 @@ fn links_from(
 }
 
 /// A truth over incarnations, as one over atoms; the rows of its relations are in the table from now on.
-#[tactic(auto, using(crate::proofs::Growing::grows_itself))]
 #[cycle(abstracting)]
 pub fn abstracted(
     alloc: Global,
@@ -102,8 +180,7 @@ pub fn abstracted(
     e: &Expr,
 ) -> Result<Made, AllocError>
     requires table { IsTable names.now.base table.old }
-    ensures grows { OnOk result (Grows names.now.base (length names.now.sorts.items) table.old table.new) }
-    ensures adds { OnOk result (Adds (IsFromTruth names.now.sorts.items (m.ex_of (ex_of e.now))) (rows_in table.old.rows) (rows_in table.new.rows)) }
+    ensures grows { OnOk result (Grows names.now.base (with_ex names.now.sorts.items (m.ex_of (ex_of e.now))) table.old table.new) }
     ensures made { IfOk result (λ x. (all : List AtomOf) → Begins (rows_in table.new.rows) all → IsMade names.now.sorts.items names.now.base all (m.ex_of (ex_of e.now)) x) }
 {
     match e {
@@ -123,8 +200,9 @@ pub fn abstracted(
         }
         Expr::Chain(e, links) => {
             let n = head(names, e, links);
+            let before = turned(alloc, table, names, links, n)?;
             let first = begun(alloc, table, names, e, &links[..n])?;
-            let rest = links_from(alloc, table, names, first.refused, links, n)?;
+            let rest = links_from(alloc, table, names, first.refused, links, n, before)?;
             joined(alloc, first.says, rest)
         }
         Expr::Number(_, _) => Ok(without_relations(plain(false))),

@@ -1,10 +1,11 @@
 //! The relation of numbers with which a chain begins.
-ghost use Rattle.std.specs.Prelude.{◌≡◌, ◌&&◌};
+ghost use Rattle.std.specs.Prelude.{◌≡◌, ◌≤◌, ◌&&◌, length};
 ghost use Rattle.bg_ast.specs.Meaning as m;
 ghost use Rattle.bg_ast.specs.Views.{ex_of};
 ghost use Rattle.bg_linear.specs.Relations.{relates, op_of};
 ghost use Rattle.bg_linear.specs.Sorts.{kind_ex, is_number};
 ghost use Rattle.bg_atoms.specs.Made.{behind};
+ghost use Rattle.bg_atoms.specs.Turned.{until_implies};
 ghost use Rattle.bg_atoms.specs.Heads.{IsSums, IsHead, IsNext};
 
 use crate::named::Names;
@@ -19,6 +20,21 @@ fn sums(links: &[Link]) -> usize
     let mut n = 0;
     for l in links {
         if !is_arithmetic(l.sign) {
+            return n;
+        }
+        n += 1;
+    }
+    n
+}
+
+/// How many links stand before the next `==>`.
+pub fn until_implies(links: &[Link]) -> usize
+    ensures until { result ≡ until_implies links.now }
+    ensures within { result ≤ length links.now }
+{
+    let mut n = 0;
+    for l in links {
+        if is_implies(l.sign) {
             return n;
         }
         n += 1;

@@ -1,4 +1,5 @@
 //! What is made of expressions.
+ghost use Rattle.std.specs.Prelude.{◌≡◌, ◌<◌, [], ◌∷◌, ◌++◌, length};
 
 use bg_ast::resolved::{Expr, Link};
 use bg_base::OutOfRange;
@@ -15,4 +16,15 @@ pub struct Made {
 pub struct Linked {
     pub links: Vec<Link>,
     pub refused: Option<OutOfRange>,
+}
+
+/// Takes the last one away.
+pub fn last(made: &mut Vec<Made>) -> Made
+    requires { 0 < length made.old.items }
+    ensures { made.old.items ≡ made.new.items ++ result ∷ [] }
+{
+    match made.pop() {
+        Some(x) => x,
+        None => unreachable!(),
+    }
 }

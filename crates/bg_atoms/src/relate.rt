@@ -1,5 +1,5 @@
 //! Relations of numbers as expressions over the atoms of their rows.
-ghost use Rattle.std.specs.Prelude.{◌≡◌, List, [], ◌∷◌, length, map, IfOk, OnOk};
+ghost use Rattle.std.specs.Prelude.{◌≡◌, List, map, IfOk, OnOk};
 ghost use Rattle.bg_ast.specs.Syntax.{Binary};
 ghost use Rattle.bg_ast.specs.Meaning as m;
 ghost use Rattle.bg_ast.specs.Views.{ex_of};
@@ -9,10 +9,9 @@ ghost use Rattle.bg_linear.specs.Relations.{op_of};
 ghost use Rattle.bg_atoms.specs.Built.{says_ex};
 ghost use Rattle.bg_atoms.specs.Worlds.{Begins, SaysRow, SaysAll};
 ghost use Rattle.bg_atoms.specs.Made.{rows_in, behind, IsRange, IsRelated};
-ghost use Rattle.bg_atoms.specs.Sources.{IsFrom};
+ghost use Rattle.bg_atoms.specs.Listed.{with_row, with_rows, with_ex};
 ghost use Rattle.bg_atoms.specs.Tables.{IsTable};
-ghost use Rattle.bg_atoms.specs.Added.{Adds};
-ghost use Rattle.bg_atoms.specs.Growing.{Gains, Grows};
+ghost use Rattle.bg_atoms.specs.Growing.{Grows};
 ghost use Rattle.bg_atoms.specs.Heads.{Relates};
 
 use crate::build::{both, literal, plain};
@@ -30,7 +29,7 @@ use std::alloc::{AllocError, Global};
 /// What says that a row holds, where the rows begin at this atom. A row without entries is plain.
 fn row_expr(alloc: Global, table: &mut Table, base: u32, a: Linear) -> Result<Expr, AllocError>
     requires table { IsTable base table.old }
-    ensures gains { OnOk result (Gains base (view_linear a ∷ []) table.old table.new) }
+    ensures grows { OnOk result (Grows base (with_row (view_linear a)) table.old table.new) }
     ensures row { IfOk result (λ x. (all : List AtomOf) → Begins (rows_in table.new.rows) all → SaysRow base all (row_of a.row) (m.ex_of (ex_of x))) }
 {
     if a.row.entries.is_empty() {
@@ -48,7 +47,7 @@ fn all_rows(
     rows: Vec<Linear>,
 ) -> Result<Expr, AllocError>
     requires table { IsTable base table.old }
-    ensures gains { OnOk result (Gains base (map view_linear rows.items) table.old table.new) }
+    ensures grows { OnOk result (Grows base (with_rows (map view_linear rows.items)) table.old table.new) }
     ensures rows { IfOk result (λ x. (all : List AtomOf) → Begins (rows_in table.new.rows) all → SaysAll base all (map view_linear rows.items) (m.ex_of (ex_of x))) }
 {
     let mut rows = rows;
@@ -95,8 +94,7 @@ pub fn related(
 ) -> Result<Made, AllocError>
     requires related { Relates names.now.sorts.items (m.ex_of (ex_of first.now)) before.now l.now }
     requires table { IsTable names.now.base table.old }
-    ensures grows { OnOk result (Grows names.now.base (length names.now.sorts.items) table.old table.new) }
-    ensures adds { OnOk result (Adds (IsFrom names.now.sorts.items (Binary (op_of l.now.sign) (behind (m.ex_of (ex_of first.now)) before.now) (m.ex_of (ex_of l.now.operand)))) (rows_in table.old.rows) (rows_in table.new.rows)) }
+    ensures grows { OnOk result (Grows names.now.base (with_ex names.now.sorts.items (Binary (op_of l.now.sign) (behind (m.ex_of (ex_of first.now)) before.now) (m.ex_of (ex_of l.now.operand)))) table.old table.new) }
     ensures made { IfOk result (λ x. (all : List AtomOf) → Begins (rows_in table.new.rows) all → IsRelated names.now.sorts.items names.now.base all (op_of l.now.sign) (behind (m.ex_of (ex_of first.now)) before.now) (m.ex_of (ex_of l.now.operand)) x) }
 {
     match relation_of_chain(alloc, l.sign, first, before, &l.operand) {

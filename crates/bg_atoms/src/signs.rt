@@ -3,6 +3,7 @@ ghost use Rattle.std.specs.Prelude.{◌≡◌, IfOk};
 ghost use Rattle.bg_linear.specs.Chains.{is_implies};
 ghost use Rattle.bg_linear.specs.Relations.{relates, op_of};
 ghost use Rattle.bg_atoms.specs.Heads.{is_arithmetic};
+ghost use Rattle.bg_atoms.specs.Turned.{is_explies};
 
 use bg_text::{InfixSign, TreePrefix};
 use std::alloc::{AllocError, Global};
@@ -33,6 +34,12 @@ pub fn is_implies(sign: InfixSign) -> bool
     ensures { result ≡ is_implies sign }
 {
     sign == InfixSign::Implies
+}
+
+pub fn is_explies(sign: InfixSign) -> bool
+    ensures { result ≡ is_explies sign }
+{
+    sign == InfixSign::Explies
 }
 
 /// Whether the sign relates numbers.

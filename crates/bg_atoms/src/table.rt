@@ -1,12 +1,13 @@
 //! Rows, each once, with the literals that say that they hold.
-ghost use Rattle.std.specs.Prelude.{◌≡◌, ℕ, true, false, List, [], ◌∷◌, Contains, None, IfOk, OnOk};
+ghost use Rattle.std.specs.Prelude.{◌≡◌, ℕ, true, false, List, [], None, IfOk, OnOk};
 ghost use Rattle.bg_rows.specs.Keys.{key_of};
 ghost use Rattle.bg_rows.specs.Rows.{row_of};
 ghost use Rattle.bg_formula.specs.Atoms.{AtomOf, view_linear};
-ghost use Rattle.bg_atoms.specs.Worlds.{Begins, AddsInside, IsLiteral};
+ghost use Rattle.bg_atoms.specs.Worlds.{Begins, IsLiteral};
 ghost use Rattle.bg_atoms.specs.Made.{rows_in};
-ghost use Rattle.bg_atoms.specs.Added.{Adds};
+ghost use Rattle.bg_atoms.specs.Listed.{add_row};
 ghost use Rattle.bg_atoms.specs.Tables.{literal_by, IsPut, IsTable};
+ghost use Rattle.bg_atoms.specs.Growing.{Grows};
 
 use crate::named::sum;
 use bg_formula::{Linear, Literal};
@@ -56,10 +57,7 @@ impl Table {
         requires table { IsTable base self.old }
         requires key { (at.0.items, at.1) ≡ key_of (row_of a.row) }
         requires new { literal_by (key_of (row_of a.row)) base (rows_in self.old.rows) ≡ None }
-        ensures table { OnOk result (IsTable base self.new) }
-        ensures begins { OnOk result (Begins (rows_in self.old.rows) (rows_in self.new.rows)) }
-        ensures inside { OnOk result (AddsInside (view_linear a ∷ []) (rows_in self.old.rows) (rows_in self.new.rows)) }
-        ensures adds { OnOk result (Adds (Contains (view_linear a ∷ [])) (rows_in self.old.rows) (rows_in self.new.rows)) }
+        ensures grows { OnOk result (Grows base (add_row (view_linear a)) self.old self.new) }
         ensures literal { IfOk result (λ l. (all : List AtomOf) → Begins (rows_in self.new.rows) all → IsLiteral base all (row_of a.row) l) }
     {
         let count = match u32::try_from(self.rows.len()) {
@@ -78,10 +76,7 @@ impl Table {
     /// want of memory.
     pub fn literal(&mut self, alloc: Global, base: u32, a: Linear) -> Result<Literal, AllocError>
         requires table { IsTable base self.old }
-        ensures table { OnOk result (IsTable base self.new) }
-        ensures begins { OnOk result (Begins (rows_in self.old.rows) (rows_in self.new.rows)) }
-        ensures inside { OnOk result (AddsInside (view_linear a ∷ []) (rows_in self.old.rows) (rows_in self.new.rows)) }
-        ensures adds { OnOk result (Adds (Contains (view_linear a ∷ [])) (rows_in self.old.rows) (rows_in self.new.rows)) }
+        ensures grows { OnOk result (Grows base (add_row (view_linear a)) self.old self.new) }
         ensures literal { IfOk result (λ l. (all : List AtomOf) → Begins (rows_in self.new.rows) all → IsLiteral base all (row_of a.row) l) }
     {
         let at = key(alloc, &a.row)?;

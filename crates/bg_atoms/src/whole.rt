@@ -15,6 +15,7 @@ ghost use Rattle.bg_atoms.specs.Literals.{are_apart};
 ghost use Rattle.bg_atoms.specs.Encoded.{blocks_over};
 ghost use Rattle.bg_atoms.specs.Made.{rows_in};
 ghost use Rattle.bg_atoms.specs.Sources.{AreFrom};
+ghost use Rattle.bg_atoms.specs.Listed.{rows_of};
 ghost use Rattle.bg_atoms.specs.Sorted.{blocks_sorted};
 
 use crate::blocks::blocks_told;
@@ -41,10 +42,11 @@ fn count(sorts: &[Sort]) -> Result<u32, AllocError>
 ///
 /// A relation of numbers is a literal of its row's atom, or of that of the row which it denies; `==` is the conjunction of its two
 /// rows' literals, and `!=` its denial. Each row is one of such a relation in some command, no row stands twice, and none is the denial
-/// of another. With the rows the blocks of forms are given (`exact`): a command's form is that of its expression with the literals of
-/// its own relations, so it names no row but theirs. A command of which a relation leaves 128 bits says `Outside` with the first
-/// operation that does so, in the order in which what its expression means is evaluated: `a <== b` means `b ==> a`, so what b has comes
-/// before what a has. 2^32 atoms or incarnations count as want of memory.
+/// of another. They stand in the order in which the commands have them (`listed`), from left to right, where `a <== b` means `b ==> a`, so
+/// what b has comes before what a has; of the two rows of `==` the second one comes first. With the rows the blocks of forms are given
+/// (`exact`): a command's form is that of its expression with the literals of its own relations, so it names no row but theirs. A command
+/// of which a relation leaves 128 bits says `Outside` with the first operation that does so, in the order in which what its expression
+/// means is evaluated. 2^32 atoms or incarnations count as want of memory.
 pub fn atoms(
     alloc: Global,
     sorts: &[Sort],
@@ -59,6 +61,7 @@ pub fn atoms(
     ensures rows { IfOk result (λ made. IfSome made (λ a. AreRows (rows_in a.rows))) }
     ensures denials { IfOk result (λ made. IfSome made (λ a. AtomsAgree (rows_in a.rows))) }
     ensures inside { IfOk result (λ made. IfSome made (λ a. rows_below a.terms (rows_in a.rows) ≡ true)) }
+    ensures listed { IfOk result (λ made. IfSome made (λ a. rows_in a.rows ≡ rows_of sorts.now (map passive_block_of blocks.now))) }
     ensures sources { IfOk result (λ made. IfSome made (λ a. AreFrom sorts.now (map passive_block_of blocks.now) (rows_in a.rows))) }
     ensures exact { IfOk result (λ made. IfSome made (λ a. blocks_of a.blocks ≡ blocks_over sorts.now a.first (rows_in a.rows) (map passive_block_of blocks.now))) }
     ensures apart { IfOk result (λ made. IfSome made (λ a. are_apart (rows_in a.rows) ≡ true)) }

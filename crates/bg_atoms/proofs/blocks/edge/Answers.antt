@@ -1,14 +1,14 @@
-use Rattle.std.proofs.Common.{ap, refl, subst}
+use Rattle.std.proofs.Common.{refl, subst}
 use Rattle.bg_incarnate.specs.Views.{cmds_of}
 use Rattle.bg_formed.specs.Views.{form_cmds_of}
-use Rattle.bg_atoms.specs.Added.{IsFromTruth}
+use Rattle.bg_atoms.specs.Listed.{with_cmds}
 use Rattle.bg_atoms.specs.Told.{CmdsTold}
-use Rattle.bg_atoms.proofs.Sourcing.{adds_as_cmds}
+use Rattle.bg_atoms.specs.Growing.{Grows}
 use Rattle.bg_atoms.proofs.blocks.edge.Goals as goal
 
-pub returns-clause-adds : goal.returns-clause-adds
-returns-clause-adds c =
-    adds_as_cmds (λ e r. IsFromTruth c.args.names.now.sorts.items e r) _ _ _ _ (ap cmds_of c.deref.ensures.value) c.in_ok-made.ensures.adds
+pub returns-clause-grows : goal.returns-clause-grows
+returns-clause-grows c =
+    subst (λ l. Grows c.args.names.now.base (with_cmds c.args.names.now.sorts.items (cmds_of l)) c.args.table.now c.cmds.new.table) c.deref.ensures.value c.in_ok-made.ensures.grows
 
 pub returns-clause-told : goal.returns-clause-told
 returns-clause-told c =

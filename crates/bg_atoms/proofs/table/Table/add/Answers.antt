@@ -1,31 +1,21 @@
 use Rattle.std.proofs.Common.{rules, ◌≡◌, ◌+◌, length}
 use Rattle.bg_rows.specs.Rows.{row_of}
-use Rattle.bg_atoms.proofs.Lists.{begins_push, inside_push}
-use Rattle.bg_atoms.proofs.Adding.{adds_push}
-use Rattle.bg_atoms.proofs.Tabled.{put_both, apart_push, literal_push, stays}
+use Rattle.bg_atoms.proofs.Tabled.{put_both, literal_push, stays}
+use Rattle.bg_atoms.proofs.Listing.{added_new}
 use Rattle.bg_atoms.proofs.Reading.{is_literal}
 use Rattle.bg_atoms.proofs.table.Table.add.Goals as goal
 
-pub returns-clause-table : goal.returns-clause-table
-returns-clause-table c =
+pub returns-clause-grows : goal.returns-clause-grows
+returns-clause-grows c =
     let r = c.requires in
     let xs = c.args.self.now.rows.items in
     let ys = c.push.new.self.items in
     let pushed = c.in_ok-push.ensures.items in
     let place : c.in_ok-atom.atom ≡ c.args.base + length xs = search rules in
     record {
-      indexed = λ k. put_both (k.0.items, k.1) c.args.base c.in_ok-atom.atom xs ys c.args.a _ _ _ _ _ pushed place r.key c.in_ok-denial.ensures (r.table.indexed k) (c.in_ok-put.ensures k) (c.in_ok-put-2.ensures k);
-      apart = apart_push c.args.base xs ys c.args.a pushed r.table.apart r.new;
+      table = record { indexed = λ k. put_both (k.0.items, k.1) c.args.base c.in_ok-atom.atom xs ys c.args.a _ _ _ _ _ pushed place r.key c.in_ok-denial.ensures (r.table.indexed k) (c.in_ok-put.ensures k) (c.in_ok-put-2.ensures k) };
+      rows = added_new c.args.base xs ys c.args.a pushed r.new;
     }
-
-pub returns-clause-begins : goal.returns-clause-begins
-returns-clause-begins c = begins_push c.args.self.now.rows.items c.push.new.self.items c.args.a c.in_ok-push.ensures.items
-
-pub returns-clause-inside : goal.returns-clause-inside
-returns-clause-inside c = inside_push c.args.self.now.rows.items c.push.new.self.items c.args.a c.in_ok-push.ensures.items
-
-pub returns-clause-adds : goal.returns-clause-adds
-returns-clause-adds c = adds_push c.args.self.now.rows.items c.push.new.self.items c.args.a c.in_ok-push.ensures.items
 
 pub returns-clause-literal : goal.returns-clause-literal
 returns-clause-literal c =
