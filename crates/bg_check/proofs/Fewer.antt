@@ -23,8 +23,8 @@ use Rattle.bg_replay.specs.Endings.{IsReplay}
 use Rattle.bg_replay.specs.declared.ending.Ending.{Ending}
 use Rattle.bg_replay.specs.declared.ending.Ending.TheVariants as ends
 use Rattle.bg_model.specs.declared.failure.Counterexample.{Counterexample}
-use Rattle.bg_check.specs.declared.prepared.Prepared.{Prepared}
-use Rattle.bg_check.specs.Prepared.{IsPrepared}
+use Rattle.bg_task.specs.declared.prepared.Prepared.{Prepared}
+use Rattle.bg_task.specs.Prepared.{IsPrepared}
 use Rattle.bg_check.specs.Verdicts.{IsUsed}
 use Rattle.bg_check.specs.Dropped.{FailsWithin}
 use Rattle.bg_check.proofs.LawTypes.{ReplayLaw}

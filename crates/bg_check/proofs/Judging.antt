@@ -16,10 +16,10 @@ use Rattle.bg_places.specs.Views.{placed_of, placed_in}
 use Rattle.bg_tree.specs.declared.outcome.Budget.{Budget}
 use Rattle.bg_check.specs.declared.verdict.Judged.{Judged}
 use Rattle.bg_places.specs.Placed.{Placed, place_in, placed_impl, placed_from, placed}
-use Rattle.bg_check.specs.declared.prepared.Prepared.{Prepared}
-use Rattle.bg_check.specs.Prepared.{IsPrepared, ArePrepared}
-use Rattle.bg_check.specs.Asked.{IsAsked, AreAsked}
-use Rattle.bg_check.proofs.Numbered.{OfNumber}
+use Rattle.bg_task.specs.declared.prepared.Prepared.{Prepared}
+use Rattle.bg_task.specs.Prepared.{IsPrepared, ArePrepared}
+use Rattle.bg_task.specs.Asked.{IsAsked, AreAsked}
+use Rattle.bg_task.proofs.Numbered.{OfNumber}
 use Rattle.bg_check.specs.Verdicts.{IsRight, placed_at, AreRightAt, AreRightOf, AreRightFrom}
 
 -- one more verdict

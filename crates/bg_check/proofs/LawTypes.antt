@@ -1,39 +1,31 @@
 -- What the laws of the crates below say.
 use Rattle.std.proofs.Common.{◌≡◌, ℕ, ◌+◌, ◌<◌, ℤ, Bool, true, false, List, length, map, Option, Some, None, Ok}
-use Rattle.std.specs.Prelude.{◌↔◌, is_some, slice_get, Contains}
-use Rattle.bg_ast.specs.Values.{Val, Ty}
+use Rattle.std.specs.Prelude.{slice_get, Contains}
+use Rattle.bg_ast.specs.Values.{Val}
 use Rattle.bg_ast.specs.Syntax.{Proc, Impl, Prog}
 use Rattle.bg_ast.specs.Resolved as r
 use Rattle.bg_ast.specs.Meaning.{meaning_of}
 use Rattle.bg_ast.specs.Execution.{Interp, State, Choice, Spot, Place}
 use Rattle.bg_sense.specs.Types.{are_of}
-use Rattle.bg_sense.specs.Eval.{Scope}
-use Rattle.bg_sense.specs.Flow.{Failed}
-use Rattle.bg_sense.specs.Context.{Loops, Turning}
 use Rattle.bg_sense.specs.Clauses.{is_kept}
 use Rattle.bg_sense.specs.Variables.{procedure_of}
-use Rattle.bg_sense.specs.Run.{context, induction_run}
+use Rattle.bg_sense.specs.Run.{induction_run}
 use Rattle.bg_sense.specs.Places.{places}
-use Rattle.bg_sense.specs.Interps.{IsInterp, Meets}
+use Rattle.bg_sense.specs.Interps.{Meets}
 use Rattle.bg_sense.specs.Claims.{IsState, Safe, Fails}
-use Rattle.bg_sense.specs.Typing.{AreTypedBodies, IsTypedSt}
 use Rattle.bg_sense.specs.Typed.{IsTyped}
 use Rattle.bg_sense.specs.Resolved.{IsResolved}
-use Rattle.bg_flow.specs.Core.{frame_decls, routine_of}
-use Rattle.bg_flow.specs.Blocks.{blocks_of}
-use Rattle.bg_passive.specs.Passive.{PassiveBlock, SomeWalk}
-use Rattle.bg_passive.specs.Incarnations.{Arrival, passives, MakesPassive, first_state, passive_scope, ValuesFrom}
-use Rattle.bg_passive.specs.Arrivals.{arrived}
-use Rattle.bg_passive.specs.Equations.{is_well, equations}
+use Rattle.bg_flow.specs.Core.{frame_decls}
+use Rattle.bg_passive.specs.Incarnations.{first_state}
+use Rattle.bg_passive.specs.Equations.{is_well}
 use Rattle.bg_block_types.specs.Typed.{blocks_in, incarnations_in, passives_in}
 use Rattle.bg_block_types.specs.TypedFlow.{CodeIsTyped}
-use Rattle.bg_incarnate.specs.Even.{BlocksEven}
-use Rattle.bg_formula.specs.Atoms.{AtomOf, IsTruth, at}
-use Rattle.bg_formula.specs.Formulas.{Formula, unit_atom, is_whole}
+use Rattle.bg_formula.specs.Atoms.{AtomOf, at}
+use Rattle.bg_formula.specs.Formulas.{Formula, is_whole}
 use Rattle.bg_formula.specs.Meaning.{Valuation, signed, clauses_true, MeetsUnits, AtomsAgree}
-use Rattle.bg_formula.specs.Instances.{Instance, SignedAtom, atoms_of}
+use Rattle.bg_formula.specs.Instances.{Instance, SignedAtom}
 use Rattle.bg_cert.specs.Paths.{decides}
-use Rattle.bg_cert.specs.Certs.{CertOf, Accepts, HasNoValuation, uses}
+use Rattle.bg_cert.specs.Certs.{CertOf, Accepts, uses}
 use Rattle.bg_point.specs.Points.{value_of}
 use Rattle.bg_tree.specs.declared.outcome.Leaf.{Leaf}
 use Rattle.bg_tree.specs.Ends.{IsLeaf, TruthsAgree}
@@ -47,8 +39,6 @@ use Rattle.bg_clause.specs.Valued.{worth_in}
 use Rattle.bg_clause.specs.Whole.{clauses_of}
 use Rattle.bg_linear.specs.declared.scalar.Sort.{Sort}
 use Rattle.bg_linear.specs.Sorts.{scalar_values, HoldScalars}
-use Rattle.bg_atoms.specs.Ranks.{rank}
-use Rattle.bg_atoms.specs.Sorted.{blocks_sorted}
 use Rattle.bg_faithful.specs.Checks.{BlocksPlaced}
 use Rattle.bg_faithful.specs.Sorted.{sorts_in}
 use Rattle.bg_faithful.specs.Encoded.{Encoding, IsEncoding}
@@ -64,15 +54,6 @@ use Rattle.bg_replay.specs.Endings.{IsRight, IsReplay}
 use Rattle.bg_replay.specs.Views.{set_of}
 use Rattle.bg_replay.specs.declared.ending.Ending.{Ending}
 
-abbrev pub FunctionLaw : Type 0
-FunctionLaw = (p : Prog) → IsTyped p → AreTypedBodies p
-
-abbrev pub BodyLaw : Type 0
-BodyLaw =
-    (loops : Loops) (p : Prog) (set : ℕ → Bool) (i : Interp) (k : ℕ) (m : Impl) (q : Proc) (s : State) →
-    IsTyped p → slice_get p.implementations k ≡ Some m → procedure_of p m.procedure ≡ Some q →
-    IsTypedSt (context loops p set i k m q s) m.body
-
 abbrev pub SafeLaw : Type 0
 SafeLaw =
     (p : Prog) (set : ℕ → Bool) (k : ℕ) → IsTyped p → k < length p.implementations →
@@ -82,42 +63,6 @@ SafeLaw =
 
 abbrev pub PlaceLaw : Type 0
 PlaceLaw = (p : r.Program) → map place_in (placed p) ≡ places (meaning_of p)
-
-abbrev pub PassiveLaw : Type 0
-PassiveLaw =
-    (p : Prog) (set : ℕ → Bool) (i : Interp) (k : ℕ) (m : Impl) (q : Proc) (s : State) (spot : Spot) (others : List Ty) (arrivals : List Arrival) →
-    slice_get p.implementations k ≡ Some m → procedure_of p m.procedure ≡ Some q →
-    AreTypedBodies p → IsTypedSt (context Turning p set i k m q s) m.body → IsInterp p i → IsState p k s →
-    MakesPassive p (frame_decls m q) others arrivals (blocks_of (routine_of p k m q)) →
-    ((choices : List Choice) × (induction_run p set i k s choices ≡ Failed spot))
-    ↔ ((values : List Val) × (ValuesFrom p (frame_decls m q) others s values
-    × SomeWalk set spot (passive_scope p i values) (passives arrivals (blocks_of (routine_of p k m q))) 0))
-
-abbrev pub FitLaw : Type 0
-FitLaw =
-    (p : Prog) (set : ℕ → Bool) (i : Interp) (k : ℕ) (m : Impl) (q : Proc) (s : State) →
-    IsTypedSt (context Turning p set i k m q s) m.body →
-    MakesPassive p (frame_decls m q)
-    (arrived p (frame_decls m q) (blocks_of (routine_of p k m q))).made
-    (arrived p (frame_decls m q) (blocks_of (routine_of p k m q))).arrivals
-    (blocks_of (routine_of p k m q))
-
-abbrev pub DenyLaw : Type 0
-DenyLaw =
-    (set : ℕ → Bool) (target : Spot) (values : Scope) (blocks : List PassiveBlock) (k : ℕ) →
-    is_well (slice_get (equations set target values blocks) k) ≡ false ↔ SomeWalk set target values blocks k
-
--- a valuation for typed values under which the equations deny the entry
-abbrev pub MetLaw : Type 0
-MetLaw =
-    (p : Prog) (k : ℕ) (m : Impl) (q : Proc) → IsTyped p → is_over_scalars true p ≡ true →
-    slice_get p.implementations k ≡ Some m → procedure_of p m.procedure ≡ Some q →
-    (a : Encoding) → IsEncoding p k m q a → (target : Spot) (f : Formula) → clauses_of a.first a.named a.terms a.rows target a.blocks ≡ Ok f →
-    (i : Interp) (values : List Val) (set : ℕ → Bool) → are_of (incarnations_in p k m q) values ≡ true →
-    is_well (slice_get (equations set target (passive_scope p i values) (passives_in p k m q)) 0) ≡ false →
-    (v : Valuation) × ((values ≡ scalar_values v.numbers (λ j. v.truths (rank (sorts_in p k m q) j)) (sorts_in p k m q))
-    × (((b : ℕ) → bools_at a.named b ≡ true → there_in f.candidates v.truths b ≡ set b)
-    × (clauses_true v f.atoms f.clauses ≡ true)))
 
 abbrev pub WholeLaw : Type 0
 WholeLaw =
@@ -160,18 +105,6 @@ RowsLaw =
     blocks_below (first + length rows) (bools_at named) blocks ≡ true →
     (v : Valuation) → AreRows rows → RowsAgree v.numbers (worth_in v f.atoms) first rows
 
--- a candidate's atom is the truth variable of its number
-abbrev pub UnitAtomLaw : Type 0
-UnitAtomLaw =
-    (first terms : ℕ) (named : List Bool) (rows : List AtomOf) (target : Spot) (blocks : List FormBlock) (f : Formula) → clauses_of first named terms rows target blocks ≡ Ok f →
-    (b a : ℕ) → unit_atom f b ≡ Some a → at f.atoms a ≡ Some (IsTruth a)
-
--- the named candidates have one
-abbrev pub NamedUnitLaw : Type 0
-NamedUnitLaw =
-    (first terms : ℕ) (named : List Bool) (rows : List AtomOf) (target : Spot) (blocks : List FormBlock) (f : Formula) → clauses_of first named terms rows target blocks ≡ Ok f →
-    (b : ℕ) → is_some (unit_atom f b) ≡ bools_at named b
-
 -- of complete leaves
 abbrev pub LeafLaw : Type 0
 LeafLaw =
@@ -200,31 +133,10 @@ CheckLaw =
     (p : Prog) (k : ℕ) (m : Impl) (q : Proc) → is_over_scalars true p ≡ true →
     slice_get p.implementations k ≡ Some m → procedure_of p m.procedure ≡ Some q → BlocksPlaced p (passives_in p k m q)
 
-abbrev pub CertLaw : Type 0
-CertLaw =
-    (f : Formula) (set : ℕ → Bool) (adds : Instance → Option (List (List SignedAtom))) (cert : CertOf) →
-    AtomsAgree f.atoms → AtomsAgree cert.table → ((i : Instance) (cs : List (List SignedAtom)) → adds i ≡ Some cs → AtomsAgree (atoms_of cs)) → Accepts f set adds cert → HasNoValuation f set adds
-
-abbrev pub UsedLaw : Type 0
-UsedLaw =
-    (f : Formula) (set other : ℕ → Bool) (adds : Instance → Option (List (List SignedAtom))) (cert : CertOf) →
-    Accepts f set adds cert → ((c : ℕ) → uses cert.nodes c ≡ true → other c ≡ true) → Accepts f other adds cert
-
 abbrev pub InsideLaw : Type 0
 InsideLaw =
     (f : Formula) (set : ℕ → Bool) (adds : Instance → Option (List (List SignedAtom))) (cert : CertOf) →
     Accepts f set adds cert → (c : ℕ) → uses cert.nodes c ≡ true → set c ≡ true
-
-abbrev pub EvenLaw : Type 0
-EvenLaw =
-    (p : Prog) (k : ℕ) (m : Impl) (q : Proc) → IsTyped p → is_over_scalars true p ≡ true →
-    slice_get p.implementations k ≡ Some m → procedure_of p m.procedure ≡ Some q → BlocksEven (blocks_in p k m q)
-
-abbrev pub SortLaw : Type 0
-SortLaw =
-    (p : Prog) (k : ℕ) (m : Impl) (q : Proc) → IsTyped p → is_over_scalars true p ≡ true →
-    slice_get p.implementations k ≡ Some m → procedure_of p m.procedure ≡ Some q →
-    blocks_sorted (sorts_in p k m q) p.candidates (passives_in p k m q) ≡ true
 
 abbrev pub CodeLaw : Type 0
 CodeLaw =

@@ -1,15 +1,10 @@
 pub mod LawTypes
-pub mod Formulas
-pub mod Failures
-pub mod Numbered
 pub mod Bare
 pub mod Safe
 pub mod Leaves
 pub mod Points
 pub mod Alike
 pub mod Worths
-pub mod Prepares
-pub mod Slices
 pub mod Refutes
 pub mod Over
 pub mod Replaying
@@ -17,4 +12,3 @@ pub mod Judging
 pub mod Trimming
 pub mod Sounds
 pub mod Fewer
-pub mod Onways

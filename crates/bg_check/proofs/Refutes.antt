@@ -53,21 +53,22 @@ use Rattle.bg_model.specs.Turns.{turns, taken}
 use Rattle.bg_model.specs.Views.{set_of}
 use Rattle.bg_model.specs.declared.failure.Counterexample.{Counterexample}
 use Rattle.bg_model.specs.Counterexamples.{is_denied, SetUp, IsCounterexample, IsTold}
-use Rattle.bg_check.specs.declared.cut.Cut.{Cut}
-use Rattle.bg_check.specs.declared.prepared.Prepared.{Prepared}
+use Rattle.bg_task.specs.declared.cut.Cut.{Cut}
+use Rattle.bg_task.specs.declared.prepared.Prepared.{Prepared}
 use Rattle.bg_check.specs.Leaves.{marked, numbered, scalars_from}
-use Rattle.bg_check.specs.Prepared.{IsPrepared}
-use Rattle.bg_check.specs.Slices.{IsSliceFor, encoding_in}
-use Rattle.bg_check.specs.Made.{ClausesOf}
-use Rattle.bg_check.specs.Asked.{IsAsked}
+use Rattle.bg_task.specs.Prepared.{IsPrepared}
+use Rattle.bg_task.specs.Slices.{IsSliceFor, encoding_in}
+use Rattle.bg_task.specs.Made.{ClausesOf}
+use Rattle.bg_task.specs.Asked.{IsAsked}
 use Rattle.bg_check.specs.Verdicts.{IsFailure}
-use Rattle.bg_check.proofs.LawTypes.{BodyLaw, FitLaw, WholeLaw, ValueLaw, StartLaw, MeetLaw, HoldLaw, DeniedLaw, WithinLaw, RowsLaw, UnitAtomLaw, NamedUnitLaw, LeafLaw, UnitLaw, SignLaw, SpotLaw, CheckLaw}
-use Rattle.bg_check.proofs.Formulas.{IsPlainFormula, plain_formula, plain_agree, own_number, unit_met}
+use Rattle.bg_check.proofs.LawTypes.{WholeLaw, ValueLaw, StartLaw, MeetLaw, HoldLaw, DeniedLaw, WithinLaw, RowsLaw, LeafLaw, UnitLaw, SignLaw, SpotLaw, CheckLaw}
+use Rattle.bg_task.proofs.LawTypes.{BodyLaw, FitLaw, UnitAtomLaw, NamedUnitLaw}
+use Rattle.bg_task.proofs.Formulas.{IsPlainFormula, plain_formula, plain_agree, own_number, unit_met}
 use Rattle.bg_check.proofs.Leaves.{leaf_number, scalars_are}
 use Rattle.bg_check.proofs.Alike.{blocks_kept, blocks_fewer}
 use Rattle.bg_check.specs.LeafRuns.{leaf_bools, HasLeaf}
 use Rattle.bg_check.proofs.Worths.{leaf_valuation, truths_agree, worths_are}
-use Rattle.bg_check.proofs.Prepares.{impl, proc, impl_at, proc_at, frame_long, blocks_are, firsts_are, clauses_here}
+use Rattle.bg_task.proofs.Prepares.{impl, proc, impl_at, proc_at, frame_long, blocks_are, firsts_are, clauses_here}
 
 -- a set as a list, by either reading
 pub set_same : (bs : List Bool) → set_of bs ≡ has bs

@@ -36,8 +36,8 @@ use Rattle.bg_replay.specs.Endings.{Tells, IsOver, IsReplay, moment_in}
 use Rattle.bg_replay.specs.declared.ending.Ending.{Ending}
 use Rattle.bg_replay.specs.declared.ending.Ending.TheVariants as ends
 use Rattle.bg_model.specs.declared.failure.Counterexample.{Counterexample}
-use Rattle.bg_check.specs.declared.prepared.Prepared.{Prepared}
-use Rattle.bg_check.specs.Prepared.{IsPrepared}
+use Rattle.bg_task.specs.declared.prepared.Prepared.{Prepared}
+use Rattle.bg_task.specs.Prepared.{IsPrepared}
 use Rattle.bg_check.specs.Replays.{run_in, RunsTo}
 use Rattle.bg_check.specs.Verdicts.{IsFailure}
 use Rattle.bg_check.proofs.LawTypes.{ReplayLaw, CodeLaw}

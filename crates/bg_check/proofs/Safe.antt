@@ -22,10 +22,12 @@ use Rattle.bg_sound.specs.Told.{is_ordinary}
 use Rattle.bg_check.specs.declared.verdict.Verdict.{Verdict}
 use Rattle.bg_check.specs.declared.verdict.Verdict.TheVariants.{Proved, Refuted, Unknown}
 use Rattle.bg_check.specs.declared.verdict.Judged.{Judged}
-use Rattle.bg_check.specs.Verdicts.{HasCertificate, IsRight, placed_at, AreRightAt, AreRightOf, AreRightFrom, AreRightUnder, is_proved, are_proved, ProvedAreSafe}
-use Rattle.bg_check.proofs.LawTypes.{FunctionLaw, BodyLaw, SafeLaw, PlaceLaw, PassiveLaw, FitLaw, DenyLaw, MetLaw, CertLaw, UsedLaw, UnitAtomLaw, NamedUnitLaw, InsideLaw}
-use Rattle.bg_check.proofs.Failures.{no_failure}
-use Rattle.bg_check.proofs.Numbered.{has}
+use Rattle.bg_check.specs.Verdicts.{IsRight, placed_at, AreRightAt, AreRightOf, AreRightFrom, AreRightUnder, is_proved, are_proved, ProvedAreSafe}
+use Rattle.bg_task.specs.Certified.{HasCertificate}
+use Rattle.bg_check.proofs.LawTypes.{SafeLaw, PlaceLaw, InsideLaw}
+use Rattle.bg_task.proofs.LawTypes.{FunctionLaw, BodyLaw, PassiveLaw, FitLaw, DenyLaw, MetLaw, CertLaw, UsedLaw, UnitAtomLaw, NamedUnitLaw}
+use Rattle.bg_task.proofs.Failures.{no_failure}
+use Rattle.bg_task.proofs.Numbered.{has}
 
 -- a certificate of a place
 pub record Proof (p : Prog) (set : ℕ → Bool) (t : Place) : Type 0 where

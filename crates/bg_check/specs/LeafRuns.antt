@@ -22,7 +22,7 @@ use Rattle.bg_model.specs.Over.{walk_over}
 use Rattle.bg_model.specs.Turns.{turns, taken}
 use Rattle.bg_model.specs.declared.failure.Counterexample.{Counterexample}
 use Rattle.bg_check.specs.Leaves.{marked}
-use Rattle.bg_check.specs.Cuts.{HasOwnClauses}
+use Rattle.bg_task.specs.Cuts.{HasOwnClauses}
 
 -- the truth values that a leaf's path gives the atoms
 abbrev pub leaf_bools : Formula → Leaf → List Bool

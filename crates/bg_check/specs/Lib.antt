@@ -1,12 +1,6 @@
 pub mod Leaves
-pub mod Cuts
 pub mod LeafRuns
-pub mod Prepared
-pub mod Slices
 pub mod Replays
 pub mod Verdicts
 pub mod Dropped
-pub mod Made
 pub mod Outcomes
-pub mod Ways
-pub mod Asked

@@ -1,32 +1,26 @@
 -- What is known of each place of a program, and when it is right.
-use Rattle.std.specs.Prelude.{◌≡◌, ℕ, suc, Bool, true, false, ◌&&◌, List, [], ◌∷◌, map, filter, Some, Vec, slice_get}
+use Rattle.std.specs.Prelude.{◌≡◌, ℕ, suc, Bool, true, false, ◌&&◌, List, [], ◌∷◌, map, filter, Vec}
 use Rattle.std.specs.declared.alloc.Global.{Global}
-use Rattle.bg_base.specs.declared.exact.OutOfRange.{OutOfRange}
-use Rattle.bg_ast.specs.Syntax.{Proc, Impl, Prog}
+use Rattle.bg_ast.specs.Syntax.{Prog}
 use Rattle.bg_ast.specs.Resolved as r
 use Rattle.bg_ast.specs.Meaning.{meaning_of}
 use Rattle.bg_ast.specs.Execution.{Place}
 use Rattle.bg_sense.specs.Claims.{Safe, Fails}
 use Rattle.bg_sense.specs.Flow.{Failed}
-use Rattle.bg_sense.specs.Variables.{procedure_of}
 use Rattle.bg_formula.specs.Formulas.{Formula}
-use Rattle.bg_cert.specs.declared.cert.Cert.{Cert}
-use Rattle.bg_cert.specs.Certs.{Accepts, cert_of}
-use Rattle.bg_cert.specs.Walks.{no_instance}
 use Rattle.bg_tree.specs.declared.outcome.Budget.{Budget}
 use Rattle.bg_tree.specs.declared.outcome.Why.{Why}
 use Rattle.bg_tree.specs.Trees.{IsCause}
 use Rattle.bg_places.specs.Placed.{Placed, placed_impl}
 use Rattle.bg_places.specs.Views.{placed_of}
-use Rattle.bg_formed.specs.Used.{refused}
-use Rattle.bg_faithful.specs.Encoded.{Encoding}
 use Rattle.bg_faithful.specs.Interps.{no_interp}
 use Rattle.bg_scalar.specs.Choices.{choice_of, state_of}
 use Rattle.bg_replay.specs.Said.{Stops, Leaves}
 use Rattle.bg_model.specs.declared.failure.Counterexample.{Counterexample}
 use Rattle.bg_sound.specs.Used.{UsesAll}
 use Rattle.bg_sound.specs.Told.{is_ordinary}
-use Rattle.bg_check.specs.Cuts.{IsOwn, HasOwnClauses}
+use Rattle.bg_task.specs.Cuts.{HasOwnClauses}
+use Rattle.bg_task.specs.Certified.{HasCertificate, HasOutside}
 use Rattle.bg_check.specs.LeafRuns.{HasLeaf}
 use Rattle.bg_check.specs.declared.verdict.Cause.{Cause}
 use Rattle.bg_check.specs.declared.verdict.Cause.TheVariants.{Search, Form, Replay}
@@ -35,27 +29,11 @@ use Rattle.bg_check.specs.declared.verdict.Verdict.TheVariants.{Proved, Refuted,
 use Rattle.bg_check.specs.declared.verdict.Judged.{Judged}
 use Rattle.bg_check.specs.Replays.{RunsTo}
 
--- the place's clauses have this certificate under a set of candidates
-pub record HasCertificate (p : Prog) (set : ℕ → Bool) (t : Place) (cert : Cert) : Type 0 where
-  pub formula : Formula
-  pub is : HasOwnClauses p t formula
-  pub accepted : Accepts formula set no_instance (cert_of cert)
-
 -- this is why the place's clauses are left unknown within the budget
 pub record HasWhy (p : Prog) (set : ℕ → Bool) (t : Place) (budget : Budget) (why : Why) : Type 0 where
   pub formula : Formula
   pub is : HasOwnClauses p t formula
   pub cause : IsCause formula set budget why
-
--- the place has no clauses: an operation of a relation's linear form leaves the range, the first of those that count for the place
-pub record HasOutside (p : Prog) (t : Place) (o : OutOfRange) : Type 0 where
-  pub implementation : Impl
-  pub procedure : Proc
-  pub is_there : slice_get p.implementations t.implementation ≡ Some implementation
-  pub is_its : procedure_of p implementation.procedure ≡ Some procedure
-  pub encoding : Encoding
-  pub is_own : IsOwn p t.implementation implementation procedure encoding
-  pub is_refused : refused t.spot encoding.blocks ≡ Some o
 
 -- the induction run from these values, with these choices, fails at the place
 abbrev pub IsFailure : Prog → (ℕ → Bool) → Place → Counterexample → Type 0

@@ -5,13 +5,13 @@ ghost use Rattle.bg_ast.specs.Views.{program_of};
 ghost use Rattle.bg_places.specs.Views.{placed_of};
 ghost use Rattle.bg_cert.specs.Walks.{has};
 ghost use Rattle.bg_check.specs.Dropped.{FailsWithin, IsDropped};
-ghost use Rattle.bg_check.specs.Prepared.{IsPrepared};
+ghost use Rattle.bg_task.specs.Prepared.{IsPrepared};
 ghost use Rattle.bg_check.specs.Verdicts.{IsUsed};
 
-use crate::question::Question;
 use bg_model::Counterexample;
 use bg_replay::laws::replays_are_induction_runs;
 use bg_replay::{Code, Ending, Start, replay};
+use bg_task::Question;
 use std::alloc::{AllocError, Global};
 
 /// Drops the last choice where the run fails without it too, and says whether it did.

@@ -8,18 +8,17 @@ ghost use Rattle.bg_sense.specs.Resolved.{IsResolved};
 ghost use Rattle.bg_places.specs.Views.{placed_of, placed_in};
 ghost use Rattle.bg_cert.specs.Walks.{has};
 ghost use Rattle.bg_fits.specs.Scalars.{is_over_scalars};
-ghost use Rattle.bg_check.specs.Asked.{IsAsked, AreAsked};
-ghost use Rattle.bg_check.specs.Prepared.{IsPrepared, ArePrepared};
+ghost use Rattle.bg_task.specs.Asked.{IsAsked, AreAsked};
+ghost use Rattle.bg_task.specs.Prepared.{IsPrepared, ArePrepared};
 ghost use Rattle.bg_check.specs.Verdicts.{IsRight, placed_at, AreRightAt, AreRightOf};
 
 use crate::ordinary::ordinary_places;
 use crate::place::check_place;
-use crate::prepared::Prepared;
-use crate::question::Question;
 use crate::verdict::Judged;
 use bg_ast::resolved::Resolved;
 use bg_places::Place;
 use bg_places::laws::placed_are_places;
+use bg_task::{Prepared, Question};
 use bg_tree::Budget;
 use std::alloc::{AllocError, Global};
 

@@ -1,19 +1,14 @@
 //! Laws of verdicts, which are proved of the definitions alone.
 ghost use Rattle.std.specs.Prelude.{◌≡◌, ◌⊎◌, ℕ, Bool, true, List, [], ◌∷◌, ◌++◌, Some, map, slice_get};
 ghost use Rattle.bg_base.specs.declared.exact.OutOfRange.{OutOfRange};
-ghost use Rattle.bg_ast.specs.Syntax.{Prog};
 ghost use Rattle.bg_ast.specs.Resolved.{Program, Impl, Proc};
 ghost use Rattle.bg_ast.specs.Meaning.{meaning_of};
-ghost use Rattle.bg_ast.specs.Execution.{Interp, State, Choice, Place};
+ghost use Rattle.bg_ast.specs.Execution.{Choice, Place};
 ghost use Rattle.bg_sense.specs.Typed.{IsTyped};
-ghost use Rattle.bg_sense.specs.Claims.{Fails, IsState, Inductive};
+ghost use Rattle.bg_sense.specs.Claims.{IsState, Inductive};
 ghost use Rattle.bg_sense.specs.Flow.{BadChoice, Failed};
-ghost use Rattle.bg_cert.specs.declared.cert.Cert.{Cert};
-ghost use Rattle.bg_cert.specs.Certs.{cert_of, uses};
 ghost use Rattle.bg_cert.specs.Walks.{has};
 ghost use Rattle.bg_fits.specs.Scalars.{is_over_scalars};
-ghost use Rattle.bg_block_types.specs.Typed.{passives_in};
-ghost use Rattle.bg_faithful.specs.Sorted.{sorts_in};
 ghost use Rattle.bg_blocks.specs.Whole.{AreBlocks};
 ghost use Rattle.bg_blocks.specs.declared.block.Block.{Block};
 ghost use Rattle.bg_replay.specs.Said.{Stops, Leaves};
@@ -32,8 +27,7 @@ ghost use Rattle.bg_sound.specs.Sound.{AreTrueFrom};
 ghost use Rattle.bg_check.specs.declared.verdict.Cause.{Cause};
 ghost use Rattle.bg_check.specs.Outcomes.{told};
 ghost use Rattle.bg_check.specs.Replays.{RunsTo};
-ghost use Rattle.bg_check.specs.Ways.{LiesOnWay};
-ghost use Rattle.bg_check.specs.Verdicts.{HasCertificate, HasOutside, IsFailure, IsRight, AreRightUnder, ProvedAreSafe};
+ghost use Rattle.bg_check.specs.Verdicts.{IsFailure, IsRight, AreRightUnder, ProvedAreSafe};
 
 use bg_block_types::laws::blocks_are_typed;
 use bg_cert::laws::{accepted_has_no_valuation, accepted_where_used};
@@ -44,22 +38,7 @@ use bg_passive::laws::{arrivals_fit, passive_blocks_fail_alike};
 use bg_places::laws::placed_are_places;
 use bg_replay::laws::replays_are_induction_runs;
 use bg_sense::laws::{typed_programs_have_typed_bodies, what_fails_at_no_place_is_safe};
-
-/// A place whose clauses have a certificate has no failing run, under any set that has what the certificate uses.
-pub fn proved_places_do_not_fail()
-    ensures { (p : Prog) (set other : ℕ → Bool) (t : Place) (cert : Cert) → IsTyped p → is_over_scalars true p ≡ true →
-        HasCertificate p set t cert → ((c : ℕ) → uses (cert_of cert).nodes c ≡ true → other c ≡ true) →
-        (i : Interp) (s : State) (choices : List Choice) → Fails p other t i s choices → ⊥ }
-{
-    typed_programs_have_typed_bodies();
-    passive_blocks_fail_alike();
-    arrivals_fit();
-    equations_deny_failing_walks();
-    clauses_over_scalars_fail_alike();
-    accepted_has_no_valuation();
-    accepted_where_used();
-    atoms_of_clauses()
-}
+use bg_task::laws::proved_places_do_not_fail;
 
 /// An implementation of a typed program over truth values and whole numbers is safe under an inductive set of candidates where each of its
 /// ordinary places is proved under it: no execution of it fails, of any number of steps.
@@ -117,14 +96,6 @@ pub fn shorter_replays_lack_a_choice_or_fail()
         cex.choices.items ≡ front ++ (last ∷ []) → RunsTo (meaning_of p) (has set) t cex (Stops (Failed t.spot)) →
         IsReplay p bs set t.implementation m q cex.globals.items cex.frame.items front ending →
         (said_by ending ≡ Stops BadChoice) ⊎ (said_by ending ≡ Stops (Failed t.spot)) }
-{}
-
-/// An operation for which a place has no clauses lies on a way to the place: from the entry along some edges of the implementation's
-/// passive blocks comes a command with a relation in whose linear forms it leaves 128 bits, and this command or one behind it is the
-/// place's check.
-pub fn operations_of_forms_lie_on_ways()
-    ensures { (p : Prog) (t : Place) (o : OutOfRange) (h : HasOutside p t o) →
-        LiesOnWay (sorts_in p t.implementation h.implementation h.procedure) (passives_in p t.implementation h.implementation h.procedure) t.spot o }
 {}
 
 /// What a report tells of right verdicts under an inductive set of candidates is true, of a typed program over truth values and whole

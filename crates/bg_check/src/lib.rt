@@ -2,21 +2,15 @@
 //! counterexample, or unknown with what is kept of a budget, or an operation that leaves 128 bits.
 #![tactic(auto)]
 
-mod cut;
 mod dropping;
 mod implementation;
 pub mod laws;
 mod leaf;
 mod ordinary;
 mod place;
-mod prepared;
-mod question;
 mod replayed;
 mod verdict;
 
-pub use cut::{Cut, cut_down};
 pub use implementation::judge_ordinary;
 pub use place::check_place;
-pub use prepared::{Prepared, count_candidates, prepare};
-pub use question::Question;
 pub use verdict::{Cause, Judged, Verdict};

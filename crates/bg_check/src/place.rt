@@ -9,21 +9,17 @@ ghost use Rattle.bg_cert.specs.Walks.{has};
 ghost use Rattle.bg_tree.specs.declared.outcome.Budget.{Budget};
 ghost use Rattle.bg_tree.specs.Ends.{IsLeaf};
 ghost use Rattle.bg_fits.specs.Scalars.{is_over_scalars};
-ghost use Rattle.bg_check.specs.Asked.{IsAsked};
-ghost use Rattle.bg_check.specs.Prepared.{IsPrepared};
-ghost use Rattle.bg_check.specs.Slices.{IsSliceFor};
+ghost use Rattle.bg_task.specs.Asked.{IsAsked};
+ghost use Rattle.bg_task.specs.Prepared.{IsPrepared};
+ghost use Rattle.bg_task.specs.Slices.{IsSliceFor};
 ghost use Rattle.bg_check.specs.LeafRuns.{HasLeaf};
-ghost use Rattle.bg_check.specs.Made.{ClausesOf, IsMade};
+ghost use Rattle.bg_task.specs.Made.{ClausesOf};
 ghost use Rattle.bg_check.specs.Verdicts.{IsFailure, IsRight};
 
-use crate::cut::{Cut, cut_down};
 use crate::leaf::{leaf_truths, leaf_values};
-use crate::question::Question;
 use crate::replayed::replayed;
 use crate::verdict::{Cause, Verdict};
-use bg_base::OutOfRange;
 use bg_clause::laws::{atoms_of_clauses, clauses_fail_alike};
-use bg_clause::{Names, clauses};
 use bg_faithful::laws::{
     checks_of_passive_blocks_are_places, clauses_over_scalars_are_whole,
     clauses_over_scalars_fail_alike, no_interpretation_is_needed_for_scalars,
@@ -33,42 +29,13 @@ use bg_formula::Clauses;
 use bg_linear::laws::scalar_values_hold;
 use bg_model::{Counterexample, Routine, Valuation, counterexample};
 use bg_passive::laws::arrivals_fit;
-use bg_rows::Refused;
 use bg_search::search;
 use bg_sense::laws::typed_programs_have_typed_bodies;
 use bg_sense::resolved::places_have_spots_of_their_own;
+use bg_task::{Cut, Made, Question, cut_down, place_clauses};
 use bg_tree::laws::leaves_are_met;
 use bg_tree::{Budget, Leaf, Outcome};
 use std::alloc::{AllocError, Global};
-
-/// The clauses of a place, or the operation for which there are none.
-#[derive(Drop)]
-pub enum Made {
-    Clauses(Clauses),
-    Outside(OutOfRange),
-}
-
-/// The clauses of a place.
-fn place_clauses(alloc: Global, question: Question<'_, '_>, cut: &Cut) -> Result<Made, AllocError>
-    requires typed { IsTyped (meaning_of (program_of question.program.now)) }
-    requires scalars { is_over_scalars true (meaning_of (program_of question.program.now)) ≡ true }
-    requires prepared { IsPrepared (program_of question.program.now) question.place.now.implementation question.prepared.now }
-    requires slice { IsSliceFor (program_of question.program.now) question.place.now.implementation question.prepared.now (spot_of question.place.now.spot) cut.now }
-    ensures { IfOk result (λ made. IsMade (meaning_of (program_of question.entry.program.now)) cut.now (placed_of question.entry.place.now).place made) }
-{
-    let atoms = &cut.atoms;
-    let names = Names {
-        first: atoms.first,
-        named: &cut.named,
-        terms: atoms.terms,
-        rows: &atoms.rows,
-    };
-    match clauses(alloc, &names, question.place.spot, &atoms.blocks) {
-        Ok(f) => Ok(Made::Clauses(f)),
-        Err(Refused::Range(o)) => Ok(Made::Outside(o)),
-        Err(Refused::Memory) => Err(AllocError),
-    }
-}
 
 /// The counterexample of a complete leaf of a place's clauses.
 fn failing<'q, 'p>(

@@ -8,16 +8,16 @@ ghost use Rattle.bg_cert.specs.Walks.{has};
 ghost use Rattle.bg_tree.specs.declared.outcome.Budget.{Budget};
 ghost use Rattle.bg_fits.specs.Scalars.{is_over_scalars};
 ghost use Rattle.bg_check.specs.LeafRuns.{HasLeaf};
-ghost use Rattle.bg_check.specs.Prepared.{IsPrepared};
+ghost use Rattle.bg_task.specs.Prepared.{IsPrepared};
 ghost use Rattle.bg_check.specs.Verdicts.{IsFailure, IsRight};
 
 use crate::dropping::used_up;
-use crate::question::Question;
 use crate::verdict::{Cause, Verdict};
 use bg_block_types::laws::blocks_are_typed;
 use bg_model::Counterexample;
 use bg_replay::laws::replays_are_induction_runs;
 use bg_replay::{Code, Ending, Start, replay};
+use bg_task::Question;
 use std::alloc::{AllocError, Global};
 
 /// A place is refuted by a run that fails there, that of a complete leaf of its clauses, unless an operation on its way leaves 128 bits;

@@ -15,7 +15,8 @@ use Rattle.bg_tree.specs.declared.outcome.Budget.{Budget}
 use Rattle.bg_rounds.specs.declared.checker.Kept.{Kept}
 use Rattle.bg_check.specs.declared.verdict.Verdict.{Verdict}
 use Rattle.bg_check.specs.declared.verdict.Verdict.TheVariants.{Proved}
-use Rattle.bg_check.specs.Verdicts.{HasCertificate, IsRight}
+use Rattle.bg_check.specs.Verdicts.{IsRight}
+use Rattle.bg_task.specs.Certified.{HasCertificate}
 use Rattle.bg_houdini.specs.Tasks.{tasks_of}
 use Rattle.bg_houdini.specs.Checks.{AreUsed, TaskPasses}
 

@@ -16,8 +16,8 @@ use Rattle.bg_sense.proofs.Members.{In, contained}
 use Rattle.bg_places.specs.Placed.{place_in, placed}
 use Rattle.bg_places.specs.Views.{placed_of, placed_in}
 use Rattle.bg_places.specs.declared.place.Place.{Place}
-use Rattle.bg_check.specs.Asked.{IsAsked}
-use Rattle.bg_check.proofs.Numbered.{has}
+use Rattle.bg_task.specs.Asked.{IsAsked}
+use Rattle.bg_task.proofs.Numbered.{has}
 use Rattle.bg_houdini.specs.Tasks.{tasks_of, number_or, candidate_of}
 use Rattle.bg_houdini.proofs.Tasks.{get_below, task_place, task_candidate}
 

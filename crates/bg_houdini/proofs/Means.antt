@@ -19,7 +19,7 @@ use Rattle.bg_tree.specs.declared.outcome.Budget.{Budget}
 use Rattle.bg_rounds.specs.Outcomes.{NoneUnknown}
 use Rattle.bg_rounds.proofs.Laws.{inductive, greatest, both_ways}
 use Rattle.bg_rounds.proofs.Lists.{has_below}
-use Rattle.bg_check.specs.Verdicts.{HasCertificate}
+use Rattle.bg_task.specs.Certified.{HasCertificate}
 use Rattle.bg_houdini.specs.declared.outcome.Outcome.{Outcome}
 use Rattle.bg_houdini.specs.Tasks.{tasks_of, candidate_of}
 use Rattle.bg_houdini.specs.Checks.{TaskFails, TaskPasses, TaskFinds}

@@ -17,7 +17,7 @@ use Rattle.bg_cert.proofs.Uses.{certificate_lies_in}
 use Rattle.bg_tree.specs.declared.outcome.Budget.{Budget}
 use Rattle.bg_faithful.specs.Interps.{no_interp}
 use Rattle.bg_scalar.specs.Choices.{choice_of, state_of}
-use Rattle.bg_check.specs.Verdicts.{HasCertificate}
+use Rattle.bg_task.specs.Certified.{HasCertificate}
 use Rattle.bg_houdini.specs.declared.reason.Reason.{Reason}
 use Rattle.bg_houdini.specs.declared.reason.Reason.TheVariants.{Refuted, Unknown}
 use Rattle.bg_houdini.specs.Tasks.{tasks_of, candidate_of}

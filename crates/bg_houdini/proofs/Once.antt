@@ -12,8 +12,8 @@ use Rattle.bg_ast.specs.Views.{candidate_of}
 use Rattle.bg_places.specs.Placed.{place_in}
 use Rattle.bg_places.specs.Views.{placed_of, placed_in}
 use Rattle.bg_places.specs.declared.place.Place.{Place}
-use Rattle.bg_check.specs.declared.prepared.Prepared.{Prepared}
-use Rattle.bg_check.specs.Prepared.{IsPrepared}
+use Rattle.bg_task.specs.declared.prepared.Prepared.{Prepared}
+use Rattle.bg_task.specs.Prepared.{IsPrepared}
 use Rattle.bg_houdini.specs.Tasks.{has_candidate}
 use Rattle.bg_houdini.specs.Checkers.{ArePrepared}
 

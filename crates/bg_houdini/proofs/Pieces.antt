@@ -9,7 +9,7 @@ use Rattle.std.proofs.lemmas.Option.{slice_get_read, get_or_from_slice_get}
 use Rattle.bg_ast.specs.Resolved as r
 use Rattle.bg_tree.specs.declared.outcome.Budget.{Budget}
 use Rattle.bg_check.specs.declared.verdict.Judged.{Judged}
-use Rattle.bg_check.specs.declared.prepared.Prepared.{Prepared}
+use Rattle.bg_task.specs.declared.prepared.Prepared.{Prepared}
 use Rattle.bg_check.specs.Verdicts.{AreRightOf, AreRightFrom, judged}
 use Rattle.bg_check.proofs.Judging.{from_more}
 use Rattle.bg_houdini.specs.Checkers.{ArePrepared, ArePreparedFrom}

@@ -43,7 +43,7 @@ use Rattle.bg_blocks.specs.contracts.block.Cmd as cmd
 use Rattle.bg_blocks.specs.contracts.block.Exit as exit
 use Rattle.bg_blocks.specs.contracts.block.Block as block
 use Rattle.bg_atoms.specs.contracts.product.Atoms as atoms
-use Rattle.bg_check.specs.contracts.prepared.Prepared as prepared
+use Rattle.bg_task.specs.contracts.prepared.Prepared as prepared
 use Rattle.bg_houdini.specs.contracts.judging.Judging as judging
 
 ruleset parts = (pos.the_field_sync, pos.the_sync, cand.the_field_sync, cand.the_sync, name.the_field_sync, name.the_sync, placed.the_field_sync, placed.the_sync, option.the_sync, vec.the_sync, global.the_sync, std.crosses, sendable)

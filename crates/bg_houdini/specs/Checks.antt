@@ -8,7 +8,8 @@ use Rattle.bg_cert.specs.declared.cert.Cert.{Cert}
 use Rattle.bg_cert.specs.Certs.{cert_of, uses}
 use Rattle.bg_tree.specs.declared.outcome.Budget.{Budget}
 use Rattle.bg_check.specs.declared.verdict.Verdict.TheVariants as verdict
-use Rattle.bg_check.specs.Verdicts.{HasCertificate, IsRight}
+use Rattle.bg_check.specs.Verdicts.{IsRight}
+use Rattle.bg_task.specs.Certified.{HasCertificate}
 use Rattle.bg_houdini.specs.declared.reason.Reason.{Reason}
 use Rattle.bg_houdini.specs.declared.reason.Reason.TheVariants.{Refuted, Unknown}
 use Rattle.bg_houdini.specs.Tasks.{tasks_of}

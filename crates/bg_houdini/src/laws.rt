@@ -14,13 +14,14 @@ ghost use Rattle.bg_tree.specs.declared.outcome.Budget.{Budget};
 ghost use Rattle.bg_sound.specs.Told.{Why};
 ghost use Rattle.bg_sound.specs.Sound.{IsSound};
 ghost use Rattle.bg_check.specs.declared.verdict.Cause.{Cause};
-ghost use Rattle.bg_check.specs.Verdicts.{HasCertificate};
+ghost use Rattle.bg_task.specs.Certified.{HasCertificate};
 ghost use Rattle.bg_rounds.specs.Outcomes.{NoneUnknown};
 ghost use Rattle.bg_houdini.specs.declared.outcome.Outcome.{Outcome};
 ghost use Rattle.bg_houdini.specs.Outcomes.{IsTrueOutcome};
 ghost use Rattle.bg_houdini.specs.Told.{outcome_of};
 
-use bg_check::laws::{proved_places_do_not_fail, right_verdicts_are_true};
+use bg_check::laws::right_verdicts_are_true;
+use bg_task::laws::proved_places_do_not_fail;
 
 /// Each place of a retained candidate of a true outcome has a certificate that is accepted for its clauses under what is retained.
 pub fn retained_places_have_certificates()

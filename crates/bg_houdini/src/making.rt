@@ -13,10 +13,10 @@ ghost use Rattle.bg_houdini.specs.Checkers.{ArePrepared, IsJudging};
 
 use crate::judging::Judging;
 use bg_ast::resolved::{Resolved, Variable};
-use bg_check::laws::proved_places_do_not_fail;
-use bg_check::{Prepared, count_candidates, prepare};
 use bg_places::laws::placed_are_places;
 use bg_places::{Place, places};
+use bg_task::laws::proved_places_do_not_fail;
+use bg_task::{Prepared, count_candidates, prepare};
 use bg_tree::Budget;
 use std::alloc::{AllocError, Global};
 

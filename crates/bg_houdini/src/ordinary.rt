@@ -7,7 +7,8 @@ ghost use Rattle.bg_houdini.specs.Pieces.{IsWith, Joins};
 
 use crate::judging::Judging;
 use crate::sets::truths_of;
-use bg_check::{Judged, Prepared, judge_ordinary};
+use bg_check::{Judged, judge_ordinary};
+use bg_task::Prepared;
 use bg_words::CandSet;
 use std::alloc::{AllocError, Global};
 use std::thread;

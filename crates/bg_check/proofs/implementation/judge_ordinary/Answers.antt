@@ -5,9 +5,9 @@ use Rattle.bg_places.specs.Placed.{Placed, placed_impl}
 use Rattle.bg_places.specs.Views.{placed_in}
 use Rattle.bg_cert.specs.Walks.{has}
 use Rattle.bg_ast.specs.Meaning.{meaning_of}
-use Rattle.bg_check.specs.Asked.{AreAsked}
-use Rattle.bg_check.specs.Prepared.{ArePrepared}
-use Rattle.bg_check.proofs.Numbered.{number_impl, number_ordinary}
+use Rattle.bg_task.specs.Asked.{AreAsked}
+use Rattle.bg_task.specs.Prepared.{ArePrepared}
+use Rattle.bg_task.proofs.Numbered.{number_impl, number_ordinary}
 use Rattle.bg_check.proofs.Judging.{are_prepared, its_asked}
 use Rattle.bg_check.proofs.implementation.judge_ordinary.Goals as goal
 

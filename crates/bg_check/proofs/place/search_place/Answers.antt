@@ -12,9 +12,9 @@ use Rattle.bg_places.specs.Views.{placed_of, spot_of}
 use Rattle.bg_tree.specs.declared.outcome.Budget.{Budget}
 use Rattle.bg_tree.specs.Trees.{IsOutcome}
 use Rattle.bg_check.specs.declared.verdict.Verdict.{Verdict}
-use Rattle.bg_check.specs.Slices.{encoding_in}
+use Rattle.bg_task.specs.Slices.{encoding_in}
 use Rattle.bg_check.specs.Verdicts.{IsRight}
-use Rattle.bg_check.proofs.Prepares.{impl, proc, impl_at, proc_at, clauses_here}
+use Rattle.bg_task.proofs.Prepares.{impl, proc, impl_at, proc_at, clauses_here}
 use Rattle.bg_check.proofs.place.search_place.Goals as goal
 
 -- what holds for each budget holds for this one

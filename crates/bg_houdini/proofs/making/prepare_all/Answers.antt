@@ -1,6 +1,6 @@
 use Rattle.std.proofs.Common.{◌+◌, List, sym, subst}
 use Rattle.bg_ast.specs.Views.{program_of}
-use Rattle.bg_check.specs.declared.prepared.Prepared.{Prepared}
+use Rattle.bg_task.specs.declared.prepared.Prepared.{Prepared}
 use Rattle.bg_houdini.specs.Checkers.{ArePrepared}
 use Rattle.bg_houdini.proofs.Once.{none_prepared, one_prepared}
 use Rattle.bg_houdini.proofs.making.prepare_all.Goals as goal

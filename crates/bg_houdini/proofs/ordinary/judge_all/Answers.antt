@@ -5,7 +5,7 @@ use Rattle.std.proofs.lemmas.Grind.{div_ceil_times}
 use Rattle.bg_ast.specs.Resolved as r
 use Rattle.bg_words.specs.Sets.{has}
 use Rattle.bg_check.specs.Verdicts.{AreRightFrom, AreRightUnder, judged}
-use Rattle.bg_check.specs.declared.prepared.Prepared.{Prepared}
+use Rattle.bg_task.specs.declared.prepared.Prepared.{Prepared}
 use Rattle.bg_houdini.specs.Checkers.{ArePrepared, program_in}
 use Rattle.bg_houdini.proofs.Once.{if_ok}
 use Rattle.bg_houdini.proofs.Pieces.{prepared_chunk, chunk_take, all_right}

@@ -5,20 +5,18 @@ use Rattle.bg_ast.specs.Execution.{Spot, Place}
 use Rattle.bg_formula.specs.Formulas.{Formula}
 use Rattle.bg_slice.specs.Slices.{sliced, sliced_rows, guards_in}
 use Rattle.bg_block_types.specs.Typed.{passives_in}
-use Rattle.bg_atoms.specs.Sources.{AreFrom}
-use Rattle.bg_atoms.specs.Literals.{are_apart}
+use Rattle.bg_atoms.specs.Listed.{rows_of}
 use Rattle.bg_atoms.specs.Encoded.{blocks_over}
 use Rattle.bg_faithful.specs.Sorted.{sorts_in}
 use Rattle.bg_faithful.specs.Encoded.{Encoding, IsEncoding, HasClauses}
 
--- the blocks of forms of the implementation with this number, which is one of this procedure: exactly those of its passive blocks. Each row
--- is one of some relation in a command, none stands twice, and none is the denial of another. Each candidate may guard a command
+-- the blocks of forms of the implementation with this number, which is one of this procedure: exactly those of its passive blocks, over
+-- their rows. Each candidate may guard a command
 pub record IsOwn (p : Prog) (k : ℕ) (m : Impl) (q : Proc) (a : Encoding) : Type 0 where
   pub encodes : IsEncoding p k m q a
+  pub rows : a.rows ≡ rows_of (sorts_in p k m q) (passives_in p k m q)
   pub blocks : a.blocks ≡ blocks_over (sorts_in p k m q) a.first a.rows (passives_in p k m q)
   pub named : a.named ≡ replicate p.candidates true
-  pub sources : AreFrom (sorts_in p k m q) (passives_in p k m q) a.rows
-  pub apart : are_apart a.rows ≡ true
 
 -- the same blocks of forms, in which only commands that count for the target say something, with the rows and the candidates that they
 -- name

@@ -14,8 +14,8 @@ use Rattle.bg_incarnate.specs.Walked.{next_in}
 use Rattle.bg_atoms.specs.declared.product.Atoms.{Atoms}
 use Rattle.bg_faithful.specs.Sorted.{sorts_in}
 use Rattle.bg_faithful.specs.Encoded.{Encoding}
-use Rattle.bg_check.specs.Cuts.{IsOwn}
-use Rattle.bg_check.specs.declared.prepared.Prepared.{Prepared}
+use Rattle.bg_task.specs.Cuts.{IsOwn}
+use Rattle.bg_task.specs.declared.prepared.Prepared.{Prepared}
 
 -- the first new incarnation at each arrival, where blocks of a program are made passive in this frame
 abbrev pub firsts_of : r.Program → List r.Declared → List Block → List ℕ

@@ -2,8 +2,8 @@ use Rattle.std.proofs.Common.{sym, ap, ◌∙◌}
 use Rattle.bg_formed.specs.Used.{refused}
 use Rattle.bg_block_types.specs.Typed.{passives_in}
 use Rattle.bg_faithful.specs.Sorted.{sorts_in}
-use Rattle.bg_check.proofs.Onways.{lies_on_way}
-use Rattle.bg_check.proofs.laws.operations_of_forms_lie_on_ways.Goals as goal
+use Rattle.bg_task.proofs.Onways.{lies_on_way}
+use Rattle.bg_task.proofs.laws.operations_of_forms_lie_on_ways.Goals as goal
 
 pub returns : goal.returns
 returns c p t o h =

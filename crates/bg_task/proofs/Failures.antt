@@ -20,9 +20,9 @@ use Rattle.bg_fits.specs.Scalars.{is_over_scalars}
 use Rattle.bg_forms.specs.Worth.{bools_at}
 use Rattle.bg_clause.specs.Tables.{there_in}
 use Rattle.bg_faithful.specs.Encoded.{HasClauses}
-use Rattle.bg_check.specs.Verdicts.{HasCertificate}
-use Rattle.bg_check.proofs.LawTypes.{FunctionLaw, BodyLaw, PassiveLaw, FitLaw, DenyLaw, MetLaw, CertLaw, UsedLaw, UnitAtomLaw, NamedUnitLaw}
-use Rattle.bg_check.proofs.Formulas.{plain_formula, plain_agree, meets_units}
+use Rattle.bg_task.specs.Certified.{HasCertificate}
+use Rattle.bg_task.proofs.LawTypes.{FunctionLaw, BodyLaw, PassiveLaw, FitLaw, DenyLaw, MetLaw, CertLaw, UsedLaw, UnitAtomLaw, NamedUnitLaw}
+use Rattle.bg_task.proofs.Formulas.{plain_formula, plain_agree, meets_units}
 
 module _ (functions : FunctionLaw) (bodies : BodyLaw) (runs : PassiveLaw) (fits : FitLaw) (denies : DenyLaw) (met : MetLaw) (p : Prog) (t : IsTyped p) (o : is_over_scalars true p ≡ true) where
   -- a failing run gives a valuation that makes the clauses true, and the candidates as they are in the set

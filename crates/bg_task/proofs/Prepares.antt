@@ -24,8 +24,7 @@ use Rattle.bg_linear.specs.Sorts.{HoldScalars}
 use Rattle.bg_atoms.specs.Ranks.{rank, truths}
 use Rattle.bg_atoms.specs.Made.{rows_in}
 use Rattle.bg_atoms.specs.declared.product.Atoms.{Atoms}
-use Rattle.bg_atoms.specs.Sources.{AreFrom}
-use Rattle.bg_atoms.specs.Literals.{are_apart}
+use Rattle.bg_atoms.specs.Listed.{rows_of}
 use Rattle.bg_atoms.specs.Encoded.{blocks_over}
 use Rattle.bg_sense.specs.Variables.{procedure_of}
 use Rattle.bg_sense.specs.Typed.{IsTypedImpl, IsTyped}
@@ -50,15 +49,15 @@ use Rattle.bg_sorts.specs.Passive.{ArrivesAt}
 use Rattle.bg_atoms.specs.Sorted.{blocks_sorted}
 use Rattle.bg_faithful.specs.Sorted.{sorts_in}
 use Rattle.bg_faithful.specs.Encoded.{Encoding, Encodes, IsEncoding}
-use Rattle.bg_check.specs.declared.cut.Cut.{Cut}
-use Rattle.bg_check.specs.declared.prepared.Prepared.{Prepared}
-use Rattle.bg_check.specs.Prepared.{IsPrepared, encoding_over, frame_declared, firsts_of}
-use Rattle.bg_check.specs.Verdicts.{HasOutside}
-use Rattle.bg_check.specs.Cuts.{IsOwn, HasOwnClauses}
-use Rattle.bg_check.specs.Slices.{IsSliceFor, encoding_in}
-use Rattle.bg_check.specs.Made.{ClausesOf}
-use Rattle.bg_check.proofs.LawTypes.{EvenLaw, SortLaw}
-use Rattle.bg_check.proofs.Slices.{each_before}
+use Rattle.bg_task.specs.declared.cut.Cut.{Cut}
+use Rattle.bg_task.specs.declared.prepared.Prepared.{Prepared}
+use Rattle.bg_task.specs.Prepared.{IsPrepared, encoding_over, frame_declared, firsts_of}
+use Rattle.bg_task.specs.Certified.{HasOutside}
+use Rattle.bg_task.specs.Cuts.{IsOwn, HasOwnClauses}
+use Rattle.bg_task.specs.Slices.{IsSliceFor, encoding_in}
+use Rattle.bg_task.specs.Made.{ClausesOf}
+use Rattle.bg_task.proofs.LawTypes.{EvenLaw, SortLaw}
+use Rattle.bg_task.proofs.Slices.{each_before}
 
 all_at : {A : Type 0} (P : A → Type 0) (xs : List A) (k : ℕ) (x : A) → All P xs → slice_get xs k ≡ Some x → P x
 all_at P [] k x h e = absurd (let bad : ⊥ = cc in bad)
@@ -181,23 +180,18 @@ pub exact_some : (ss : List Sort) (bs : List PassiveBlock) (o : Option Atoms) (a
 exact_some ss bs None a e h = absurd (let bad : ⊥ = cc in bad)
 exact_some ss bs (Some x) a e h = let same : x ≡ a = cc in subst (λ y. blocks_of y.blocks ≡ blocks_over ss y.first (rows_in y.rows) bs) same h
 
-pub sources_some : (ss : List Sort) (bs : List PassiveBlock) (o : Option Atoms) (a : Atoms) → o ≡ Some a → IfSome o (λ x. AreFrom ss bs (rows_in x.rows)) → AreFrom ss bs (rows_in a.rows)
-sources_some ss bs None a e h = absurd (let bad : ⊥ = cc in bad)
-sources_some ss bs (Some x) a e h = let same : x ≡ a = cc in subst (λ y. AreFrom ss bs (rows_in y.rows)) same h
-
-pub apart_some : (o : Option Atoms) (a : Atoms) → o ≡ Some a → IfSome o (λ x. are_apart (rows_in x.rows) ≡ true) → are_apart (rows_in a.rows) ≡ true
-apart_some None a e h = absurd (let bad : ⊥ = cc in bad)
-apart_some (Some x) a e h = let same : x ≡ a = cc in subst (λ y. are_apart (rows_in y.rows) ≡ true) same h
+pub listed_some : (ss : List Sort) (bs : List PassiveBlock) (o : Option Atoms) (a : Atoms) → o ≡ Some a → IfSome o (λ x. rows_in x.rows ≡ rows_of ss bs) → rows_in a.rows ≡ rows_of ss bs
+listed_some ss bs None a e h = absurd (let bad : ⊥ = cc in bad)
+listed_some ss bs (Some x) a e h = let same : x ≡ a = cc in subst (λ y. rows_in y.rows ≡ rows_of ss bs) same h
 
 -- with the sorts, the number of candidates and the passive blocks of the implementation
-pub own_here : (p : s.Prog) (n : ℕ) (m : s.Impl) (q : s.Proc) (ss : List Sort) (k : ℕ) (bs : List PassiveBlock) (a : Atoms) → ss ≡ sorts_in p n m q → k ≡ p.candidates → bs ≡ passives_in p n m q → IsEncoding p n m q (encoding_over k a) → blocks_of a.blocks ≡ blocks_over ss a.first (rows_in a.rows) bs → AreFrom ss bs (rows_in a.rows) → are_apart (rows_in a.rows) ≡ true → IsOwn p n m q (encoding_over p.candidates a)
-own_here p n m q ss k bs a sorts count passives encodes exact sources apart =
+pub own_here : (p : s.Prog) (n : ℕ) (m : s.Impl) (q : s.Proc) (ss : List Sort) (k : ℕ) (bs : List PassiveBlock) (a : Atoms) → ss ≡ sorts_in p n m q → k ≡ p.candidates → bs ≡ passives_in p n m q → IsEncoding p n m q (encoding_over k a) → blocks_of a.blocks ≡ blocks_over ss a.first (rows_in a.rows) bs → rows_in a.rows ≡ rows_of ss bs → IsOwn p n m q (encoding_over p.candidates a)
+own_here p n m q ss k bs a sorts count passives encodes exact listed =
     record {
       encodes = subst (λ c. IsEncoding p n m q (encoding_over c a)) count encodes;
       blocks = exact ∙ ap (λ l. blocks_over l a.first (rows_in a.rows) bs) sorts ∙ ap (blocks_over (sorts_in p n m q) a.first (rows_in a.rows)) passives;
       named = refl;
-      sources = subst (λ l. AreFrom l (passives_in p n m q) (rows_in a.rows)) sorts (subst (λ l. AreFrom ss l (rows_in a.rows)) passives sources);
-      apart = apart;
+      rows = listed ∙ ap (λ l. rows_of l bs) sorts ∙ ap (rows_of (sorts_in p n m q)) passives;
     }
 
 -- ---- how an implementation is prepared

@@ -8,7 +8,7 @@ ghost use Rattle.bg_blocks.specs.Callees.{IsModified};
 ghost use Rattle.bg_blocks.specs.EmittedViews.{frame_of};
 ghost use Rattle.bg_fits.specs.Scalars.{is_over_scalars};
 ghost use Rattle.bg_sorts.specs.Sorts.{decl_sorts};
-ghost use Rattle.bg_check.specs.Prepared.{IsPrepared, frame_declared};
+ghost use Rattle.bg_task.specs.Prepared.{IsPrepared, frame_declared};
 
 use bg_ast::resolved::{Resolved, Variable};
 use bg_atoms::{Atoms, atoms};

@@ -2,8 +2,8 @@
 ghost use Rattle.std.specs.Prelude.{IfOk};
 ghost use Rattle.bg_ast.specs.Views.{program_of};
 ghost use Rattle.bg_places.specs.Views.{spot_of};
-ghost use Rattle.bg_check.specs.Prepared.{IsPrepared};
-ghost use Rattle.bg_check.specs.Slices.{IsSliceFor};
+ghost use Rattle.bg_task.specs.Prepared.{IsPrepared};
+ghost use Rattle.bg_task.specs.Slices.{IsSliceFor};
 
 use crate::prepared::{Prepared, count_candidates};
 use bg_ast::resolved::Resolved;

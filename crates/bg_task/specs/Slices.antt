@@ -5,10 +5,10 @@ use Rattle.bg_ast.specs.Meaning.{meaning_of, named_of, impl_of, proc_of}
 use Rattle.bg_ast.specs.Execution.{Spot}
 use Rattle.bg_faithful.specs.Encoded.{Encoding, IsEncoding}
 use Rattle.bg_formed.specs.Used.{refused}
-use Rattle.bg_check.specs.declared.cut.Cut.{Cut}
-use Rattle.bg_check.specs.declared.prepared.Prepared.{Prepared}
-use Rattle.bg_check.specs.Prepared.{IsPrepared, encoding_of, encoding_over}
-use Rattle.bg_check.specs.Cuts.{IsCut}
+use Rattle.bg_task.specs.declared.cut.Cut.{Cut}
+use Rattle.bg_task.specs.declared.prepared.Prepared.{Prepared}
+use Rattle.bg_task.specs.Prepared.{IsPrepared, encoding_of, encoding_over}
+use Rattle.bg_task.specs.Cuts.{IsCut}
 
 -- what is left for a place, as data
 abbrev pub encoding_in : Cut → Encoding

@@ -8,10 +8,10 @@ use Rattle.bg_formed.specs.Views.{form_block_of, blocks_of}
 use Rattle.bg_slice.specs.Slices.{sliced, sliced_rows, guards_in}
 use Rattle.bg_block_types.specs.Typed.{passives_in}
 use Rattle.bg_faithful.specs.Sorted.{sorts_in}
-use Rattle.bg_check.specs.Prepared.{encoding_over}
-use Rattle.bg_check.proofs.Prepares.{impl, proc}
-use Rattle.bg_check.proofs.Slices.{slice_encodes}
-use Rattle.bg_check.proofs.cut.cut_down.Goals as goal
+use Rattle.bg_task.specs.Prepared.{encoding_over}
+use Rattle.bg_task.proofs.Prepares.{impl, proc}
+use Rattle.bg_task.proofs.Slices.{slice_encodes}
+use Rattle.bg_task.proofs.cut.cut_down.Goals as goal
 
 pub returns : goal.returns
 returns c =

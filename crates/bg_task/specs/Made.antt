@@ -4,11 +4,11 @@ use Rattle.bg_ast.specs.Syntax.{Prog}
 use Rattle.bg_ast.specs.Execution.{Place}
 use Rattle.bg_formula.specs.Formulas.{Formula, formula_of}
 use Rattle.bg_clause.specs.Whole.{clauses_of}
-use Rattle.bg_check.specs.declared.cut.Cut.{Cut}
-use Rattle.bg_check.specs.declared.place.Made.{Made}
-use Rattle.bg_check.specs.declared.place.Made.TheVariants.{Clauses, Outside}
-use Rattle.bg_check.specs.Slices.{encoding_in}
-use Rattle.bg_check.specs.Verdicts.{HasOutside}
+use Rattle.bg_task.specs.declared.cut.Cut.{Cut}
+use Rattle.bg_task.specs.declared.clauses.Made.{Made}
+use Rattle.bg_task.specs.declared.clauses.Made.TheVariants.{Clauses, Outside}
+use Rattle.bg_task.specs.Slices.{encoding_in}
+use Rattle.bg_task.specs.Certified.{HasOutside}
 
 -- these are the clauses of blocks of forms for the place
 abbrev pub ClausesOf : Cut → Place → Formula → Type 0

@@ -6,9 +6,9 @@ use Rattle.bg_formed.specs.Views.{form_block_of}
 use Rattle.bg_clause.specs.Whole.{clauses_of}
 use Rattle.bg_places.specs.Views.{spot_of}
 use Rattle.bg_rows.specs.Rows.{Told}
-use Rattle.bg_check.specs.Slices.{encoding_in}
-use Rattle.bg_check.proofs.Prepares.{outside_here}
-use Rattle.bg_check.proofs.place.place_clauses.Goals as goal
+use Rattle.bg_task.specs.Slices.{encoding_in}
+use Rattle.bg_task.proofs.Prepares.{outside_here}
+use Rattle.bg_task.proofs.clauses.place_clauses.Goals as goal
 
 pub returns-in-Err-Range : goal.returns-in-Err-Range
 returns-in-Err-Range c =

@@ -17,7 +17,7 @@ use Rattle.bg_atoms.specs.Over.{relates_numbers, refusal, first_refused, says_un
 use Rattle.bg_atoms.specs.Parts.{HasRelation, here, on_left, on_right, denied}
 use Rattle.bg_atoms.specs.Sources.{expression_of}
 use Rattle.bg_atoms.specs.Encoded.{cmd_over, edge_over, blocks_over}
-use Rattle.bg_check.specs.Ways.{way_at, onward, ways, is_check, LiesOnWay}
+use Rattle.bg_task.specs.Ways.{way_at, onward, ways, is_check, LiesOnWay}
 
 -- ---- an expression that has no form has a relation for which there is none
 

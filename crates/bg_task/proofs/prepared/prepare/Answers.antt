@@ -5,9 +5,9 @@ use Rattle.bg_ast.specs.Meaning.{meaning_of, named_of}
 use Rattle.bg_ast.specs.Meaning as mean
 use Rattle.bg_ast.specs.Views.{program_of, impl_of}
 use Rattle.bg_incarnate.specs.Views.{passive_block_of}
-use Rattle.bg_check.specs.Prepared.{encoding_over}
-use Rattle.bg_check.proofs.Prepares.{there, many, passives_made, sorted_here, encodes, made_here, encodes_some, exact_some, sources_some, apart_some, own_here}
-use Rattle.bg_check.proofs.prepared.prepare.Goals as goal
+use Rattle.bg_task.specs.Prepared.{encoding_over}
+use Rattle.bg_task.proofs.Prepares.{there, many, passives_made, sorted_here, encodes, made_here, encodes_some, exact_some, listed_some, own_here}
+use Rattle.bg_task.proofs.prepared.prepare.Goals as goal
 
 pub unreachable-requires : goal.unreachable-requires
 unreachable-requires c =
@@ -44,8 +44,7 @@ returns c =
     let sorts = c.deref-4.ensures.value ∙ x.1 in
     let whole = encodes_some c.deref-4.result.now c.in_ok-candidates.candidates (map passive_block_of c.deref-5.result.now) c.in_ok-atoms.field-0 c.in-Some.atoms c.in-Some.is c.in_ok-atoms.ensures.first c.in_ok-atoms.ensures.terms c.in_ok-atoms.ensures.said c.in_ok-atoms.ensures.below c.in_ok-atoms.ensures.rows c.in_ok-atoms.ensures.denials c.in_ok-atoms.ensures.inside in
     let exact = exact_some c.deref-4.result.now (map passive_block_of c.deref-5.result.now) c.in_ok-atoms.field-0 c.in-Some.atoms c.in-Some.is c.in_ok-atoms.ensures.exact in
-    let sources = sources_some c.deref-4.result.now (map passive_block_of c.deref-5.result.now) c.in_ok-atoms.field-0 c.in-Some.atoms c.in-Some.is c.in_ok-atoms.ensures.sources in
-    let apart = apart_some c.in_ok-atoms.field-0 c.in-Some.atoms c.in-Some.is c.in_ok-atoms.ensures.apart in
+    let listed = listed_some c.deref-4.result.now (map passive_block_of c.deref-5.result.now) c.in_ok-atoms.field-0 c.in-Some.atoms c.in-Some.is c.in_ok-atoms.ensures.listed in
     let encoding = encodes p c.args.number t.implementation t.procedure t.impl_there t.proc_there evens c.requires.typed c.requires.scalars c.in_ok-blocks.blocks.items made c.deref-4.result.now c.in_ok-candidates.candidates (map passive_block_of c.deref-5.result.now) (encoding_over c.in_ok-candidates.candidates c.in-Some.atoms) sorts c.in_ok-candidates.ensures passives whole in
     let declared = many p c.args.number t.implementation t.procedure t.impl_there t.proc_there c.in_ok-frame.frame.items frame in
     record {
@@ -57,5 +56,5 @@ returns c =
       blocks = made;
       firsts = x.0.firsts;
       sorts = x.1;
-      own = own_here (meaning_of p) c.args.number (mean.impl_of (named_of p.types) t.implementation) (mean.proc_of (named_of p.types) t.procedure) c.deref-4.result.now c.in_ok-candidates.candidates (map passive_block_of c.deref-5.result.now) c.in-Some.atoms sorts c.in_ok-candidates.ensures passives encoding exact sources apart;
+      own = own_here (meaning_of p) c.args.number (mean.impl_of (named_of p.types) t.implementation) (mean.proc_of (named_of p.types) t.procedure) c.deref-4.result.now c.in_ok-candidates.candidates (map passive_block_of c.deref-5.result.now) c.in-Some.atoms sorts c.in_ok-candidates.ensures passives encoding exact listed;
     }

@@ -1,5 +1,5 @@
-use Rattle.bg_check.proofs.Failures.{no_failure}
-use Rattle.bg_check.proofs.laws.proved_places_do_not_fail.Goals as goal
+use Rattle.bg_task.proofs.Failures.{no_failure}
+use Rattle.bg_task.proofs.laws.proved_places_do_not_fail.Goals as goal
 
 pub returns : goal.returns
 returns c p set other t nodes typed over h us =

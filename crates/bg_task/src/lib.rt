@@ -1,0 +1,14 @@
+//! A place of a program over truth values and whole numbers as a task: what is made once of its implementation, what of that counts for
+//! the place, and its clauses, which a certificate shows to have no solution. Nothing here searches.
+#![tactic(auto)]
+
+mod clauses;
+mod cut;
+pub mod laws;
+mod prepared;
+mod question;
+
+pub use clauses::{Made, place_clauses};
+pub use cut::{Cut, cut_down};
+pub use prepared::{Prepared, count_candidates, prepare};
+pub use question::Question;
