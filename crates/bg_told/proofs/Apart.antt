@@ -5,8 +5,10 @@ use Rattle.bg_ast.specs.Execution.{Choice}
 use Rattle.bg_places.specs.Placed.{Placed}
 use Rattle.bg_sound.specs.Told.{Why, Verdict, Proved, Refuted, Unknown, Judged}
 use Rattle.bg_told.specs.Kept.{why_text, kept_text}
-use Rattle.bg_told.specs.Lines.{line, texts, value_text}
-use Rattle.bg_told.specs.Places.{place_text, variable_text, chosen_text, choice_text, refuted_text, unknown_text, verdict_text, judged_text}
+use Rattle.bg_told.specs.Lines.{texts, value_text}
+use Rattle.bg_lines.specs.Lines.{line}
+use Rattle.bg_told.specs.Places.{variable_text, chosen_text, choice_text, refuted_text, unknown_text, verdict_text, judged_text}
+use Rattle.bg_lines.specs.Places.{place_text}
 use Rattle.bg_told.proofs.Cuts.{IsFlat, append_is_flat, word_is_flat, cut, place_is_flat, value_is_flat, chosen_is_flat, why_is_flat, kept_is_flat}
 
 abbrev pub first : List ℕ → ℕ

@@ -10,8 +10,10 @@ use Rattle.bg_ast.specs.Execution.{Spot, AtAssert, AtEntry, AfterTurn, AtCall, A
 use Rattle.bg_places.specs.Placed.{Placed}
 use Rattle.bg_sound.specs.Told.{Why, Nodes, Rows, Range}
 use Rattle.bg_told.specs.Kept.{operator_text, operation_text, why_text, kept_text}
-use Rattle.bg_told.specs.Lines.{position_text, value_text}
-use Rattle.bg_told.specs.Places.{kind_text, call_text, place_text, chosen_text}
+use Rattle.bg_told.specs.Lines.{value_text}
+use Rattle.bg_lines.specs.Lines.{position_text}
+use Rattle.bg_told.specs.Places.{chosen_text}
+use Rattle.bg_lines.specs.Places.{kind_text, call_text, place_text}
 
 -- no byte is below a space: none is a newline
 pub IsFlat : List ℕ → Type 0

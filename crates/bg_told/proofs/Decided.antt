@@ -4,7 +4,8 @@ use Rattle.bg_text.specs.Trees.{Id}
 use Rattle.bg_ast.specs.Resolved.{Declared, Program, Impl}
 use Rattle.bg_sound.specs.Told.{Axioms, Consistent, Contradictory, Undecided, Fate, Retained, Unchecked, Dropped, DroppedFor, Judged, Outcome, is_kept_by, is_kept_at, retained, Word, AllProved, SomeRefuted, SomeUnknown, word_of}
 use Rattle.bg_told.specs.Kept.{why_text}
-use Rattle.bg_told.specs.Lines.{line, texts, position_text, word_text}
+use Rattle.bg_told.specs.Lines.{texts, word_text}
+use Rattle.bg_lines.specs.Lines.{line, position_text}
 use Rattle.bg_told.specs.Places.{judged_text}
 use Rattle.bg_told.specs.Report.{axioms_text, fate_text, candidate_text, set_text, names_of, implementation_text, summary_text, result_text}
 use Rattle.bg_told.proofs.Cuts.{IsFlat, cut, append_is_flat, word_is_flat, why_is_flat}

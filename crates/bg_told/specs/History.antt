@@ -14,8 +14,10 @@ use Rattle.bg_houdini.specs.declared.reason.Reason.{Reason}
 use Rattle.bg_houdini.specs.declared.reason.Reason.TheVariants as reason
 use Rattle.bg_houdini.specs.declared.outcome.Outcome.{Outcome}
 use Rattle.bg_told.specs.Kept.{why_text, kept_line}
-use Rattle.bg_told.specs.Lines.{line, texts, position_text}
-use Rattle.bg_told.specs.Places.{place_text, counterexample_text}
+use Rattle.bg_told.specs.Lines.{texts}
+use Rattle.bg_lines.specs.Lines.{line, position_text}
+use Rattle.bg_told.specs.Places.{counterexample_text}
+use Rattle.bg_lines.specs.Places.{place_text}
 use Rattle.bg_told.specs.Report.{names_of}
 
 -- an entry as it is told: its number, the candidate that went, the place that isn't proved, the candidates that its check had, and what

@@ -5,7 +5,7 @@ use Rattle.bg_base.specs.declared.exact.Op.{Op}
 use Rattle.bg_base.specs.declared.exact.Op.TheVariants.{Plus, Minus, Times, Negate}
 use Rattle.bg_base.specs.declared.exact.OutOfRange.{OutOfRange}
 use Rattle.bg_sound.specs.Told.{Why, Nodes, Rows, Range}
-use Rattle.bg_told.specs.Lines.{line}
+use Rattle.bg_lines.specs.Lines.{line}
 
 abbrev pub operator_text : Op → List ℕ
 operator_text Plus = codes "+"

@@ -1,22 +1,14 @@
 -- Parts of a report's lines.
 use Rattle.std.specs.Prelude.{ℕ, Bool, true, false, List, [], ◌∷◌, ◌++◌, codes}
-use Rattle.std.specs.Fmt.{decimal, signed_decimal}
-use Rattle.bg_base.specs.declared.pos.Pos.{Pos}
+use Rattle.std.specs.Fmt.{signed_decimal}
 use Rattle.bg_ast.specs.Values.{Val, Num, Truth}
 use Rattle.bg_sound.specs.Told.{Word, AllProved, SomeRefuted, SomeUnknown}
-
--- a line is ended by one newline byte
-abbrev pub line : List ℕ → List ℕ
-line words = words ++ 10 ∷ []
 
 -- the texts of the pairs of two lists, as far as both go
 abbrev pub texts : {A B : Type 0} → (A → B → List ℕ) → List A → List B → List ℕ
 texts text [] ys = []
 texts text (x ∷ xs) [] = []
 texts text (x ∷ xs) (y ∷ ys) = text x y ++ texts text xs ys
-
-abbrev pub position_text : Pos → List ℕ
-position_text p = decimal p.line ++ codes ":" ++ decimal p.column
 
 abbrev pub truth_text : Bool → List ℕ
 truth_text true = codes "true"

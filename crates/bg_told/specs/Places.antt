@@ -1,30 +1,14 @@
 -- What is told of a place.
-use Rattle.std.specs.Prelude.{ℕ, List, [], ◌++◌, codes, flat_map, Option, Some, None}
+use Rattle.std.specs.Prelude.{ℕ, List, [], ◌++◌, codes, flat_map}
 use Rattle.std.specs.Fmt.{decimal}
-use Rattle.bg_base.specs.declared.pos.Pos.{Pos}
 use Rattle.bg_ast.specs.Values.{Val}
-use Rattle.bg_ast.specs.Execution.{Spot, AtAssert, AtEntry, AfterTurn, AtCall, AtReturn, Choice, Branch, Chosen}
+use Rattle.bg_ast.specs.Execution.{Choice, Branch, Chosen}
 use Rattle.bg_places.specs.Placed.{Placed}
 use Rattle.bg_sound.specs.Told.{Why, Verdict, Proved, Refuted, Unknown, Judged, Word, SomeRefuted, SomeUnknown}
 use Rattle.bg_told.specs.Kept.{cause_text}
-use Rattle.bg_told.specs.Lines.{line, texts, position_text, value_text, word_text}
-
--- what is checked
-abbrev pub kind_text : Spot → List ℕ
-kind_text (AtAssert k) = codes "assert "
-kind_text (AtEntry k) = codes "invariant entry "
-kind_text (AfterTurn k) = codes "invariant turn "
-kind_text (AtCall s k) = codes "precondition "
-kind_text (AtReturn m k) = codes "postcondition "
-
--- where the call stands whose precondition is checked
-abbrev pub call_text : Option Pos → List ℕ
-call_text None = []
-call_text (Some p) = position_text p ++ codes " of "
-
--- what is checked, and where: the call's position stands in front of the clause's
-abbrev pub place_text : Placed → List ℕ
-place_text a = kind_text a.place.spot ++ call_text a.call ++ position_text a.pos
+use Rattle.bg_told.specs.Lines.{texts, value_text, word_text}
+use Rattle.bg_lines.specs.Lines.{line}
+use Rattle.bg_lines.specs.Places.{place_text}
 
 -- a place and its word
 abbrev pub told_text : Word → Placed → List ℕ

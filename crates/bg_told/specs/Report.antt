@@ -5,7 +5,8 @@ use Rattle.bg_text.specs.Trees.{Id}
 use Rattle.bg_ast.specs.Resolved.{Declared, Impl, Program}
 use Rattle.bg_sound.specs.Told.{Axioms, Consistent, Contradictory, Undecided, Fate, Retained, Unchecked, Dropped, DroppedFor, Judged, Outcome, is_kept_by, Word, AllProved, SomeRefuted, SomeUnknown, word_of}
 use Rattle.bg_told.specs.Kept.{why_text}
-use Rattle.bg_told.specs.Lines.{line, texts, position_text, word_text}
+use Rattle.bg_told.specs.Lines.{texts, word_text}
+use Rattle.bg_lines.specs.Lines.{line, position_text}
 use Rattle.bg_told.specs.Places.{judged_text}
 
 abbrev pub axioms_text : Axioms → List ℕ

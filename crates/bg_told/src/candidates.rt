@@ -3,14 +3,15 @@ ghost use Rattle.std.specs.Prelude.{◌≡◌, ◌++◌, OnOk, map, codes};
 ghost use Rattle.bg_sound.specs.Told.{DroppedFor};
 ghost use Rattle.bg_text.specs.Views.{id_of};
 ghost use Rattle.bg_told.specs.Fates.{told_fate};
-ghost use Rattle.bg_told.specs.Lines.{line, texts};
+ghost use Rattle.bg_told.specs.Lines.{texts};
+ghost use Rattle.bg_lines.specs.Lines.{line};
 ghost use Rattle.bg_told.specs.Views.{why_of};
 ghost use Rattle.bg_told.specs.Report.{fate_text, candidate_text, set_text, fates_text};
 
 use crate::fates::{Fate, count_where};
 use crate::kept::put_cause_word;
-use crate::put::put_number;
 use bg_check::Cause;
+use bg_lines::put_number;
 use bg_text::Name;
 use std::alloc::AllocError;
 
@@ -75,8 +76,8 @@ pub fn put_set(out: &mut Vec<u8>, is_greatest: bool) -> Result<(), AllocError>
 pub fn put_fates_count(out: &mut Vec<u8>, fates: &[Fate<'_>]) -> Result<(), AllocError>
     ensures { OnOk result (out.new.items ≡ out.old.items ++ fates_text (map told_fate fates.now)) }
 {
-    put_number(out, count_where(fates, true))?;
+    put_number(out, count_where(fates, true) as u128)?;
     out.extend_from_slice(b" retained, ")?;
-    put_number(out, count_where(fates, false))?;
+    put_number(out, count_where(fates, false) as u128)?;
     out.extend_from_slice(b" dropped; ")
 }

@@ -4,7 +4,8 @@ ghost use Rattle.bg_ast.specs.Execution.{Branch};
 ghost use Rattle.bg_scalar.specs.Choices.{choice_of};
 ghost use Rattle.bg_told.specs.Places.{chosen_text, choice_text};
 
-use crate::put::{put_number, put_scalar};
+use crate::put::put_scalar;
+use bg_lines::put_number;
 use bg_scalar::Choice;
 use std::alloc::AllocError;
 
@@ -12,7 +13,7 @@ fn put_branch(out: &mut Vec<u8>, branch: u32) -> Result<(), AllocError>
     ensures { OnOk result (out.new.items ≡ out.old.items ++ chosen_text (Branch branch)) }
 {
     out.extend_from_slice(b"branch ")?;
-    put_number(out, branch as usize)
+    put_number(out, branch as u128)
 }
 
 fn put_chosen(out: &mut Vec<u8>, choice: Choice) -> Result<(), AllocError>

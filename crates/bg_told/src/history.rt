@@ -12,13 +12,12 @@ ghost use Rattle.bg_sound.specs.Told.{Unknown};
 ghost use Rattle.bg_told.specs.History.{has_candidate, guarded, found_of, gone_of, name_text, member_text, found_text, shown_text, front_text, gone_line, snapshot_line, gone_in, gone_at, gone_text, IsHistory};
 
 use crate::kept::{put_cause_word, put_kept_line};
-use crate::place::put_place;
 use crate::places::put_counterexample;
-use crate::put::{put_number, put_position};
 use bg_ast::resolved::{Declared, Implementation, Resolved};
 use bg_base::CandId;
 use bg_check::Cause;
 use bg_houdini::{Outcome, Reason};
+use bg_lines::{put_number, put_place, put_position};
 use bg_places::{Place, places};
 use bg_rounds::Removal;
 use bg_text::Name;
@@ -134,7 +133,7 @@ fn put_front(
     ensures { OnOk result (out.new.items ≡ out.old.items ++ front_text (map id_of names.now) (impl_of implementation.now) removal.now.number removal.now.cand.0) }
 {
     out.extend_from_slice(b"drop ")?;
-    put_number(out, removal.number as usize)?;
+    put_number(out, removal.number as u128)?;
     out.push(b' ')?;
     put_name(out, names, removal.cand)?;
     out.extend_from_slice(b" in ")?;

@@ -3,10 +3,11 @@ ghost use Rattle.std.specs.Prelude.{◌≡◌, ◌++◌, OnOk, length};
 ghost use Rattle.bg_told.specs.Kept.{operator_text, operation_text, why_text, kept_text, kept_line, cause_text};
 ghost use Rattle.bg_told.specs.Views.{operation_of, end_of, why_of};
 
-use crate::put::{put_integer, put_number};
+use crate::put::put_integer;
 use bg_base::{Op, OutOfRange};
 use bg_check::Cause;
 use bg_elim::Order;
+use bg_lines::put_number;
 use bg_tree::{Beyond, Why};
 use std::alloc::AllocError;
 
@@ -76,8 +77,8 @@ fn put_end(out: &mut Vec<u8>, why: &Why) -> Result<(), AllocError>
     ensures { OnOk result (out.new.items ≡ out.old.items ++ kept_text (end_of why.now)) }
 {
     match why {
-        Why::Nodes(_, budget) => put_number(out, *budget as usize),
-        Why::Rows(_, order) => put_number(out, count(order)),
+        Why::Nodes(_, budget) => put_number(out, *budget as u128),
+        Why::Rows(_, order) => put_number(out, count(order) as u128),
         Why::Range(_, beyond) => put_operation(out, operation_of(beyond)),
     }
 }

@@ -1,49 +1,14 @@
-//! A place in words.
+//! A place and its word.
 ghost use Rattle.std.specs.Prelude.{◌≡◌, ◌++◌, OnOk};
-ghost use Rattle.bg_places.specs.Views.{spot_of, placed_of};
-ghost use Rattle.bg_told.specs.Places.{kind_text, call_text, place_text, told_text};
+ghost use Rattle.bg_places.specs.Views.{placed_of};
+ghost use Rattle.bg_told.specs.Places.{told_text};
 ghost use Rattle.bg_told.specs.Views.{told_word};
 
-use crate::put::{put_position, put_word};
+use crate::put::put_word;
 use crate::word::Word;
-use bg_base::Pos;
-use bg_places::{Place, Spot};
+use bg_lines::put_place;
+use bg_places::Place;
 use std::alloc::AllocError;
-
-/// What is checked.
-fn put_kind(out: &mut Vec<u8>, spot: Spot) -> Result<(), AllocError>
-    ensures { OnOk result (out.new.items ≡ out.old.items ++ kind_text (spot_of spot)) }
-{
-    match spot {
-        Spot::Assert(_) => out.extend_from_slice(b"assert "),
-        Spot::Entry(_) => out.extend_from_slice(b"invariant entry "),
-        Spot::Turn(_) => out.extend_from_slice(b"invariant turn "),
-        Spot::Call(_, _) => out.extend_from_slice(b"precondition "),
-        Spot::Return(_, _) => out.extend_from_slice(b"postcondition "),
-    }
-}
-
-/// Where the call stands, if there is one.
-fn put_call(out: &mut Vec<u8>, call: Option<Pos>) -> Result<(), AllocError>
-    ensures { OnOk result (out.new.items ≡ out.old.items ++ call_text call) }
-{
-    match call {
-        None => Ok(()),
-        Some(pos) => {
-            put_position(out, pos)?;
-            out.extend_from_slice(b" of ")
-        }
-    }
-}
-
-/// What is checked, and where.
-pub fn put_place(out: &mut Vec<u8>, place: &Place) -> Result<(), AllocError>
-    ensures { OnOk result (out.new.items ≡ out.old.items ++ place_text (placed_of place.now)) }
-{
-    put_kind(out, place.spot)?;
-    put_call(out, place.call)?;
-    put_position(out, place.pos)
-}
 
 /// A place and its word.
 pub fn put_told(out: &mut Vec<u8>, word: Word, place: &Place) -> Result<(), AllocError>

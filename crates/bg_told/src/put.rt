@@ -1,22 +1,14 @@
 //! Parts of a line.
 ghost use Rattle.std.specs.Prelude.{◌≡◌, ◌++◌, OnOk};
-ghost use Rattle.std.specs.Fmt.{decimal, signed_decimal};
+ghost use Rattle.std.specs.Fmt.{signed_decimal};
 ghost use Rattle.bg_scalar.specs.Values.{val_of};
-ghost use Rattle.bg_told.specs.Lines.{position_text, truth_text, value_text, word_text};
+ghost use Rattle.bg_told.specs.Lines.{truth_text, value_text, word_text};
 ghost use Rattle.bg_told.specs.Views.{told_word};
 
 use crate::word::Word;
-use bg_base::Pos;
 use bg_scalar::Scalar;
 use itoa::Buffer;
 use std::alloc::AllocError;
-
-pub fn put_number(out: &mut Vec<u8>, n: usize) -> Result<(), AllocError>
-    ensures { OnOk result (out.new.items ≡ out.old.items ++ decimal n) }
-{
-    let mut buffer = Buffer::new();
-    out.extend_from_slice(buffer.format(n).as_bytes())
-}
 
 /// A whole number, with its sign.
 pub fn put_integer(out: &mut Vec<u8>, n: i128) -> Result<(), AllocError>
@@ -24,14 +16,6 @@ pub fn put_integer(out: &mut Vec<u8>, n: i128) -> Result<(), AllocError>
 {
     let mut buffer = Buffer::new();
     out.extend_from_slice(buffer.format(n).as_bytes())
-}
-
-pub fn put_position(out: &mut Vec<u8>, pos: Pos) -> Result<(), AllocError>
-    ensures { OnOk result (out.new.items ≡ out.old.items ++ position_text pos) }
-{
-    put_number(out, pos.line as usize)?;
-    out.push(b':')?;
-    put_number(out, pos.column as usize)
 }
 
 fn put_truth(out: &mut Vec<u8>, value: bool) -> Result<(), AllocError>

@@ -14,11 +14,12 @@ ghost use Rattle.bg_told.specs.Views.{why_of, told_word};
 use crate::candidates::{put_candidates, put_fates_count, put_set};
 use crate::fates::{Fate, fates_of, is_greatest};
 use crate::places::put_places;
-use crate::put::{put_number, put_position, put_word};
+use crate::put::put_word;
 use crate::word::{Word, count_of, implementation_word};
 use bg_ast::resolved::{Declared, Implementation, Resolved};
 use bg_check::Judged;
 use bg_houdini::Outcome;
+use bg_lines::{put_number, put_position};
 use std::alloc::{AllocError, Global};
 
 fn put_head(
@@ -73,7 +74,7 @@ fn put_implementations(
 fn put_count(out: &mut Vec<u8>, outcome: &[Vec<Judged>], word: Word) -> Result<(), AllocError>
     ensures { OnOk result (out.new.items ≡ out.old.items ++ count_text (told_word word) (map (told why_of) (judged outcome.now))) }
 {
-    put_number(out, count_of(outcome, word))?;
+    put_number(out, count_of(outcome, word) as u128)?;
     out.push(b' ')?;
     put_word(out, word)?;
     Ok(())

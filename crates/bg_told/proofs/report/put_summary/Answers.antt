@@ -3,7 +3,7 @@ use Rattle.bg_sound.specs.Told.{Fate, Judged, AllProved, SomeRefuted, SomeUnknow
 use Rattle.bg_check.specs.Verdicts.{judged}
 use Rattle.bg_check.specs.Outcomes.{told}
 use Rattle.bg_told.specs.Fates.{told_fate}
-use Rattle.bg_told.specs.Lines.{line}
+use Rattle.bg_lines.specs.Lines.{line}
 use Rattle.bg_told.specs.Report.{count_text, fates_text}
 use Rattle.bg_told.specs.Views.{why_of}
 use Rattle.bg_told.proofs.report.put_summary.Goals as goal

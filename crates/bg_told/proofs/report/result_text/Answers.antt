@@ -6,7 +6,8 @@ use Rattle.bg_check.specs.Verdicts.{judged}
 use Rattle.bg_check.specs.Outcomes.{told}
 use Rattle.bg_houdini.specs.Told.{are_known, outcome_of}
 use Rattle.bg_told.specs.Fates.{told_fate}
-use Rattle.bg_told.specs.Lines.{line, texts}
+use Rattle.bg_told.specs.Lines.{texts}
+use Rattle.bg_lines.specs.Lines.{line}
 use Rattle.bg_told.specs.Report.{candidate_text, set_text, implementation_text, summary_text}
 use Rattle.bg_told.specs.Views.{why_of}
 use Rattle.bg_told.proofs.report.result_text.Goals as goal
