@@ -1,0 +1,119 @@
+-- The machine takes the lines of a certificate, and what it read is the certificate.
+use Rattle.std.proofs.Common.{◌≡◌, ℕ, suc, Bool, true, false, not, ◌==◌, List, [], ◌∷◌, ◌++◌, map, flat_map, length, codes, Some, refl, ap, sym, ◌∙◌, append_assoc, append-nil, arith}
+use Rattle.std.proofs.lemmas.Bool.{ne_eqb}
+use Rattle.std.specs.List.{list_all}
+use Rattle.bg_certtext.specs.declared.draft.Stage.{Stage}
+use Rattle.bg_certtext.specs.declared.draft.Stage.TheVariants as at
+use Rattle.bg_certtext.specs.Views.{RowOf, NodeOf, SectionOf, CertOf}
+use Rattle.bg_certtext.specs.Spellable.{IsSpellable, is_name, is_number, is_row, is_node, is_section, are_trees}
+use Rattle.bg_certtext.specs.Texts.{lines_of, retain_words, interp_words, place_words, section_lines, table_lines, row_words, node_lines, end_words}
+use Rattle.bg_certtext.specs.Machine.{DraftOf, start, next, after, cert_in}
+use Rattle.bg_certtext.proofs.ReadsOptions.{both}
+use Rattle.bg_certtext.proofs.ReadsNumbers.{natural_read}
+use Rattle.bg_certtext.proofs.ReadsWords.{count_read}
+use Rattle.bg_certtext.proofs.ReadsStates.{Head, AtInterp, AtRetained, Lines, open_draft, head_draft, first_head, draft_at, with_open, counted}
+use Rattle.bg_certtext.proofs.ReadsForwards.{after_join, after_first, rows_run, tree_run}
+
+-- ---- a place
+
+-- the stages in which a place may stand: behind the names, or behind another place
+abbrev between : Bool → Stage
+between true = at.Retained
+between false = at.Sections
+
+abbrev placed : Head → SectionOf → Head
+placed h s = record h { implementation = s.implementation; place = s.place }
+
+place_next : (first : Bool) (h : Head) (s : SectionOf) → is_number s.implementation ≡ true → is_number s.place ≡ true → next (place_words s.implementation s.place) (head_draft (between first) h) ≡ Some (open_draft at.Table (placed h s) [] [] [] 1 0)
+place_next true h s i k = rw (natural_read s.implementation i, natural_read s.place k) refl
+place_next false h s i k = rw (natural_read s.implementation i, natural_read s.place k) refl
+
+table_next : (h : Head) (r : RowOf) (rs : List RowOf) → is_number (length (r ∷ rs)) ≡ true → next (counted (codes "table") (length (r ∷ rs))) (open_draft at.Table h [] [] [] 1 0) ≡ Some (open_draft at.Rows h [] [] [] 1 (length (r ∷ rs)))
+table_next h r rs k =
+    let some : not (suc (length rs) == 0) ≡ true = ap not (ne_eqb (suc (length rs)) 0 (λ e. omega (arith, e))) in
+    rw (count_read (suc (length rs)) k some) refl
+
+table_run : (h : Head) (table : List RowOf) (nodes : List NodeOf) → is_number (length table) ≡ true → list_all is_row table ≡ true → list_all is_node nodes ≡ true → are_trees 1 nodes ≡ true → after (table_lines table ++ flat_map node_lines nodes) (open_draft at.Table h [] [] [] 1 0) ≡ Some (head_draft at.Sections (with_open h table nodes))
+table_run h [] nodes k f g e = tree_run nodes true 0 h [] [] g e
+table_run h (r ∷ rs) nodes k f g e =
+    let more : Lines = flat_map node_lines nodes in
+    let d : DraftOf = open_draft at.Rows h [] [] [] 1 (length (r ∷ rs)) in
+    after_first (counted (codes "table") (length (r ∷ rs))) (map row_words (r ∷ rs) ++ more) (open_draft at.Table h [] [] [] 1 0) d (table_next h r rs k)
+    ∙ after_join (map row_words (r ∷ rs)) more d (open_draft at.Nodes h (r ∷ rs) [] [] 1 0) (rows_run r rs h [] f)
+    ∙ tree_run nodes false 0 h (r ∷ rs) [] g e
+
+section_run : (first : Bool) (h : Head) (s : SectionOf) → is_section s ≡ true → after (section_lines s) (head_draft (between first) h) ≡ Some (head_draft at.Sections (with_open (placed h s) s.table s.nodes))
+section_run first h s k =
+    let k1 = both (is_number s.implementation) _ k in
+    let k2 = both (is_number s.place) _ k1.1 in
+    let k3 = both (is_number (length s.table)) _ k2.1 in
+    let k4 = both (list_all is_row s.table) _ k3.1 in
+    let k5 = both (list_all is_node s.nodes) (are_trees 1 s.nodes) k4.1 in
+    after_first (place_words s.implementation s.place) (table_lines s.table ++ flat_map node_lines s.nodes) (head_draft (between first) h) (open_draft at.Table (placed h s) [] [] [] 1 0) (place_next first h s k1.0 k2.0)
+    ∙ table_run (placed h s) s.table s.nodes k3.0 k4.0 k5.0 k5.1
+
+-- ---- all places, and the end
+
+abbrev behind_all : Head → List SectionOf → Head
+behind_all h [] = h
+behind_all h (s ∷ ss) = behind_all (with_open (placed h s) s.table s.nodes) ss
+
+behind_is : (h : Head) (ss : List SectionOf) → cert_in (head_draft at.End (behind_all h ss)) ≡ record { interp = h.interp; retained = h.retained; sections = h.sections ++ ss }
+behind_is h [] = ap (λ (ts : List SectionOf). let c : CertOf = record { interp = h.interp; retained = h.retained; sections = ts } in c) (sym (append-nil h.sections))
+behind_is h (s ∷ ss) =
+    behind_is (with_open (placed h s) s.table s.nodes) ss
+    ∙ ap (λ (ts : List SectionOf). let c : CertOf = record { interp = h.interp; retained = h.retained; sections = ts } in c) (append_assoc h.sections (s ∷ []) ss)
+
+sections_run : (ss : List SectionOf) (first : Bool) (h : Head) → list_all is_section ss ≡ true → after (flat_map section_lines ss ++ end_words ∷ []) (head_draft (between first) h) ≡ Some (head_draft at.End (behind_all h ss))
+sections_run [] true h k = refl
+sections_run [] false h k = refl
+sections_run (s ∷ ss) first h k =
+    let p = both (is_section s) (list_all is_section ss) k in
+    let more : Lines = flat_map section_lines ss in
+    let behind : Head = with_open (placed h s) s.table s.nodes in
+    ap (λ (ls : Lines). after ls (head_draft (between first) h)) (append_assoc (section_lines s) more (end_words ∷ []))
+    ∙ after_join (section_lines s) (more ++ end_words ∷ []) (head_draft (between first) h) (head_draft at.Sections behind) (section_run first h s p.0)
+    ∙ sections_run ss false behind p.1
+
+-- ---- the lines in front
+
+names_run : (names : List (List ℕ)) (b : Bool) (done : List (List ℕ)) → list_all is_name names ≡ true → after (map retain_words names) (head_draft at.Retained (first_head b done)) ≡ Some (head_draft at.Retained (first_head b (done ++ names)))
+names_run [] b done k = ap (λ (ns : List (List ℕ)). Some (head_draft at.Retained (first_head b ns))) (sym (append-nil done))
+names_run (n ∷ ns) b done k =
+    let p = both (is_name n) (list_all is_name ns) k in
+    let d : DraftOf = head_draft at.Retained (first_head b done) in
+    let e : DraftOf = head_draft at.Retained (first_head b (done ++ n ∷ [])) in
+    let took : next (retain_words n) d ≡ Some e = rw p.0 refl in
+    after_first (retain_words n) (map retain_words ns) d e took
+    ∙ names_run ns b (done ++ n ∷ []) p.1
+    ∙ ap (λ (ms : List (List ℕ)). Some (head_draft at.Retained (first_head b ms))) (append_assoc done (n ∷ []) ns)
+
+interp_next : (b : Bool) → next (interp_words b) (draft_at AtInterp) ≡ Some (draft_at (AtRetained b []))
+interp_next true = refl
+interp_next false = refl
+
+-- ---- a certificate
+
+-- the machine takes these lines, stands at the end, and has read this certificate
+pub record Accepts (lines : Lines) (c : CertOf) : Type 0 where
+  pub draft : DraftOf
+  pub ran : after lines start ≡ Some draft
+  pub ended : draft.stage ≡ at.End
+  pub has : cert_in draft ≡ c
+
+pub lines_are_accepted : (c : CertOf) → IsSpellable c → Accepts (lines_of c) c
+lines_are_accepted c k =
+    let p = both (list_all is_name c.retained) (list_all is_section c.sections) k in
+    let h : Head = first_head c.interp c.retained in
+    let names : Lines = map retain_words c.retained in
+    let places : Lines = flat_map section_lines c.sections in
+    record {
+      draft = head_draft at.End (behind_all h c.sections);
+      ran =
+          after_first (interp_words c.interp) ((names ++ places) ++ end_words ∷ []) (draft_at AtInterp) (draft_at (AtRetained c.interp [])) (interp_next c.interp)
+          ∙ ap (λ (ls : Lines). after ls (draft_at (AtRetained c.interp []))) (append_assoc names places (end_words ∷ []))
+          ∙ after_join names (places ++ end_words ∷ []) (draft_at (AtRetained c.interp [])) (head_draft at.Retained h) (names_run c.retained c.interp [] p.0)
+          ∙ sections_run c.sections true h p.1;
+      ended = refl;
+      has = behind_is h c.sections;
+    }

@@ -1,0 +1,180 @@
+-- The words of a certificate's lines have no space and no newline.
+use Rattle.std.proofs.Common.{◌≡◌, ℕ, suc, ◌+◌, ◌%◌, ◌<◌, ◌^◌, Bool, true, false, not, ◌&&◌, nat_lt, nat_le, int_le, List, [], ◌∷◌, ◌++◌, map, flat_map, length, codes, ℤ, pos, negsuc, refl, arith}
+use Rattle.std.proofs.lemmas.Bool.{ltb-true, lt-ltb, ne_eqb}
+use Rattle.std.proofs.lemmas.Fmt.{decimal_by_steps_wide}
+use Rattle.std.specs.List.{list_all}
+use Rattle.std.specs.Fmt.{decimal, signed_decimal}
+use Rattle.bg_base.specs.Exact.{fits}
+use Rattle.bg_rows.specs.declared.step.Step.{Step}
+use Rattle.bg_rows.specs.declared.step.Step.TheVariants.{Path, Sum, Tight}
+use Rattle.bg_cert.specs.declared.cert.Named.{Named}
+use Rattle.bg_cert.specs.declared.cert.Named.TheVariants.{OfAtom, OfRow}
+use Rattle.bg_certtext.specs.declared.text.Term.{Term}
+use Rattle.bg_certtext.specs.Views.{RowOf, NodeOf, Splits, Bounds, Cuts, Learns, IsClause, IsUnit, IsKnown, Derives, SectionOf, CertOf}
+use Rattle.bg_certtext.specs.Spellable.{IsSpellable, is_inside_word, is_empty, is_name, is_number, is_zero, is_factor, is_row, is_literal, is_step, is_node, is_section, are_terms, are_steps, are_trees}
+use Rattle.bg_certtext.specs.Texts.{literal_word, step_words, node_words, node_lines, term_words, row_words, table_lines, place_words, section_lines, retain_words, interp_words, version_words, end_words, lines_of}
+use Rattle.bg_certtext.proofs.ReadsOptions.{both, all_of}
+
+-- a word has neither inside, a line at least one such word
+abbrev pub is_clean : List ℕ → Bool
+is_clean w = list_all is_inside_word w
+
+abbrev pub is_line : List (List ℕ) → Bool
+is_line ws = not (is_empty ws) && list_all is_clean ws
+
+-- ---- lists of them
+
+all_append : {A : Type 0} (p : A → Bool) (xs ys : List A) → list_all p xs ≡ true → list_all p ys ≡ true → list_all p (xs ++ ys) ≡ true
+all_append p [] ys h k = k
+all_append p (x ∷ xs) ys h k = let q = both (p x) (list_all p xs) h in all_of (p x) (list_all p (xs ++ ys)) q.0 (all_append p xs ys q.1 k)
+
+all_map : {A B : Type 0} (p : B → Bool) (q : A → Bool) (f : A → B) → ((x : A) → q x ≡ true → p (f x) ≡ true) → (xs : List A) → list_all q xs ≡ true → list_all p (map f xs) ≡ true
+all_map p q f each [] h = refl
+all_map p q f each (x ∷ xs) h = let k = both (q x) (list_all q xs) h in all_of (p (f x)) (list_all p (map f xs)) (each x k.0) (all_map p q f each xs k.1)
+
+all_flat : {A B : Type 0} (p : B → Bool) (q : A → Bool) (f : A → List B) → ((x : A) → q x ≡ true → list_all p (f x) ≡ true) → (xs : List A) → list_all q xs ≡ true → list_all p (flat_map f xs) ≡ true
+all_flat p q f each [] h = refl
+all_flat p q f each (x ∷ xs) h = let k = both (q x) (list_all q xs) h in all_append p (f x) (flat_map f xs) (each x k.0) (all_flat p q f each xs k.1)
+
+-- ---- words
+
+abbrev is_above : ℕ → Bool
+is_above b = nat_lt 32 b
+
+above_inside : (b : ℕ) → is_above b ≡ true → is_inside_word b ≡ true
+unfolding is_inside_word
+above_inside b h =
+    let more = ltb-true 32 b h in
+    rw (ne_eqb b 32 (λ e. omega (arith, e, more)), ne_eqb b 10 (λ e. omega (arith, e, more))) refl
+
+-- a word of bytes above the space
+plain : (w : List ℕ) → list_all is_above w ≡ true → is_clean w ≡ true
+plain [] h = refl
+plain (b ∷ bs) h = let p = both (is_above b) (list_all is_above bs) h in all_of (is_inside_word b) (is_clean bs) (above_inside b p.0) (plain bs p.1)
+
+digits_above : (n : ℕ) → n < 10 ^ 64 → list_all is_above (decimal n) ≡ true
+digits_above n small =
+    let P : ℕ → List ℕ → Type 0 = λ n ds. list_all is_above ds ≡ true in
+    decimal_by_steps_wide P
+    (λ k low. let above = lt-ltb 32 (48 + k) (omega arith) in rw above refl)
+    (λ k ds big h. let above = lt-ltb 32 (48 + k % 10) (omega arith) in all_append is_above ds ((48 + k % 10) ∷ []) h (rw above refl))
+    n small
+
+number_clean : (n : ℕ) → is_number n ≡ true → is_clean (decimal n) ≡ true
+number_clean n h = plain (decimal n) (digits_above n (let low = ltb-true n (2 ^ 127) h in omega (arith, low)))
+
+signed_clean : (z : ℤ) → fits z ≡ true → is_clean (signed_decimal z) ≡ true
+signed_clean (pos n) h = number_clean n h
+signed_clean (negsuc n) h = plain (45 ∷ decimal (suc n)) (digits_above (suc n) (let low = ltb-true n (2 ^ 127) h in omega (arith, low)))
+
+literal_clean : (l : Named) → is_literal l ≡ true → is_clean (literal_word l) ≡ true
+literal_clean (OfAtom a true) h = all_append is_inside_word (codes "+") (decimal a) (plain (codes "+") refl) (number_clean a h)
+literal_clean (OfAtom a false) h = all_append is_inside_word (codes "-") (decimal a) (plain (codes "-") refl) (number_clean a h)
+literal_clean (OfRow r true) h = all_append is_inside_word (codes "+#") (decimal r) (plain (codes "+#") refl) (number_clean r h)
+literal_clean (OfRow r false) h = all_append is_inside_word (codes "-#") (decimal r) (plain (codes "-#") refl) (number_clean r h)
+
+name_clean : (name : List ℕ) → is_name name ≡ true → is_clean name ≡ true
+name_clean name h = (both (not (is_empty name)) (is_clean name) h).1
+
+-- ---- lines
+
+lone : (a : List ℕ) → is_clean a ≡ true → is_line (a ∷ []) ≡ true
+lone a h = rw h refl
+
+pair : (a b : List ℕ) → is_clean a ≡ true → is_clean b ≡ true → is_line (a ∷ b ∷ []) ≡ true
+pair a b h k = rw (h, k) refl
+
+triple : (a b c : List ℕ) → is_clean a ≡ true → is_clean b ≡ true → is_clean c ≡ true → is_line (a ∷ b ∷ c ∷ []) ≡ true
+triple a b c h k l = rw (h, k, l) refl
+
+of_one : (key : List ℕ) (n : ℕ) → list_all is_above key ≡ true → is_number n ≡ true → is_line (key ∷ decimal n ∷ []) ≡ true
+of_one key n h k = pair key (decimal n) (plain key h) (number_clean n k)
+
+step_line : (n : ℕ) (s : Step) → is_step n s ≡ true → is_line (step_words s) ≡ true
+step_line n (Path j) h = of_one (codes "path") j refl h
+step_line n (Sum r p s q) h =
+    let h1 = both (nat_lt r n) _ h in
+    let h2 = both (is_number r) _ h1.1 in
+    let h3 = both (nat_lt s n) _ h2.1 in
+    let h4 = both (is_number s) _ h3.1 in
+    let h5 = both (fits p) _ h4.1 in
+    let h6 = both (int_le (pos 0) p) _ h5.1 in
+    let h7 = both (fits q) (int_le (pos 0) q) h6.1 in
+    rw (plain (codes "sum") refl, number_clean r h2.0, signed_clean p h5.0, number_clean s h4.0, signed_clean q h7.0) refl
+step_line n (Tight r) h = of_one (codes "tight") r refl (both (nat_lt r n) (is_number r) h).1
+
+step_lines : (n : ℕ) (ss : List Step) → are_steps n ss ≡ true → list_all is_line (map step_words ss) ≡ true
+step_lines n [] h = refl
+step_lines n (s ∷ ss) h =
+    let p = both (is_step n s) (are_steps (n + 1) ss) h in
+    all_of (is_line (step_words s)) (list_all is_line (map step_words ss)) (step_line n s p.0) (step_lines (n + 1) ss p.1)
+
+one_line : (ws : List (List ℕ)) → is_line ws ≡ true → list_all is_line (ws ∷ []) ≡ true
+one_line ws h = all_of (is_line ws) true h refl
+
+node_clean : (n : NodeOf) → is_node n ≡ true → list_all is_line (node_lines n) ≡ true
+node_clean (Splits a) h = one_line (node_words (Splits a)) (of_one (codes "split") a refl h)
+node_clean (Bounds x k) h =
+    let p = both (is_number x) (fits k) h in
+    one_line (node_words (Bounds x k)) (triple (codes "bound") (decimal x) (signed_decimal k) (plain (codes "bound") refl) (number_clean x p.0) (signed_clean k p.1))
+node_clean (Cuts r) h = one_line (node_words (Cuts r)) (of_one (codes "cut") r refl h)
+node_clean (Learns ls) h =
+    one_line (node_words (Learns ls)) (all_of (is_clean (codes "lemma")) (list_all is_clean (map literal_word ls)) (plain (codes "lemma") refl) (all_map is_clean is_literal literal_word literal_clean ls h))
+node_clean (IsClause c) h = one_line (node_words (IsClause c)) (of_one (codes "clause") c refl h)
+node_clean (IsUnit name) h = one_line (node_words (IsUnit name)) (pair (codes "unit") name (plain (codes "unit") refl) (name_clean name h))
+node_clean (IsKnown i) h = one_line (node_words (IsKnown i)) (of_one (codes "known") i refl h)
+node_clean (Derives steps) h =
+    let p = both (not (is_empty steps)) _ h in
+    let q = both (is_number (length steps)) (are_steps 0 steps) p.1 in
+    all_of (is_line (node_words (Derives steps))) (list_all is_line (map step_words steps)) (of_one (codes "rows") (length steps) refl q.0) (step_lines 0 steps q.1)
+
+terms_clean : (low : ℕ) (ts : List Term) → are_terms low ts ≡ true → list_all is_clean (flat_map term_words ts) ≡ true
+terms_clean low [] h = refl
+terms_clean low (t ∷ ts) h =
+    let p = both (nat_le low t.term) _ h in
+    let q = both (is_number t.term) _ p.1 in
+    let r = both (is_factor t.by) (are_terms (t.term + 1) ts) q.1 in
+    let f = both (not (is_zero t.by)) _ r.0 in
+    let fit = both (fits t.by) _ f.1 in
+    rw (number_clean t.term q.0, signed_clean t.by fit.0, terms_clean (t.term + 1) ts r.1) refl
+
+row_clean : (r : RowOf) → is_row r ≡ true → is_line (row_words r) ≡ true
+row_clean r h =
+    let p = both (fits r.bound) (are_terms 0 r.terms) h in
+    rw (plain (codes "row") refl, signed_clean r.bound p.0, terms_clean 0 r.terms p.1) refl
+
+table_clean : (table : List RowOf) → is_number (length table) ≡ true → list_all is_row table ≡ true → list_all is_line (table_lines table) ≡ true
+table_clean [] h k = refl
+table_clean (r ∷ rs) h k =
+    all_of (is_line (codes "table" ∷ decimal (length (r ∷ rs)) ∷ [])) (list_all is_line (map row_words (r ∷ rs))) (of_one (codes "table") (length (r ∷ rs)) refl h) (all_map is_line is_row row_words row_clean (r ∷ rs) k)
+
+section_clean : (s : SectionOf) → is_section s ≡ true → list_all is_line (section_lines s) ≡ true
+section_clean s k =
+    let k1 = both (is_number s.implementation) _ k in
+    let k2 = both (is_number s.place) _ k1.1 in
+    let k3 = both (is_number (length s.table)) _ k2.1 in
+    let k4 = both (list_all is_row s.table) _ k3.1 in
+    let k5 = both (list_all is_node s.nodes) (are_trees 1 s.nodes) k4.1 in
+    all_of (is_line (place_words s.implementation s.place)) (list_all is_line (table_lines s.table ++ flat_map node_lines s.nodes))
+    (triple (codes "place") (decimal s.implementation) (decimal s.place) (plain (codes "place") refl) (number_clean s.implementation k1.0) (number_clean s.place k2.0))
+    (all_append is_line (table_lines s.table) (flat_map node_lines s.nodes) (table_clean s.table k3.0 k4.0) (all_flat is_line is_node node_lines node_clean s.nodes k5.0))
+
+interp_clean : (b : Bool) → is_line (interp_words b) ≡ true
+interp_clean true = lone (codes "interp") (plain (codes "interp") refl)
+interp_clean false = pair (codes "no") (codes "interp") (plain (codes "no") refl) (plain (codes "interp") refl)
+
+pub lines_clean : (c : CertOf) → IsSpellable c → list_all is_line (lines_of c) ≡ true
+lines_clean c h =
+    let p = both (list_all is_name c.retained) (list_all is_section c.sections) h in
+    let names : List (List (List ℕ)) = map retain_words c.retained in
+    let places : List (List (List ℕ)) = flat_map section_lines c.sections in
+    all_of (is_line version_words) _ (pair (codes "bg-cert") (codes "1") (plain (codes "bg-cert") refl) (plain (codes "1") refl))
+    (all_of (is_line (interp_words c.interp)) _ (interp_clean c.interp)
+    (all_append is_line (names ++ places) (end_words ∷ [])
+    (all_append is_line names places
+    (all_map is_line is_name retain_words (λ name k. pair (codes "retain") name (plain (codes "retain") refl) (name_clean name k)) c.retained p.0)
+    (all_flat is_line is_section section_lines section_clean c.sections p.1))
+    (one_line end_words (lone (codes "end") (plain (codes "end") refl)))))
+
+pub version_clean : (z : ℤ) → fits z ≡ true → is_line (codes "bg-cert" ∷ signed_decimal z ∷ []) ≡ true
+version_clean z h = pair (codes "bg-cert") (signed_decimal z) (plain (codes "bg-cert") refl) (signed_clean z h)

@@ -1,0 +1,15 @@
+-- Lines of words.
+use Rattle.std.specs.Prelude.{ℕ, List, [], ◌∷◌, ◌++◌, flat_map}
+
+-- a word behind one space
+abbrev pub behind_space : List ℕ → List ℕ
+behind_space word = 32 ∷ word
+
+-- words, one space between two
+abbrev pub spaced : List (List ℕ) → List ℕ
+spaced [] = []
+spaced (word ∷ words) = word ++ flat_map behind_space words
+
+-- a line is ended by one newline byte
+abbrev pub line : List (List ℕ) → List ℕ
+line words = spaced words ++ 10 ∷ []

@@ -1,0 +1,325 @@
+-- The reader as a machine: what is read so far, and what the next line makes of it.
+use Rattle.std.specs.Prelude.{◌≡◌, ℕ, zero, suc, ◌+◌, ◌-◌, ◌≤◌, ◌==◌, Bool, true, false, not, ◌&&◌, List, [], ◌∷◌, ◌++◌, length, map, flat_map, codes, Result, Ok, Err, Option, Some, None, ℤ, pos, negsuc, int_le, nat_lt, nat_le, if◌then◌else◌}
+use Rattle.std.specs.Str.{bytes_eq}
+use Rattle.std.specs.List.{list_all}
+use Rattle.bg_rows.specs.declared.step.Step.{Step}
+use Rattle.bg_rows.specs.declared.step.Step.TheVariants.{Path, Sum, Tight}
+use Rattle.bg_cert.specs.declared.cert.Named.{Named}
+use Rattle.bg_cert.specs.declared.cert.Named.TheVariants.{OfAtom, OfRow}
+use Rattle.bg_certtext.specs.declared.text.Term.{Term}
+use Rattle.bg_certtext.specs.declared.draft.Stage.{Stage}
+use Rattle.bg_certtext.specs.declared.draft.Stage.TheVariants as at
+use Rattle.bg_certtext.specs.declared.draft.Draft.{Draft}
+use Rattle.bg_certtext.specs.declared.error.ReadError.{ReadError}
+use Rattle.bg_certtext.specs.declared.error.ReadError.TheVariants as errors
+use Rattle.bg_certtext.specs.declared.text.CertText.{CertText}
+use Rattle.bg_certtext.specs.Lines.{line}
+use Rattle.bg_certtext.specs.Views.{cert_of, RowOf, NodeOf, Splits, Bounds, Cuts, Learns, IsClause, IsUnit, IsKnown, Derives, SectionOf, CertOf, section_of, row_of, node_of}
+use Rattle.bg_certtext.specs.Spellable.{is_empty, is_name, is_factor, children}
+use Rattle.bg_certtext.specs.Words.{natural, integer, words_of, is_in_line}
+
+-- ---- options
+
+abbrev pub then_ : {A B : Type 0} → Option A → (A → Option B) → Option B
+then_ None f = None
+then_ (Some x) f = f x
+
+abbrev pub when : {A : Type 0} → Bool → A → Option A
+when true x = Some x
+when false x = None
+
+-- ---- the words of a line, behind its first
+
+-- one number
+abbrev pub one : List (List ℕ) → Option ℕ
+one (a ∷ []) = natural a
+one _ = None
+
+-- a number of lines, at least 1
+abbrev pub count : List (List ℕ) → Option ℕ
+count words = then_ (one words) (λ n. when (not (n == 0)) n)
+
+-- two numbers
+abbrev pub two : List (List ℕ) → Option (ℕ × ℕ)
+two (a ∷ b ∷ []) = then_ (natural a) (λ m. then_ (natural b) (λ n. Some (m, n)))
+two _ = None
+
+-- a number, and a whole number
+abbrev pub with_sign : List (List ℕ) → Option (ℕ × ℤ)
+with_sign (a ∷ b ∷ []) = then_ (natural a) (λ n. then_ (integer b) (λ z. Some (n, z)))
+with_sign _ = None
+
+abbrev pub name_in : List (List ℕ) → Option (List ℕ)
+name_in (name ∷ []) = when (is_name name) name
+name_in _ = None
+
+abbrev pub sign_in : ℕ → Option Bool
+sign_in b = if b == 43 then Some true else (if b == 45 then Some false else None)
+
+abbrev pub signed_in : Bool → List ℕ → Option Named
+signed_in s [] = None
+signed_in s (b ∷ bs) =
+    if b == 35 then then_ (natural bs) (λ r. Some (OfRow r s)) else then_ (natural (b ∷ bs)) (λ a. Some (OfAtom a s))
+
+abbrev pub literal_in : List ℕ → Option Named
+literal_in [] = None
+literal_in (b ∷ bs) = then_ (sign_in b) (λ s. signed_in s bs)
+
+abbrev pub literals_in : List (List ℕ) → Option (List Named)
+literals_in [] = Some []
+literals_in (w ∷ ws) = then_ (literal_in w) (λ l. then_ (literals_in ws) (λ ls. Some (l ∷ ls)))
+
+-- a term that isn't below a number
+abbrev pub term_in : ℕ → List ℕ → List ℕ → Option Term
+term_in low a b =
+    then_ (natural a) (λ t. then_ (integer b) (λ k. when (nat_le low t && is_factor k) (record { term = t; by = k })))
+
+abbrev pub terms_in : ℕ → List (List ℕ) → Option (List Term)
+terms_in low [] = Some []
+terms_in low (a ∷ []) = None
+terms_in low (a ∷ b ∷ ws) =
+    then_ (term_in low a b) (λ t. then_ (terms_in (t.term + 1) ws) (λ ts. Some (t ∷ ts)))
+
+abbrev pub row_behind : List (List ℕ) → Option RowOf
+row_behind [] = None
+row_behind (c ∷ ws) =
+    then_ (integer c) (λ z. then_ (terms_in 0 ws) (λ ts. Some (record { bound = z; terms = ts })))
+
+abbrev pub row_in : List (List ℕ) → Option RowOf
+row_in [] = None
+row_in (key ∷ ws) = if bytes_eq key (codes "row") then row_behind ws else None
+
+abbrev pub sum_in : ℕ → List (List ℕ) → Option Step
+sum_in n (r ∷ p ∷ s ∷ q ∷ []) =
+    then_ (natural r) (λ r. then_ (integer p) (λ p. then_ (natural s) (λ s. then_ (integer q) (λ q.
+    when (nat_lt r n && (int_le (pos 0) p && (nat_lt s n && int_le (pos 0) q))) (Sum r p s q)))))
+sum_in n _ = None
+
+-- the step of a row's number
+abbrev pub step_in : ℕ → List (List ℕ) → Option Step
+step_in n [] = None
+step_in n (key ∷ ws) =
+    if bytes_eq key (codes "path") then then_ (one ws) (λ j. Some (Path j))
+    else (if bytes_eq key (codes "sum") then sum_in n ws
+    else (if bytes_eq key (codes "tight") then then_ (one ws) (λ r. when (nat_lt r n) (Tight r)) else None))
+
+-- a node whose line has this first word and no list behind it
+abbrev pub plain_in : List ℕ → List (List ℕ) → Option NodeOf
+plain_in key ws =
+    if bytes_eq key (codes "split") then then_ (one ws) (λ a. Some (Splits a))
+    else (if bytes_eq key (codes "bound") then then_ (with_sign ws) (λ p. Some (Bounds p.0 p.1))
+    else (if bytes_eq key (codes "cut") then then_ (one ws) (λ r. Some (Cuts r))
+    else (if bytes_eq key (codes "clause") then then_ (one ws) (λ c. Some (IsClause c))
+    else (if bytes_eq key (codes "unit") then then_ (name_in ws) (λ name. Some (IsUnit name))
+    else (if bytes_eq key (codes "known") then then_ (one ws) (λ i. Some (IsKnown i)) else None)))))
+
+-- a node whose line has these words; not one that steps follow
+abbrev pub node_in : List (List ℕ) → Option NodeOf
+node_in [] = None
+node_in (key ∷ ws) =
+    if bytes_eq key (codes "lemma") then then_ (literals_in ws) (λ ls. Some (Learns ls)) else plain_in key ws
+
+-- a line of this first word and a number of lines
+abbrev pub count_in : List ℕ → List (List ℕ) → Option ℕ
+count_in key [] = None
+count_in key (w ∷ ws) = if bytes_eq w key then count ws else None
+
+-- ---- the machine
+
+-- what is read so far: the stage, what is finished, the place that is open with its table, nodes and steps, how many
+-- trees of it are still to come, and how many rows or steps
+pub record DraftOf : Type 0 where
+  pub stage : Stage
+  pub interp : Bool
+  pub retained : List (List ℕ)
+  pub sections : List SectionOf
+  pub implementation : ℕ
+  pub place : ℕ
+  pub table : List RowOf
+  pub nodes : List NodeOf
+  pub steps : List Step
+  pub trees : ℕ
+  pub left : ℕ
+
+abbrev pub draft_of : Draft → DraftOf
+draft_of d =
+    record {
+      stage = d.stage;
+      interp = d.interp;
+      retained = map (λ name. name.now) d.retained.items;
+      sections = map section_of d.sections.items;
+      implementation = d.implementation;
+      place = d.place;
+      table = map row_of d.table.items;
+      nodes = map node_of d.nodes.items;
+      steps = d.steps.items;
+      trees = d.trees;
+      left = d.left;
+    }
+
+-- no more trees are to come than nodes make
+abbrev pub HasRoom : DraftOf → Type 0
+HasRoom d = d.trees ≤ length d.nodes + 1
+
+abbrev pub start : DraftOf
+start =
+    record {
+      stage = at.Version;
+      interp = false;
+      retained = [];
+      sections = [];
+      implementation = 0;
+      place = 0;
+      table = [];
+      nodes = [];
+      steps = [];
+      trees = 0;
+      left = 0;
+    }
+
+abbrev pub finished : DraftOf → SectionOf
+finished d =
+    record { implementation = d.implementation; place = d.place; table = d.table; nodes = d.nodes }
+
+-- the tree is whole
+abbrev pub with_section : DraftOf → DraftOf
+with_section d =
+    record d { stage = at.Sections; sections = d.sections ++ finished d ∷ []; table = []; nodes = [] }
+
+abbrev pub closed : ℕ → DraftOf → DraftOf
+closed zero d = with_section d
+closed (suc n) d = record d { stage = at.Nodes }
+
+-- one more node
+abbrev pub with_node : NodeOf → DraftOf → DraftOf
+with_node n d =
+    let trees = children n + (d.trees - 1) in
+    closed trees (record d { nodes = d.nodes ++ n ∷ []; trees = trees })
+
+abbrev pub with_rows : ℕ → DraftOf → DraftOf
+with_rows m d = record d { stage = at.Rows; left = m }
+
+abbrev pub with_row : RowOf → DraftOf → DraftOf
+with_row r d =
+    record d { stage = (if d.left - 1 == 0 then at.Nodes else at.Rows); table = d.table ++ r ∷ []; left = d.left - 1 }
+
+abbrev pub with_steps : ℕ → DraftOf → DraftOf
+with_steps m d = record d { stage = at.Steps; left = m }
+
+abbrev pub with_step : Step → DraftOf → DraftOf
+with_step s d =
+    if d.left - 1 == 0 then with_node (Derives (d.steps ++ s ∷ [])) (record d { steps = []; left = 0 })
+    else record d { steps = d.steps ++ s ∷ []; left = d.left - 1 }
+
+abbrev pub with_place : ℕ → ℕ → DraftOf → DraftOf
+with_place i k d = record d { stage = at.Table; implementation = i; place = k; trees = 1 }
+
+abbrev pub with_name : List ℕ → DraftOf → DraftOf
+with_name name d = record d { retained = d.retained ++ name ∷ [] }
+
+abbrev pub or_else : {A : Type 0} → Option A → Option A → Option A
+or_else None other = other
+or_else (Some x) other = Some x
+
+-- a line where a node may stand
+abbrev pub on_node : List (List ℕ) → DraftOf → Option DraftOf
+on_node ws d =
+    or_else (then_ (count_in (codes "rows") ws) (λ m. Some (with_steps m d))) (then_ (node_in ws) (λ n. Some (with_node n d)))
+
+-- a line behind a place
+abbrev pub on_table : List (List ℕ) → DraftOf → Option DraftOf
+on_table ws d = or_else (then_ (count_in (codes "table") ws) (λ m. Some (with_rows m d))) (on_node ws d)
+
+-- a line where a place may stand, or the end
+abbrev pub on_section : List (List ℕ) → DraftOf → Option DraftOf
+on_section [] d = None
+on_section (key ∷ ws) d =
+    if bytes_eq key (codes "place") then then_ (two ws) (λ p. Some (with_place p.0 p.1 d))
+    else (if bytes_eq key (codes "end") && is_empty ws then Some (record d { stage = at.End }) else None)
+
+abbrev pub on_retained : List (List ℕ) → DraftOf → Option DraftOf
+on_retained [] d = None
+on_retained (key ∷ ws) d =
+    if bytes_eq key (codes "retain") then then_ (name_in ws) (λ name. Some (with_name name d)) else on_section (key ∷ ws) d
+
+abbrev pub on_version : List (List ℕ) → DraftOf → Option DraftOf
+on_version (key ∷ v ∷ []) d =
+    when (bytes_eq key (codes "bg-cert") && bytes_eq v (codes "1")) (record d { stage = at.Interp })
+on_version _ d = None
+
+abbrev pub on_interp : List (List ℕ) → DraftOf → Option DraftOf
+on_interp (key ∷ []) d = when (bytes_eq key (codes "interp")) (record d { stage = at.Retained; interp = true })
+on_interp (first ∷ key ∷ []) d =
+    when (bytes_eq first (codes "no") && bytes_eq key (codes "interp")) (record d { stage = at.Retained; interp = false })
+on_interp _ d = None
+
+abbrev pub by_stage : Stage → List (List ℕ) → DraftOf → Option DraftOf
+by_stage at.Version ws d = on_version ws d
+by_stage at.Interp ws d = on_interp ws d
+by_stage at.Retained ws d = on_retained ws d
+by_stage at.Table ws d = on_table ws d
+by_stage at.Rows ws d = then_ (row_in ws) (λ r. Some (with_row r d))
+by_stage at.Nodes ws d = on_node ws d
+by_stage at.Steps ws d = then_ (step_in (length d.steps) ws) (λ s. Some (with_step s d))
+by_stage at.Sections ws d = on_section ws d
+by_stage at.End ws d = None
+
+-- what the next line makes of it, or nothing where it may not stand there
+abbrev pub next : List (List ℕ) → DraftOf → Option DraftOf
+next ws d = by_stage d.stage ws d
+
+-- what these lines make of it
+abbrev pub after : List (List (List ℕ)) → DraftOf → Option DraftOf
+after [] d = Some d
+after (ws ∷ rest) d = then_ (next ws d) (after rest)
+
+abbrev pub is_one : ℤ → Bool
+is_one (pos n) = n == 1
+is_one (negsuc n) = false
+
+abbrev pub is_another : Option ℤ → Bool
+is_another None = false
+is_another (Some z) = not (is_one z)
+
+-- the words of the first line of another version
+abbrev pub is_other_version : List (List ℕ) → Bool
+is_other_version (key ∷ v ∷ []) = bytes_eq key (codes "bg-cert") && is_another (integer v)
+is_other_version _ = false
+
+-- a line was taken, or refused
+abbrev pub Takes : Option DraftOf → DraftOf → Bool → Type 0
+Takes made d true = made ≡ Some d
+Takes made d false = made ≡ None
+
+-- ---- what the machine answers
+
+-- the machine stands at line n, in front of the rest
+pub record Stands (bytes : List ℕ) (n : ℕ) (d : DraftOf) (rest : List ℕ) : Type 0 where
+  pub before : List (List (List ℕ))
+  pub cut : bytes ≡ flat_map line before ++ rest
+  pub count : n ≡ length before + 1
+  pub ran : after before start ≡ Some d
+
+abbrev pub cert_in : DraftOf → CertOf
+cert_in d = record { interp = d.interp; retained = d.retained; sections = d.sections }
+
+-- the line of these bytes stands in front
+pub record IsNextLine (l rest : List ℕ) : Type 0 where
+  pub inside : list_all is_in_line l ≡ true
+  pub behind : List ℕ
+  pub cut : rest ≡ l ++ 10 ∷ behind
+
+-- the machine stops at line n: it refuses the line that stands there, or none does and it isn't at the end
+pub record Stops (bytes : List ℕ) (n : ℕ) : Type 0 where
+  pub draft : DraftOf
+  pub rest : List ℕ
+  pub stands : Stands bytes n draft rest
+  pub refuses : (l : List ℕ) → IsNextLine l rest → next (words_of l) draft ≡ None
+  pub short : rest ≡ [] → draft.stage ≡ at.End → ⊥
+
+-- what reading answers, as the machine has it
+abbrev pub Answers : List ℕ → Result CertText ReadError → Type 0
+Answers bytes (Ok c) = (d : DraftOf) × (n : ℕ) × Stands bytes n d [] × (d.stage ≡ at.End) × (cert_of c ≡ cert_in d)
+Answers bytes (Err errors.Version) = (l : List ℕ) × IsNextLine l bytes × (is_other_version (words_of l) ≡ true)
+Answers bytes (Err (errors.BadLine n)) = Stops bytes n × ((l : List ℕ) → IsNextLine l bytes → is_other_version (words_of l) ≡ false)
+Answers bytes (Err errors.Memory) = Unit {0}

@@ -1,0 +1,91 @@
+-- Which certificates have a text.
+use Rattle.std.specs.Prelude.{◌≡◌, ℕ, zero, suc, ◌+◌, ◌^◌, Bool, true, false, not, ◌&&◌, ◌==◌, nat_lt, nat_le, List, [], ◌∷◌, length, ℤ, pos, negsuc, neg_ℤ, int_le}
+use Rattle.std.specs.List.{list_all}
+use Rattle.bg_base.specs.Exact.{fits}
+use Rattle.bg_rows.specs.declared.step.Step.{Step}
+use Rattle.bg_rows.specs.declared.step.Step.TheVariants.{Path, Sum, Tight}
+use Rattle.bg_cert.specs.declared.cert.Named.{Named}
+use Rattle.bg_cert.specs.declared.cert.Named.TheVariants.{OfAtom, OfRow}
+use Rattle.bg_certtext.specs.declared.text.Term.{Term}
+use Rattle.bg_certtext.specs.Views.{RowOf, NodeOf, Splits, Bounds, Cuts, Learns, IsClause, IsUnit, IsKnown, Derives, SectionOf, CertOf}
+
+-- a byte that stands in a word: no space, no newline
+unfoldable pub is_inside_word : ℕ → Bool
+is_inside_word b = not (b == 32) && not (b == 10)
+
+abbrev pub is_empty : {A : Type 0} → List A → Bool
+is_empty [] = true
+is_empty (x ∷ xs) = false
+
+-- a name is any word
+abbrev pub is_name : List ℕ → Bool
+is_name word = not (is_empty word) && list_all is_inside_word word
+
+-- a number that has a numeral: one of at most 2^127 - 1
+abbrev pub is_number : ℕ → Bool
+is_number n = nat_lt n (2 ^ 127)
+
+abbrev pub is_zero : ℤ → Bool
+is_zero (pos n) = n == 0
+is_zero (negsuc n) = false
+
+-- a factor isn't 0, and its negation has a numeral too; with these, and a bound that has one, so has the row's denial
+abbrev pub is_factor : ℤ → Bool
+is_factor k = not (is_zero k) && (fits k && fits (neg_ℤ k))
+
+-- the terms rise, the first of them not below a number
+abbrev pub are_terms : ℕ → List Term → Bool
+are_terms low [] = true
+are_terms low (t ∷ ts) = nat_le low t.term && (is_number t.term && (is_factor t.by && are_terms (t.term + 1) ts))
+
+abbrev pub is_row : RowOf → Bool
+is_row r = fits r.bound && are_terms 0 r.terms
+
+abbrev pub is_literal : Named → Bool
+is_literal (OfAtom a s) = is_number a
+is_literal (OfRow r s) = is_number r
+
+-- the step of a row's number names earlier rows alone, and no multiple is below 0
+abbrev pub is_step : ℕ → Step → Bool
+is_step n (Path j) = is_number j
+is_step n (Sum r p s q) = nat_lt r n && (is_number r && (nat_lt s n && (is_number s && (fits p && (int_le (pos 0) p && (fits q && int_le (pos 0) q))))))
+is_step n (Tight r) = nat_lt r n && is_number r
+
+abbrev pub are_steps : ℕ → List Step → Bool
+are_steps n [] = true
+are_steps n (s ∷ ss) = is_step n s && are_steps (n + 1) ss
+
+abbrev pub is_node : NodeOf → Bool
+is_node (Splits a) = is_number a
+is_node (Bounds x k) = is_number x && fits k
+is_node (Cuts r) = is_number r
+is_node (Learns ls) = list_all is_literal ls
+is_node (IsClause c) = is_number c
+is_node (IsUnit name) = is_name name
+is_node (IsKnown i) = is_number i
+is_node (Derives steps) = not (is_empty steps) && (is_number (length steps) && are_steps 0 steps)
+
+abbrev pub children : NodeOf → ℕ
+children (Splits a) = 2
+children (Bounds x k) = 2
+children (Cuts r) = 2
+children (Learns ls) = 2
+children _ = 0
+
+-- the nodes, each before its children, are n whole trees
+abbrev pub are_trees : ℕ → List NodeOf → Bool
+are_trees zero [] = true
+are_trees zero (x ∷ xs) = false
+are_trees (suc n) [] = false
+are_trees (suc n) (x ∷ xs) = are_trees (children x + n) xs
+
+-- the place's nodes are one whole tree, and its numbers and names have a text
+abbrev pub is_section : SectionOf → Bool
+is_section s =
+    is_number s.implementation && (is_number s.place && (is_number (length s.table) && (list_all is_row s.table && (list_all is_node s.nodes && are_trees 1 s.nodes))))
+
+abbrev pub is_spellable : CertOf → Bool
+is_spellable c = list_all is_name c.retained && list_all is_section c.sections
+
+abbrev pub IsSpellable : CertOf → Type 0
+IsSpellable c = is_spellable c ≡ true

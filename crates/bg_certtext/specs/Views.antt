@@ -1,0 +1,69 @@
+-- Certificates of texts, without where they lie in memory.
+use Rattle.std.specs.Prelude.{ℕ, Bool, List, map, ℤ}
+use Rattle.bg_rows.specs.declared.step.Step.{Step}
+use Rattle.bg_cert.specs.declared.cert.Named.{Named}
+use Rattle.bg_certtext.specs.declared.text.Term.{Term}
+use Rattle.bg_certtext.specs.declared.text.TextRow.{TextRow}
+use Rattle.bg_certtext.specs.declared.text.TextNode.{TextNode}
+use Rattle.bg_certtext.specs.declared.text.TextNode.TheVariants.{Split, Bound, Cut, Lemma, Clause, Unit, Known, Rows}
+use Rattle.bg_certtext.specs.declared.text.Section.{Section}
+use Rattle.bg_certtext.specs.declared.text.CertText.{CertText}
+
+-- a row: the sum of the terms is at most the bound
+pub record RowOf : Type 0 where
+  pub bound : ℤ
+  pub terms : List Term
+
+-- a node of a case tree; a unit has the name of its candidate
+pub data NodeOf : Type 0 where
+  Splits : ℕ → NodeOf
+  Bounds : ℕ → ℤ → NodeOf
+  Cuts : ℕ → NodeOf
+  Learns : List Named → NodeOf
+  IsClause : ℕ → NodeOf
+  IsUnit : List ℕ → NodeOf
+  IsKnown : ℕ → NodeOf
+  Derives : List Step → NodeOf
+
+-- the certificate of one place
+pub record SectionOf : Type 0 where
+  pub implementation : ℕ
+  pub place : ℕ
+  pub table : List RowOf
+  pub nodes : List NodeOf
+
+-- the certificate of a program
+pub record CertOf : Type 0 where
+  pub interp : Bool
+  pub retained : List (List ℕ)
+  pub sections : List SectionOf
+
+abbrev pub row_of : TextRow → RowOf
+row_of r = record { bound = r.bound; terms = r.terms.items }
+
+abbrev pub node_of : TextNode → NodeOf
+node_of (Split a) = Splits a
+node_of (Bound x k) = Bounds x k
+node_of (Cut r) = Cuts r
+node_of (Lemma ls) = Learns ls.items
+node_of (Clause c) = IsClause c
+node_of (Unit name) = IsUnit name.now
+node_of (Known i) = IsKnown i
+node_of (Rows steps) = Derives steps.items
+
+abbrev pub section_of : Section → SectionOf
+section_of s =
+    record {
+      implementation = s.implementation;
+      place = s.place;
+      table = map row_of s.table.items;
+      nodes = map node_of s.nodes.items;
+    }
+
+abbrev pub cert_of : CertText → CertOf
+cert_of c =
+    record {
+      interp = c.interp;
+      retained = map (λ name. name.now) c.retained.items;
+      sections = map section_of c.sections.items;
+    }

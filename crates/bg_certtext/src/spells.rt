@@ -1,0 +1,156 @@
+//! Whether a certificate has a text.
+ghost use Rattle.std.specs.Prelude.{◌≡◌, ◌&&◌, map};
+ghost use Rattle.std.specs.List.{list_all};
+ghost use Rattle.bg_base.specs.Exact.{fits};
+ghost use Rattle.bg_certtext.specs.Views.{row_of, node_of, section_of, cert_of};
+ghost use Rattle.bg_certtext.specs.Spellable.{is_name, is_number, are_terms, is_row, is_literal, is_step, are_steps, is_node, are_trees, is_section, is_spellable};
+
+use crate::draft::children;
+use crate::parts::is_factor;
+use crate::text::{CertText, Section, Term, TextNode, TextRow};
+use crate::words::is_name;
+use bg_cert::Named;
+use bg_rows::Step;
+
+/// Whether a number has a numeral.
+fn is_number(n: u128) -> bool
+    ensures { result ≡ is_number n }
+{
+    n < 170141183460469231731687303715884105728
+}
+
+fn are_names(names: &[&[u8]]) -> bool
+    ensures { result ≡ list_all is_name (map (λ w. w.now) names.now) }
+{
+    names.iter().all(|name| is_name(name))
+}
+
+/// Whether terms rise and have numerals, and their factors are factors of a row.
+fn are_terms(terms: &[Term]) -> bool
+    ensures { result ≡ are_terms 0 terms.now }
+{
+    let mut low = 0;
+    for t in terms {
+        if !(low <= t.term && (is_number(t.term) && is_factor(t.by))) {
+            return false;
+        }
+        low = t.term + 1;
+    }
+    true
+}
+
+fn is_row(r: &TextRow) -> bool
+    ensures { result ≡ is_row (row_of r.now) }
+{
+    let _bound = r.bound;
+    are_terms(&r.terms)
+}
+
+fn are_rows(rows: &[TextRow]) -> bool
+    ensures { result ≡ list_all is_row (map row_of rows.now) }
+{
+    rows.iter().all(|r| is_row(r))
+}
+
+fn is_literal(l: &Named) -> bool
+    ensures { result ≡ is_literal l.now }
+{
+    match l {
+        Named::OfAtom(a, _) => is_number(*a),
+        Named::OfRow(r, _) => is_number(*r),
+    }
+}
+
+fn are_literals(literals: &[Named]) -> bool
+    ensures { result ≡ list_all is_literal literals.now }
+{
+    literals.iter().all(|l| is_literal(l))
+}
+
+/// Whether the step of row `n` has a text.
+fn is_step(n: u128, step: &Step) -> bool
+    ensures { result ≡ is_step n step.now }
+{
+    match step {
+        Step::Path(j) => is_number(*j),
+        Step::Sum(r, p, s, q) => {
+            *r < n && (is_number(*r) && (*s < n && (is_number(*s) && (0 <= *p && 0 <= *q))))
+        }
+        Step::Tight(r) => *r < n && is_number(*r),
+    }
+}
+
+fn are_steps(steps: &[Step]) -> bool
+    ensures { result ≡ are_steps 0 steps.now }
+{
+    for (n, step) in steps.iter().enumerate() {
+        if !is_step(n as u128, step) {
+            return false;
+        }
+    }
+    true
+}
+
+/// Whether a term and a bound have numerals; each `i128` does.
+fn is_bound(x: u128, _k: i128) -> bool
+    ensures { result ≡ (is_number x && fits _k) }
+{
+    is_number(x)
+}
+
+fn is_node(node: &TextNode<'_>) -> bool
+    ensures { result ≡ is_node (node_of node.now) }
+{
+    match node {
+        TextNode::Split(a) => is_number(*a),
+        TextNode::Bound(x, k) => is_bound(*x, *k),
+        TextNode::Cut(r) => is_number(*r),
+        TextNode::Lemma(literals) => are_literals(literals),
+        TextNode::Clause(c) => is_number(*c),
+        TextNode::Unit(name) => is_name(name),
+        TextNode::Known(i) => is_number(*i),
+        TextNode::Rows(steps) => !steps.is_empty() && are_steps(steps),
+    }
+}
+
+fn are_nodes(nodes: &[TextNode<'_>]) -> bool
+    ensures { result ≡ list_all is_node (map node_of nodes.now) }
+{
+    nodes.iter().all(|node| is_node(node))
+}
+
+/// Whether the nodes are one whole tree.
+fn is_tree(nodes: &[TextNode<'_>]) -> bool
+    ensures { result ≡ are_trees 1 (map node_of nodes.now) }
+{
+    let mut trees: u128 = 1;
+    for node in nodes {
+        if trees == 0 {
+            return false;
+        }
+        trees = children(node) as u128 + (trees - 1);
+    }
+    trees == 0
+}
+
+fn is_section(s: &Section<'_>) -> bool
+    ensures { result ≡ is_section (section_of s.now) }
+{
+    is_number(s.implementation)
+        && (is_number(s.place)
+            && (are_rows(&s.table) && (are_nodes(&s.nodes) && is_tree(&s.nodes))))
+}
+
+fn are_sections(sections: &[Section<'_>]) -> bool
+    ensures { result ≡ list_all is_section (map section_of sections.now) }
+{
+    sections.iter().all(|s| is_section(s))
+}
+
+/// Whether a certificate has a text: its names are words, its numbers have numerals, and the nodes of each place are one whole
+/// tree. Takes time for each name, row and node.
+pub fn is_spellable(cert: &CertText<'_>) -> bool
+    ensures { result ≡ is_spellable (cert_of cert.now) }
+{
+    are_names(&cert.retained) && are_sections(&cert.sections)
+}

@@ -1,0 +1,50 @@
+//! Certificates as their text has them: candidates by name, all numbers as they are written.
+use bg_cert::Named;
+use bg_rows::Step;
+
+/// A term of a row, with what it is multiplied by.
+#[derive(Clone, Copy)]
+pub struct Term {
+    pub term: u128,
+    pub by: i128,
+}
+
+/// A row of a table: the sum of its terms, each times its factor, is at most the bound.
+#[derive(Drop)]
+pub struct TextRow {
+    pub bound: i128,
+    pub terms: Vec<Term>,
+}
+
+/// A node of a case tree, as `bg_cert` has it, but for a unit, which names its candidate. The nodes
+/// stand before their children, the child that decides true first.
+#[derive(Drop)]
+pub enum TextNode<'a> {
+    Split(u128),
+    Bound(u128, i128),
+    Cut(u128),
+    Lemma(Vec<Named>),
+    Clause(u128),
+    Unit(&'a [u8]),
+    Known(u128),
+    Rows(Vec<Step>),
+}
+
+/// The certificate of one place: the number of its implementation and its own, from 0, the rows of
+/// the certificate's table, and the nodes of its tree.
+#[derive(Drop)]
+pub struct Section<'a> {
+    pub implementation: u128,
+    pub place: u128,
+    pub table: Vec<TextRow>,
+    pub nodes: Vec<TextNode<'a>>,
+}
+
+/// The certificate of a program: whether it has an interpretation, the names of the retained
+/// candidates, and the certificates of places.
+#[derive(Drop)]
+pub struct CertText<'a> {
+    pub interp: bool,
+    pub retained: Vec<&'a [u8]>,
+    pub sections: Vec<Section<'a>>,
+}
