@@ -11,9 +11,9 @@ use Rattle.bg_sense.specs.Typed.{IsTyped}
 use Rattle.bg_passive.specs.Incarnations.{passive_scope}
 use Rattle.bg_block_types.specs.Typed.{arrivals_in, passives_in}
 use Rattle.bg_formula.specs.Formulas.{Formula}
-use Rattle.bg_formula.specs.Meaning.{Valuation, clauses_true}
+use Rattle.bg_formula.specs.Meaning.{Valuation, clauses_true, AtomsAgree}
 use Rattle.bg_cert.specs.declared.cert.Cert.{Cert}
-use Rattle.bg_cert.specs.Certs.{cert_of, uses}
+use Rattle.bg_cert.specs.Certs.{CertOf, Accepts, cert_of, uses}
 use Rattle.bg_cert.proofs.Sound.{table_agrees}
 use Rattle.bg_cert.specs.Walks.{no_instance}
 use Rattle.bg_fits.specs.Scalars.{is_over_scalars}
@@ -39,13 +39,16 @@ module _ (functions : FunctionLaw) (bodies : BodyLaw) (runs : PassiveLaw) (fits 
       (y.0, (y.1.1.1, y.1.1.0))
 
   module _ (certs : CertLaw) (used : UsedLaw) (units : UnitAtomLaw) (named : NamedUnitLaw) where
-    pub no_failure : (set other : ℕ → Bool) (u : Place) (cert : Cert) → HasCertificate p set u cert → ((c : ℕ) → uses (cert_of cert).nodes c ≡ true → other c ≡ true) → (i : Interp) (s : State) (choices : List Choice) → Fails p other u i s choices → ⊥
-    no_failure set other u cert c us i s choices fails =
-        let f = c.formula in
-        let h = c.is.clauses in
+    -- where the clauses accept a certificate
+    pub no_failure_of : (set : ℕ → Bool) (u : Place) (f : Formula) → HasClauses p u f → (cert : CertOf) → AtomsAgree cert.table → Accepts f set no_instance cert → (i : Interp) (s : State) (choices : List Choice) → Fails p set u i s choices → ⊥
+    no_failure_of set u f h cert agree accepted i s choices fails =
         let a = h.encoding in
         let plain = plain_formula a.first a.terms a.named a.rows u.spot a.blocks f h.clauses in
-        let v = valued other u f h i s choices fails.meets fails.state fails.fails in
-        let met = meets_units f a.named (units a.first a.terms a.named a.rows u.spot a.blocks f h.clauses) (named a.first a.terms a.named a.rows u.spot a.blocks f h.clauses) v.0 other v.1.1 in
-        certs f other no_instance (cert_of cert) (plain_agree a.first a.rows f h.is_encoding.denials plain) (table_agrees cert.table.items) (λ j cs g. absurd (let bad : ⊥ = cc in bad)) (used f set other no_instance (cert_of cert) c.accepted us)
+        let v = valued set u f h i s choices fails.meets fails.state fails.fails in
+        let met = meets_units f a.named (units a.first a.terms a.named a.rows u.spot a.blocks f h.clauses) (named a.first a.terms a.named a.rows u.spot a.blocks f h.clauses) v.0 set v.1.1 in
+        certs f set no_instance cert (plain_agree a.first a.rows f h.is_encoding.denials plain) agree (λ j cs g. absurd (let bad : ⊥ = cc in bad)) accepted
         v.0 v.1.0 met (λ j cs g. absurd (let bad : ⊥ = cc in bad))
+
+    pub no_failure : (set other : ℕ → Bool) (u : Place) (cert : Cert) → HasCertificate p set u cert → ((c : ℕ) → uses (cert_of cert).nodes c ≡ true → other c ≡ true) → (i : Interp) (s : State) (choices : List Choice) → Fails p other u i s choices → ⊥
+    no_failure set other u cert c us =
+        no_failure_of other u c.formula c.is.clauses (cert_of cert) (table_agrees cert.table.items) (used c.formula set other no_instance (cert_of cert) c.accepted us)

@@ -12,7 +12,6 @@ use Rattle.bg_formed.specs.Agree.{AreRows, RowsAgree}
 use Rattle.bg_formed.specs.Formed.{FormBlock, blocks_below}
 use Rattle.bg_formed.specs.Said.{SaidBlocks}
 use Rattle.bg_forms.specs.Worth.{bools_at}
-use Rattle.bg_point.proofs.Near.{funext}
 use Rattle.bg_slice.specs.Slices.{sliced, sliced_rows, guards_in}
 use Rattle.bg_linear.specs.declared.scalar.Sort.{Sort}
 use Rattle.bg_linear.specs.declared.scalar.Sort.TheVariants as sort
@@ -65,7 +64,7 @@ before (suc n) (suc b) = before n b ∙ grind arith
 
 -- the first n candidates
 pub each_before : (n : ℕ) → bools_at (replicate n true) ≡ (λ b. nat_lt b n)
-each_before n = funext (bools_at (replicate n true)) (λ b. nat_lt b n) (before n)
+each_before n = λ i b. before n b i
 
 -- ---- truth incarnations stand in front of the rows
 

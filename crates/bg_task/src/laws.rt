@@ -6,8 +6,9 @@ ghost use Rattle.bg_ast.specs.Execution.{Interp, State, Choice, Place};
 ghost use Rattle.bg_sense.specs.Typed.{IsTyped};
 ghost use Rattle.bg_sense.specs.Claims.{Fails};
 ghost use Rattle.bg_cert.specs.declared.cert.Cert.{Cert};
-ghost use Rattle.bg_cert.specs.Certs.{cert_of, uses};
-ghost use Rattle.bg_cert.specs.Walks.{has};
+ghost use Rattle.bg_formula.specs.Meaning.{AtomsAgree};
+ghost use Rattle.bg_cert.specs.Certs.{CertOf, Accepts, cert_of, uses};
+ghost use Rattle.bg_cert.specs.Walks.{has, no_instance};
 ghost use Rattle.bg_fits.specs.Scalars.{is_over_scalars};
 ghost use Rattle.bg_block_types.specs.Typed.{passives_in};
 ghost use Rattle.bg_faithful.specs.Sorted.{sorts_in};
@@ -29,6 +30,22 @@ pub fn proved_places_do_not_fail()
     ensures { (p : Prog) (set other : ℕ → Bool) (t : Place) (cert : Cert) → IsTyped p → is_over_scalars true p ≡ true →
         HasCertificate p set t cert → ((c : ℕ) → uses (cert_of cert).nodes c ≡ true → other c ≡ true) →
         (i : Interp) (s : State) (choices : List Choice) → Fails p other t i s choices → ⊥ }
+{
+    typed_programs_have_typed_bodies();
+    passive_blocks_fail_alike();
+    arrivals_fit();
+    equations_deny_failing_walks();
+    clauses_over_scalars_fail_alike();
+    accepted_has_no_valuation();
+    accepted_where_used();
+    atoms_of_clauses()
+}
+
+/// A place whose clauses accept a certificate has no failing run, wherever the certificate is from.
+pub fn accepted_places_do_not_fail()
+    ensures { (p : Prog) (set : ℕ → Bool) (t : Place) (f : Formula) (cert : CertOf) → IsTyped p → is_over_scalars true p ≡ true →
+        HasOwnClauses p t f → AtomsAgree cert.table → Accepts f set no_instance cert →
+        (i : Interp) (s : State) (choices : List Choice) → Fails p set t i s choices → ⊥ }
 {
     typed_programs_have_typed_bodies();
     passive_blocks_fail_alike();
