@@ -1,4 +1,10 @@
 pub mod Numbers
 pub mod Finds
+pub mod Enters
+pub mod Files
 pub mod Plain
+pub mod Written
+pub mod Options
+pub mod Both
+pub mod Makes
 pub mod Flags

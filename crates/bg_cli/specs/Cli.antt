@@ -5,12 +5,14 @@ use Rattle.std.specs.Str.Parse.{digits_value, without_leading_plus}
 use Rattle.std.specs.declared.alloc.Global.{Global}
 use Rattle.clap.specs.ValueTests.{accepts}
 use Rattle.clap.specs.Faults.{fault_of}
-use Rattle.clap.specs.Walk.{Row, Rule, Text, all_of, one_of}
+use Rattle.clap.specs.Walk.{Row, Rule, Text, all_of, first_of, one_of}
 use Rattle.clap.specs.Simple.{App, new_app, new_rule, with_rule, with_subcommand, subcommand_of, subcommand_rows_of}
 use Rattle.clap.specs.declared.parser.matches.ArgMatches.{ArgMatches}
 use Rattle.clap.specs.Lexer.{usize_max}
 use Rattle.clap.specs.declared.builder.action.ArgAction.TheVariants.{Set, SetTrue, Append}
 use Rattle.clap.specs.declared.builder.value_parser.ValueParser.TheVariants as parser
+use Rattle.bg_cli.specs.declared.job.Job.{Job}
+use Rattle.bg_cli.specs.declared.job.Job.TheVariants as job
 
 -- an option with a number from 1 to 1,000,000; 20,000 where it isn't given
 abbrev pub budget : Text → Rule
@@ -68,6 +70,17 @@ verify = with_rule (with_rule (with_rule (with_rule (with_rule (with_rule (new_a
 abbrev pub annotate : App
 annotate = with_rule (with_rule (with_rule (with_rule (with_rule (new_app (codes "annotate")) workers) nodes) most_rows) guess) files
 
+-- the same without `--guess`
+abbrev pub certify : App
+certify = with_rule (with_rule (with_rule (with_rule (new_app (codes "certify")) workers) nodes) most_rows) files
+
+-- `--cert FILE`, which has to be given
+abbrev pub cert : Rule
+cert = record (new_rule (codes "cert")) { long = Some (codes "cert"); required = true; action = Some Set }
+
+abbrev pub check : App
+check = with_rule (with_rule (new_app (codes "check")) cert) files
+
 -- a number that fits in 64 bits
 abbrev pub seed : Rule
 seed =
@@ -86,16 +99,24 @@ size =
       action = Some Set;
     }
 
+-- a command that takes a seed and a size
+abbrev pub makes : Text → App
+makes name = with_rule (with_rule (new_app name) seed) size
+
 abbrev pub generate : App
-generate = with_rule (with_rule (new_app (codes "generate")) seed) size
+generate = makes (codes "generate")
+
+abbrev pub bench : App
+bench = makes (codes "bench")
 
 abbrev pub required : App → App
 required a = record a { top = record a.top { subcommand_required = true } }
 
--- the commands: `bg verify [--workers N] [--nodes N] [--rows N] [--guess] [--history] FILE..`, `bg annotate` without `--history`, and
--- `bg generate SEED SIZE`
+-- the commands: `bg verify [--workers N] [--nodes N] [--rows N] [--guess] [--history] FILE..`, `bg annotate` without `--history`,
+-- `bg certify` without `--guess` too, `bg check --cert FILE FILE..`, `bg generate SEED SIZE` and `bg bench SEED SIZE`
 unfoldable pub cli : App
-cli = with_subcommand (with_subcommand (with_subcommand (required (new_app (codes "bg"))) verify.top) annotate.top) generate.top
+cli =
+    with_subcommand (with_subcommand (with_subcommand (with_subcommand (with_subcommand (with_subcommand (required (new_app (codes "bg"))) verify.top) annotate.top) certify.top) check.top) generate.top) bench.top
 
 -- the bytes of the words
 abbrev pub texts_of : List (String Global) → List Text
@@ -162,31 +183,31 @@ guess_of rows = flag_of (codes "guess") rows
 abbrev pub history_of : List Row → Bool
 history_of rows = flag_of (codes "history") rows
 
--- whether this is the name of the command `annotate`
-abbrev pub is_annotate : Option Text → Bool
-is_annotate None = false
-is_annotate (Some name) = bytes_eq name (codes "annotate")
+-- the job of the command of this name
+abbrev pub job_named : Text → Job
+job_named name =
+    if bytes_eq name (codes "annotate") then job.Annotate
+    else (if bytes_eq name (codes "certify") then job.Certify
+    else (if bytes_eq name (codes "check") then job.Check
+    else (if bytes_eq name (codes "generate") then job.Generate
+    else (if bytes_eq name (codes "bench") then job.Bench
+    else job.Verify))))
 
--- whether the program with its annotations is asked for, and no report
-abbrev pub annotates_in : List Text → Bool
-annotates_in words = is_annotate (option_map (λ p. p.0) (subcommand_of cli words))
+abbrev pub job_of : Option Text → Job
+job_of None = job.Verify
+job_of (Some name) = job_named name
 
--- the same of what a parse found
-abbrev pub annotates_for : ArgMatches → Bool
-annotates_for m = is_annotate (option_map (λ p. p.0) (subcommand_rows_of m))
-
--- whether this is the name of the command `generate`
-abbrev pub is_generate : Option Text → Bool
-is_generate None = false
-is_generate (Some name) = bytes_eq name (codes "generate")
-
--- whether a program is to be made, and no files are read
-abbrev pub generates_in : List Text → Bool
-generates_in words = is_generate (option_map (λ p. p.0) (subcommand_of cli words))
+-- what is asked, by the name of the command; a report where there is none
+abbrev pub job_in : List Text → Job
+job_in words = job_of (option_map (λ p. p.0) (subcommand_of cli words))
 
 -- the same of what a parse found
-abbrev pub generates_for : ArgMatches → Bool
-generates_for m = is_generate (option_map (λ p. p.0) (subcommand_rows_of m))
+abbrev pub job_for : ArgMatches → Job
+job_for m = job_of (option_map (λ p. p.0) (subcommand_rows_of m))
+
+-- the file of the certificate that is checked; the empty text where none is given
+abbrev pub cert_of : List Row → Text
+cert_of rows = unwrap_or (first_of (codes "cert") rows) []
 
 -- the decimal number, where it fits in 64 bits, else 0
 abbrev pub wide_number : Option Text → ℕ
@@ -207,6 +228,9 @@ seed_in words = seed_of (rows_in words)
 
 abbrev pub size_in : List Text → ℕ
 size_in words = size_of (rows_in words)
+
+abbrev pub cert_in : List Text → Text
+cert_in words = cert_of (rows_in words)
 
 abbrev pub files_in : List Text → List Text
 files_in words = files_of (rows_in words)

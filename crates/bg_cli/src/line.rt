@@ -3,8 +3,9 @@ ghost use Rattle.std.specs.Prelude.{◌≡◌, ◌≢◌, ◌<◌, ◌≤◌, If
 ghost use Rattle.clap.specs.Walk.{rule_of};
 ghost use Rattle.clap.specs.Words.{app_of, found_of, kind_of, rows_of};
 ghost use Rattle.bg_cli.specs.declared.line.LineError.TheVariants.{Memory};
-ghost use Rattle.bg_cli.specs.Cli.{cli, workers, budget, files, texts_of, IsTaken, files_in, workers_in, nodes_in, most_rows_in, files_of, workers_of, as_workers, nodes_of, most_rows_of, flag, flag_of, guess_of, history_of, guess_in, history_in, rows_for, is_annotate, annotates_for, annotates_in, seed, size, is_generate, generates_for, generates_in, seed_of, size_of, seed_in, size_in};
+ghost use Rattle.bg_cli.specs.Cli.{cli, verify, annotate, certify, check, makes, workers, budget, cert, files, texts_of, IsTaken, files_in, workers_in, nodes_in, most_rows_in, files_of, workers_of, as_workers, nodes_of, most_rows_of, flag, flag_of, guess_of, history_of, guess_in, history_in, rows_for, job_named, job_for, job_in, cert_of, cert_in, seed, size, seed_of, size_of, seed_in, size_in};
 
+use crate::job::Job;
 use clap::error::ErrorKind;
 use clap::{Arg, ArgAction, ArgMatches, Command, Error, value_parser};
 use std::alloc::{AllocError, Global};
@@ -18,20 +19,20 @@ pub const ROWS: u32 = 20_000;
 /// How many workers check places of candidates, where the words say nothing of it.
 pub const WORKERS: u32 = 4;
 
-/// What a command line asks: the files in order, how many workers check places of candidates, how many nodes of a certificate's tree
-/// may count, and the most rows that an elimination keeps; whether the program is judged with its guesses; whether the history of
-/// the candidates that went is asked for; whether the program with its annotations is asked for, and no report; and whether a program
-/// of a seed and a size is to be made, for which no file is read.
+/// What a command line asks: the job; the file of the certificate that is checked, or the empty text; the files in order, how many
+/// workers check places of candidates, how many nodes of a certificate's tree may count, and the most rows that an elimination keeps;
+/// whether the program is judged with its guesses; whether the history of the candidates that went is asked for; and the seed and the
+/// size of a program that is made.
 #[derive(Drop)]
 pub struct Line<'a> {
+    pub job: Job,
+    pub cert: &'a str,
     pub files: Vec<&'a str>,
     pub workers: u32,
     pub nodes: u32,
     pub rows: u32,
     pub guess: bool,
     pub history: bool,
-    pub annotates: bool,
-    pub generates: bool,
     pub seed: u64,
     pub size: u32,
 }
@@ -110,32 +111,81 @@ fn size<'a>(alloc: Global) -> Arg<'a>
         .action(ArgAction::Set)
 }
 
-/// The commands `bg verify [--workers N] [--nodes N] [--rows N] [--guess] [--history] FILE..`, `bg annotate` without `--history`,
-/// and `bg generate SEED SIZE`.
-pub fn cli<'a>(alloc: Global) -> Result<Command<'a>, AllocError>
-    ensures { IfOk result (λ c. app_of c ≡ cli) }
+/// The file of the certificate that is checked.
+fn cert<'a>(alloc: Global) -> Arg<'a>
+    ensures rule { rule_of result ≡ cert }
+    ensures own { result.global ≡ false }
 {
-    let verify = Command::new(alloc, "verify")
+    Arg::new(alloc, "cert")
+        .long("cert")
+        .required(true)
+        .action(ArgAction::Set)
+}
+
+/// `bg verify [--workers N] [--nodes N] [--rows N] [--guess] [--history] FILE..`.
+fn verify<'a>(alloc: Global) -> Result<Command<'a>, AllocError>
+    ensures { IfOk result (λ c. app_of c ≡ verify) }
+{
+    Command::new(alloc, "verify")
         .arg(workers(alloc))?
         .arg(budget(alloc, "nodes"))?
         .arg(budget(alloc, "rows"))?
         .arg(flag(alloc, "guess"))?
         .arg(flag(alloc, "history"))?
-        .arg(files(alloc))?;
-    let annotate = Command::new(alloc, "annotate")
+        .arg(files(alloc))
+}
+
+/// `bg annotate [--workers N] [--nodes N] [--rows N] [--guess] FILE..`.
+fn annotate<'a>(alloc: Global) -> Result<Command<'a>, AllocError>
+    ensures { IfOk result (λ c. app_of c ≡ annotate) }
+{
+    Command::new(alloc, "annotate")
         .arg(workers(alloc))?
         .arg(budget(alloc, "nodes"))?
         .arg(budget(alloc, "rows"))?
         .arg(flag(alloc, "guess"))?
-        .arg(files(alloc))?;
-    let generate = Command::new(alloc, "generate")
-        .arg(seed(alloc))?
-        .arg(size(alloc))?;
+        .arg(files(alloc))
+}
+
+/// `bg certify [--workers N] [--nodes N] [--rows N] FILE..`.
+fn certify<'a>(alloc: Global) -> Result<Command<'a>, AllocError>
+    ensures { IfOk result (λ c. app_of c ≡ certify) }
+{
+    Command::new(alloc, "certify")
+        .arg(workers(alloc))?
+        .arg(budget(alloc, "nodes"))?
+        .arg(budget(alloc, "rows"))?
+        .arg(files(alloc))
+}
+
+/// `bg check --cert FILE FILE..`.
+fn check<'a>(alloc: Global) -> Result<Command<'a>, AllocError>
+    ensures { IfOk result (λ c. app_of c ≡ check) }
+{
+    Command::new(alloc, "check")
+        .arg(cert(alloc))?
+        .arg(files(alloc))
+}
+
+/// A command that takes a seed and a size: `bg generate SEED SIZE`, `bg bench SEED SIZE`.
+fn makes<'a>(alloc: Global, name: &'a str) -> Result<Command<'a>, AllocError>
+    ensures { IfOk result (λ c. app_of c ≡ makes name.now) }
+{
+    Command::new(alloc, name).arg(seed(alloc))?.arg(size(alloc))
+}
+
+/// The commands `bg verify`, `bg annotate`, `bg certify`, `bg check`, `bg generate` and `bg bench`.
+pub fn cli<'a>(alloc: Global) -> Result<Command<'a>, AllocError>
+    ensures { IfOk result (λ c. app_of c ≡ cli) }
+{
     Command::new(alloc, "bg")
         .subcommand_required(true)
-        .subcommand(verify)?
-        .subcommand(annotate)?
-        .subcommand(generate)
+        .subcommand(verify(alloc)?)?
+        .subcommand(annotate(alloc)?)?
+        .subcommand(certify(alloc)?)?
+        .subcommand(check(alloc)?)?
+        .subcommand(makes(alloc, "generate")?)?
+        .subcommand(makes(alloc, "bench")?)
 }
 
 /// Why a parse failed.
@@ -196,18 +246,30 @@ fn flag_of(verify: &ArgMatches<'_>, name: &str) -> bool
     verify.get_one::<bool>(name).unwrap_or(false)
 }
 
-/// Whether this is the name of the command `annotate`.
-fn is_annotate(name: &str) -> bool
-    ensures { result ≡ is_annotate (Some name.now) }
+/// The job of the command of this name.
+fn job_named(name: &str) -> Job
+    ensures { result ≡ job_named name.now }
 {
-    name == "annotate"
+    if name == "annotate" {
+        Job::Annotate
+    } else if name == "certify" {
+        Job::Certify
+    } else if name == "check" {
+        Job::Check
+    } else if name == "generate" {
+        Job::Generate
+    } else if name == "bench" {
+        Job::Bench
+    } else {
+        Job::Verify
+    }
 }
 
-/// Whether this is the name of the command `generate`.
-fn is_generate(name: &str) -> bool
-    ensures { result ≡ is_generate (Some name.now) }
+/// The certificate's file that the matches of the command hold.
+fn cert_of<'a>(check: &ArgMatches<'a>) -> &'a str
+    ensures { result.now ≡ cert_of (rows_of (found_of check.now)) }
 {
-    name == "generate"
+    check.get_str("cert").unwrap_or("")
 }
 
 /// The seed that the matches of the command hold.
@@ -226,6 +288,8 @@ fn size_of(generate: &ArgMatches<'_>) -> u32
 
 /// What the matches ask.
 fn line_of<'a>(alloc: Global, matches: &ArgMatches<'a>) -> Result<Line<'a>, AllocError>
+    ensures job { IfOk result (λ line. line.job ≡ job_for matches.now) }
+    ensures cert { IfOk result (λ line. line.cert.now ≡ cert_of (rows_for matches.now)) }
     ensures files { IfOk result (λ line. map (λ file. file.now) line.files.items ≡ files_of (rows_for matches.now)) }
     ensures workers { IfOk result (λ line. line.workers ≡ workers_of (rows_for matches.now)) }
     ensures some { IfOk result (λ line. (0 < line.workers) × (line.workers ≤ 16)) }
@@ -233,34 +297,32 @@ fn line_of<'a>(alloc: Global, matches: &ArgMatches<'a>) -> Result<Line<'a>, Allo
     ensures rows { IfOk result (λ line. line.rows ≡ most_rows_of (rows_for matches.now)) }
     ensures guess { IfOk result (λ line. line.guess ≡ guess_of (rows_for matches.now)) }
     ensures history { IfOk result (λ line. line.history ≡ history_of (rows_for matches.now)) }
-    ensures annotates { IfOk result (λ line. line.annotates ≡ annotates_for matches.now) }
-    ensures generates { IfOk result (λ line. line.generates ≡ generates_for matches.now) }
     ensures seed { IfOk result (λ line. line.seed ≡ seed_of (rows_for matches.now)) }
     ensures size { IfOk result (λ line. line.size ≡ size_of (rows_for matches.now)) }
 {
     let Some((name, found)) = matches.subcommand() else {
         return Ok(Line {
+            job: Job::Verify,
+            cert: "",
             files: Vec::new(alloc),
             workers: WORKERS,
             nodes: NODES,
             rows: ROWS,
             guess: false,
             history: false,
-            annotates: false,
-            generates: false,
             seed: 0,
             size: 0,
         });
     };
     Ok(Line {
+        job: job_named(name),
+        cert: cert_of(found),
         files: files_of(alloc, found)?,
         workers: workers_of(found),
         nodes: nodes_of(found),
         rows: most_rows_of(found),
         guess: flag_of(found, "guess"),
         history: flag_of(found, "history"),
-        annotates: is_annotate(name),
-        generates: is_generate(name),
         seed: seed_of(found),
         size: size_of(found),
     })
@@ -272,6 +334,8 @@ fn line_of<'a>(alloc: Global, matches: &ArgMatches<'a>) -> Result<Line<'a>, Allo
 /// `Usage` where the words aren't taken, and `Memory` where memory ran out.
 pub fn read_line<'a>(alloc: Global, words: &'a [String]) -> Result<Line<'a>, LineError>
     ensures taken { IfOk result (λ line. IsTaken (texts_of words.now)) }
+    ensures job { IfOk result (λ line. line.job ≡ job_in (texts_of words.now)) }
+    ensures cert { IfOk result (λ line. line.cert.now ≡ cert_in (texts_of words.now)) }
     ensures files { IfOk result (λ line. map (λ file. file.now) line.files.items ≡ files_in (texts_of words.now)) }
     ensures workers { IfOk result (λ line. line.workers ≡ workers_in (texts_of words.now)) }
     ensures some { IfOk result (λ line. (0 < line.workers) × (line.workers ≤ 16)) }
@@ -279,8 +343,6 @@ pub fn read_line<'a>(alloc: Global, words: &'a [String]) -> Result<Line<'a>, Lin
     ensures rows { IfOk result (λ line. line.rows ≡ most_rows_in (texts_of words.now)) }
     ensures guess { IfOk result (λ line. line.guess ≡ guess_in (texts_of words.now)) }
     ensures history { IfOk result (λ line. line.history ≡ history_in (texts_of words.now)) }
-    ensures annotates { IfOk result (λ line. line.annotates ≡ annotates_in (texts_of words.now)) }
-    ensures generates { IfOk result (λ line. line.generates ≡ generates_in (texts_of words.now)) }
     ensures seed { IfOk result (λ line. line.seed ≡ seed_in (texts_of words.now)) }
     ensures size { IfOk result (λ line. line.size ≡ size_in (texts_of words.now)) }
     ensures refused { IsErrOf result LineError.Usage → IsTaken (texts_of words.now) → ⊥ }

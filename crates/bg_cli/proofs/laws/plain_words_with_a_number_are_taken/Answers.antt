@@ -1,4 +1,4 @@
-use Rattle.bg_cli.proofs.Plain.{Nodes, option_taken, option_files, nodes_number, nodes_rows_number, nodes_workers, option_guess, option_history}
+use Rattle.bg_cli.proofs.Options.{Nodes, option_taken, option_files, nodes_number, nodes_rows_number, nodes_workers, option_guess, option_history}
 use Rattle.bg_cli.proofs.laws.plain_words_with_a_number_are_taken.Goals as goal
 
 pub returns : goal.returns

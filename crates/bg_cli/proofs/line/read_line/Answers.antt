@@ -1,7 +1,7 @@
 use Rattle.std.proofs.Common.{rules, ap}
 use Rattle.clap.specs.Words.{app_of, subcommand_rows_of}
-use Rattle.bg_cli.specs.Cli.{texts_of, files_of, workers_of, nodes_of, most_rows_of, guess_of, history_of, seed_of, size_of}
-use Rattle.bg_cli.proofs.Finds.{taken, not_taken, rows_are, name_is, generate_is}
+use Rattle.bg_cli.specs.Cli.{texts_of, files_of, workers_of, nodes_of, most_rows_of, guess_of, history_of, seed_of, size_of, cert_of}
+use Rattle.bg_cli.proofs.Finds.{taken, not_taken, rows_are, job_is}
 use Rattle.bg_cli.proofs.line.read_line.Goals as goal
 
 pub returns-in-Err-clause-refused : goal.returns-in-Err-clause-refused
@@ -40,15 +40,15 @@ returns-clause-history c =
     let rows = rows_are (app_of c.in_ok-cli.field-0) (texts_of c.args.words.now) (subcommand_rows_of c.in-Ok.matches) c.in_ok-cli.ensures (λ s. (c.in-Ok.ensures.matches s).1) in
     search (rules, ap history_of rows)
 
-pub returns-clause-annotates : goal.returns-clause-annotates
-returns-clause-annotates c =
-    let name = name_is (app_of c.in_ok-cli.field-0) (texts_of c.args.words.now) (subcommand_rows_of c.in-Ok.matches) c.in_ok-cli.ensures (λ s. (c.in-Ok.ensures.matches s).1) in
+pub returns-clause-job : goal.returns-clause-job
+returns-clause-job c =
+    let name = job_is (app_of c.in_ok-cli.field-0) (texts_of c.args.words.now) (subcommand_rows_of c.in-Ok.matches) c.in_ok-cli.ensures (λ s. (c.in-Ok.ensures.matches s).1) in
     search (rules, name)
 
-pub returns-clause-generates : goal.returns-clause-generates
-returns-clause-generates c =
-    let name = generate_is (app_of c.in_ok-cli.field-0) (texts_of c.args.words.now) (subcommand_rows_of c.in-Ok.matches) c.in_ok-cli.ensures (λ s. (c.in-Ok.ensures.matches s).1) in
-    search (rules, name)
+pub returns-clause-cert : goal.returns-clause-cert
+returns-clause-cert c =
+    let rows = rows_are (app_of c.in_ok-cli.field-0) (texts_of c.args.words.now) (subcommand_rows_of c.in-Ok.matches) c.in_ok-cli.ensures (λ s. (c.in-Ok.ensures.matches s).1) in
+    search (rules, ap cert_of rows)
 
 pub returns-clause-seed : goal.returns-clause-seed
 returns-clause-seed c =
