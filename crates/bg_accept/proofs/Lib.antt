@@ -1,0 +1,10 @@
+pub mod Marking
+pub mod Tables
+pub mod Filled
+pub mod Whole
+pub mod Lookups
+pub mod Settled
+pub mod Found
+pub mod Answering
+pub mod Safety
+pub mod Apart

@@ -1,0 +1,12 @@
+pub mod Names
+pub mod Sections
+pub mod Accepted
+pub mod Answers
+pub mod Texts
+pub mod Views
+pub mod Retained
+pub mod Numbers
+pub mod Made
+pub mod Tables
+pub mod Places
+pub mod Reading
