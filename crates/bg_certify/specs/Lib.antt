@@ -1,0 +1,4 @@
+pub mod Names
+pub mod Spelled
+pub mod Found
+pub mod Written

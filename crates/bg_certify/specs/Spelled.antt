@@ -1,0 +1,53 @@
+-- Certificates as their text has them.
+use Rattle.std.specs.Prelude.{ℕ, suc, List, [], ◌∷◌, ◌++◌, map, Option, Some, None}
+use Rattle.bg_text.specs.Trees.{Id}
+use Rattle.bg_rows.specs.declared.entry.Entry.{Entry}
+use Rattle.bg_formula.specs.declared.atom.Linear.{Linear}
+use Rattle.bg_cert.specs.declared.cert.Node.{Node}
+use Rattle.bg_cert.specs.declared.cert.Node.TheVariants.{Split, Bound, Cut, Lemma, Clause, Unit, Known, Rows}
+use Rattle.bg_cert.specs.declared.cert.Cert.{Cert}
+use Rattle.bg_certtext.specs.declared.text.Term.{Term}
+use Rattle.bg_certtext.specs.Views.{RowOf, NodeOf, Splits, Bounds, Cuts, Learns, IsClause, IsUnit, IsKnown, Derives, SectionOf}
+use Rattle.bg_certify.specs.Names.{name_at}
+
+abbrev pub spelled_term : Entry → Term
+spelled_term e = record { term = e.variable; by = e.by }
+
+-- a row without its denial
+abbrev pub spelled_row : Linear → RowOf
+spelled_row a = record { bound = a.row.bound; terms = map spelled_term a.row.entries.items }
+
+-- a node; a unit has the name of its candidate
+abbrev pub spelled_node : List Id → Node → NodeOf
+spelled_node names (Split a) = Splits a
+spelled_node names (Bound x k) = Bounds x k
+spelled_node names (Cut r) = Cuts r
+spelled_node names (Lemma ls) = Learns ls.items
+spelled_node names (Clause c) = IsClause c
+spelled_node names (Unit c) = IsUnit (name_at names c)
+spelled_node names (Known i) = IsKnown i
+spelled_node names (Rows steps) = Derives steps.items
+
+-- the section of place i of implementation k
+abbrev pub spelled : List Id → ℕ → ℕ → Cert → SectionOf
+spelled names k i cert =
+    record {
+      implementation = k;
+      place = i;
+      table = map spelled_row cert.table.items;
+      nodes = map (spelled_node names) cert.nodes.items;
+    }
+
+abbrev pub with_section : List Id → ℕ → ℕ → Option Cert → List SectionOf → List SectionOf
+with_section names k i None ss = ss
+with_section names k i (Some cert) ss = spelled names k i cert ∷ ss
+
+-- the sections of implementation k from place i on, where these are the certificates
+abbrev pub row : List Id → ℕ → ℕ → List (Option Cert) → List SectionOf
+row names k i [] = []
+row names k i (c ∷ cs) = with_section names k i c (row names k (suc i) cs)
+
+-- those of the implementations from number k on
+abbrev pub rows : List Id → ℕ → List (List (Option Cert)) → List SectionOf
+rows names k [] = []
+rows names k (cs ∷ css) = row names k 0 cs ++ rows names (suc k) css

@@ -1,0 +1,11 @@
+//! The certificate of an outcome, as its text has it.
+#![tactic(auto)]
+
+mod certificate;
+mod found;
+pub mod laws;
+mod names;
+mod nodes;
+mod sections;
+
+pub use certificate::certificate_text;
