@@ -30,6 +30,10 @@ abbrev pub set_text : Bool → List ℕ
 set_text true = codes "greatest"
 set_text false = codes "inductive"
 
+-- and its line
+abbrev pub set_line : Bool → List ℕ
+set_line is_greatest = line (codes "retained set: " ++ set_text is_greatest)
+
 -- ---- implementations
 
 abbrev pub name_in : Declared → List ℕ
@@ -72,6 +76,17 @@ abbrev pub result_text : Program → Outcome → List ℕ
 result_text p o =
     line (codes "axioms: " ++ axioms_text o.axioms)
     ++ texts candidate_text p.candidates o.fates
-    ++ line (codes "retained set: " ++ set_text o.is_greatest)
+    ++ set_line o.is_greatest
     ++ texts (implementation_text p.globals) p.implementations o.implementations
     ++ summary_text o
+
+-- ---- a part of it, of a program that is made
+
+-- the seed and the size of the program
+abbrev pub bench_line : ℕ → ℕ → List ℕ
+bench_line seed size = line (codes "bench " ++ decimal seed ++ codes " " ++ decimal size)
+
+-- of what is told of the program of a seed and a size: what the retained set is called, and how many candidates and implementations there
+-- are of each word
+abbrev pub bench_text : ℕ → ℕ → Outcome → List ℕ
+bench_text seed size o = bench_line seed size ++ set_line o.is_greatest ++ summary_text o

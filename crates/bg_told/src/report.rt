@@ -8,7 +8,7 @@ ghost use Rattle.bg_sound.specs.Told as t;
 ghost use Rattle.bg_houdini.specs.Told.{outcome_of};
 ghost use Rattle.bg_told.specs.Fates.{told_fate};
 ghost use Rattle.bg_told.specs.Lines.{texts};
-ghost use Rattle.bg_told.specs.Report.{head_text, implementation_text, count_text, summary_text, result_text};
+ghost use Rattle.bg_told.specs.Report.{head_text, implementation_text, count_text, summary_text, result_text, bench_line, bench_text};
 ghost use Rattle.bg_told.specs.Views.{why_of, told_word};
 
 use crate::candidates::{put_candidates, put_fates_count, put_set};
@@ -123,6 +123,38 @@ pub fn result_text(
         &program.implementations,
         &outcome.verdicts,
     )?;
+    put_summary(&mut out, &fates, &outcome.verdicts)?;
+    Ok(out)
+}
+
+fn put_bench(out: &mut Vec<u8>, seed: u64, size: u32) -> Result<(), AllocError>
+    ensures { OnOk result (out.new.items ≡ out.old.items ++ bench_line seed size) }
+{
+    out.extend_from_slice(b"bench ")?;
+    put_number(out, u128::from(seed))?;
+    out.push(b' ')?;
+    put_number(out, u128::from(size))?;
+    out.push(b'\n')?;
+    Ok(())
+}
+
+/// A part of the report of what an inference comes to, for the program of a seed and a size: a line with these; whether the retained set
+/// is the greatest inductive one; then how many candidates are retained and dropped, and how many implementations have each word.
+///
+/// Only want of memory is an error.
+pub fn bench_text(
+    alloc: Global,
+    seed: u64,
+    size: u32,
+    program: &Resolved,
+    outcome: &Outcome,
+) -> Result<Vec<u8>, AllocError>
+    ensures { IfOk result (λ text. text.items ≡ bench_text seed size (outcome_of why_of (meaning_of (program_of program.now)) outcome.now)) }
+{
+    let fates = fates_of(alloc, program, outcome)?;
+    let mut out = Vec::new(alloc);
+    put_bench(&mut out, seed, size)?;
+    put_set(&mut out, is_greatest(&outcome.inferred.removals))?;
     put_summary(&mut out, &fates, &outcome.verdicts)?;
     Ok(out)
 }
