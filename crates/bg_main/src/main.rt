@@ -2,8 +2,9 @@
 #![tactic(auto)]
 
 use bg_claims::FreeGate;
+use bg_ends::Status;
 use bg_io::{RealFiles, StdSink};
-use bg_tool::{Status, run};
+use bg_tool::run;
 use std::alloc::AllocError;
 use std::env;
 use std::io::ErrorKind;

@@ -7,11 +7,15 @@ use Rattle.bg_ast.specs.Resolved.{Program}
 use Rattle.bg_front.specs.Programs.{IsProgramOf, IsRefusedBy}
 use Rattle.bg_front.specs.Refusals.{Refusal, is_limit}
 use Rattle.bg_tool.specs.declared.asked.Asked.{Asked}
-use Rattle.bg_tool.specs.declared.status.Status.{Status}
-use Rattle.bg_tool.specs.declared.status.Status.TheVariants as status
-use Rattle.bg_tool.specs.Statuses.{refusal_status, is_report, is_refused}
-use Rattle.bg_tool.specs.Reports.{IsTrueText, Wrote}
-use Rattle.bg_tool.specs.Answers.{IsReport, IsAnnotation, IsAnswer, IsAnswerWhere, WroteSome, Answered, AnsweredSome, RefusedFor, Judges}
+use Rattle.bg_ends.specs.declared.status.Status.{Status}
+use Rattle.bg_ends.specs.declared.status.Status.TheVariants as status
+use Rattle.bg_ends.specs.Statuses.{refusal_status, is_report, is_refused}
+use Rattle.bg_tool.specs.Reports.{IsTrueText}
+use Rattle.bg_ends.specs.Wrote.{Wrote}
+use Rattle.bg_tool.specs.Answers.{IsReport, IsAnswer, IsAnswerFor, WroteSome, Answered, AnsweredSome, Judges, JudgesText, names_for}
+use Rattle.bg_cli.specs.declared.job.Job.{Job}
+use Rattle.bg_cli.specs.declared.job.Job.TheVariants as job
+use Rattle.bg_ends.specs.Refused.{RefusedFor}
 
 -- the status of a refusal is one of refusals
 abbrev status_with : Bool → Status
@@ -45,20 +49,30 @@ long_text None names n h =
     (replicate (suc n) byte, (tt, omega (arith, e)))
 long_text (Some held) names n h = (joined_text held names, (refl, h))
 
--- an answer is a report where no annotations are asked for, and the program with its annotations where they are
-abbrev WroteWhere : Bool → Asked → Option (List ℕ → List ℕ) → List (List ℕ) → Status → Option (List ℕ) → Option (List ℕ) → Type 0
-WroteWhere annotates asked = Wrote (IsAnswerWhere annotates asked)
+-- an answer is what the job asks for
+abbrev WroteFor : Job → Asked → Option (List ℕ → List ℕ) → List (List ℕ) → Status → Option (List ℕ) → Option (List ℕ) → Type 0
+WroteFor j asked = Wrote (IsAnswerFor j asked)
 
-pub wrote_report : (asked : Asked) (contents : Option (List ℕ → List ℕ)) (names : List (List ℕ)) (ends : Status) (before now : Option (List ℕ)) → asked.annotates ≡ false → Wrote (IsAnswer asked) contents names ends before now → Wrote (IsReport asked) contents names ends before now
-wrote_report asked contents names ends before now is w = subst (λ b. WroteWhere b asked contents names ends before now) is w
+pub wrote_for : (j : Job) (asked : Asked) (contents : Option (List ℕ → List ℕ)) (names : List (List ℕ)) (ends : Status) (before now : Option (List ℕ)) → asked.job ≡ j → Wrote (IsAnswer asked) contents names ends before now → WroteFor j asked contents names ends before now
+wrote_for j asked contents names ends before now is w = subst (λ b. WroteFor b asked contents names ends before now) is w
 
-pub wrote_annotation : (asked : Asked) (contents : Option (List ℕ → List ℕ)) (names : List (List ℕ)) (ends : Status) (before now : Option (List ℕ)) → asked.annotates ≡ true → Wrote (IsAnswer asked) contents names ends before now → Wrote (IsAnnotation asked) contents names ends before now
-wrote_annotation asked contents names ends before now is w = subst (λ b. WroteWhere b asked contents names ends before now) is w
+-- where no certificate is checked, the files of the program alone are read
+pub names_of_rest : (j : Job) (files : List (List ℕ)) (cert : List ℕ) → (j ≡ job.Check → ⊥) → names_for j files cert ≡ files
+names_of_rest job.Verify files cert h = refl
+names_of_rest job.Annotate files cert h = refl
+names_of_rest job.Certify files cert h = refl
+names_of_rest job.Check files cert h = absurd (h refl)
+names_of_rest job.Generate files cert h = refl
+names_of_rest job.Bench files cert h = refl
 
 -- an answer is one of a program that the bytes spell
-answer_spells : (annotates : Bool) (asked : Asked) (bytes : List ℕ) (ends : Status) (text : List ℕ) → IsAnswerWhere annotates asked bytes ends text → (p : Program) × IsProgramOf asked.guess bytes p
-answer_spells false asked bytes ends text a = (a.sound.report.program, a.sound.report.spelled)
-answer_spells true asked bytes ends text a = (a.program, a.spelled.0)
+answer_spells : (j : Job) (asked : Asked) (bytes : List ℕ) (ends : Status) (text : List ℕ) → IsAnswerFor j asked bytes ends text → (p : Program) × IsProgramOf asked.guess bytes p
+answer_spells job.Verify asked bytes ends text a = (a.sound.report.program, a.sound.report.spelled)
+answer_spells job.Annotate asked bytes ends text a = (a.program, a.spelled.0)
+answer_spells job.Certify asked bytes ends text a = (a.program, a.spelled)
+answer_spells job.Check asked bytes ends text a = (a.sound.report.program, a.sound.report.spelled)
+answer_spells job.Generate asked bytes ends text a = (a.sound.report.program, a.sound.report.spelled)
+answer_spells job.Bench asked bytes ends text a = (a.program, a.spelled)
 
 -- a report is true of the bytes
 pub wrote_true : (asked : Asked) (contents : Option (List ℕ → List ℕ)) (names : List (List ℕ)) (ends : Status) (before now : Option (List ℕ)) → Wrote (IsReport asked) contents names ends before now → Wrote (IsTrueText asked.guess asked.history) contents names ends before now
@@ -105,12 +119,19 @@ judges k guess contents names bytes ends read s = record {
   none = λ held told n. said_none guess bytes ends s (λ p t. n p (subst (λ bs. IsProgramOf guess bs p) (held_is contents held names bytes told read) t));
 }
 
+pub judges_text : Known → (guess : Bool) (bytes : List ℕ) (ends : Status) → Said guess bytes ends → JudgesText guess bytes ends
+judges_text k guess bytes ends s = record {
+  program = said_program k guess bytes ends s;
+  refused = said_refused k guess bytes ends s;
+  none = said_none guess bytes ends s;
+}
+
 module _ {A B : Type 0} (asked : Asked) (bytes : List ℕ) (before now lines line : Option (List ℕ)) where
   -- what the answer over a text within the limit says of it
   pub said : (ends : Status) → (IsTrue (is_report ends) → Answered asked bytes ends before now) → (IsTrue (is_refused ends) → RefusedFor asked.guess bytes ends lines line) → (ends ≡ status.Write → A ⊎ B) → (A → ⊥) → (B → ⊥) → (ends ≢ status.Usage) × (ends ≢ status.Read) → Said asked.guess bytes ends
-  said status.Verified r f w a b o = let q = r refl in let p = answer_spells asked.annotates asked bytes status.Verified q.text q.answer in Spelled p.0 p.1 refl
-  said status.Refuted r f w a b o = let q = r refl in let p = answer_spells asked.annotates asked bytes status.Refuted q.text q.answer in Spelled p.0 p.1 refl
-  said status.Unknown r f w a b o = let q = r refl in let p = answer_spells asked.annotates asked bytes status.Unknown q.text q.answer in Spelled p.0 p.1 refl
+  said status.Verified r f w a b o = let q = r refl in let p = answer_spells asked.job asked bytes status.Verified q.text q.answer in Spelled p.0 p.1 refl
+  said status.Refuted r f w a b o = let q = r refl in let p = answer_spells asked.job asked bytes status.Refuted q.text q.answer in Spelled p.0 p.1 refl
+  said status.Unknown r f w a b o = let q = r refl in let p = answer_spells asked.job asked bytes status.Unknown q.text q.answer in Spelled p.0 p.1 refl
   said status.Text r f w a b o = let q = f refl in Denied q.reason q.refused q.gives
   said status.Limit r f w a b o = let q = f refl in Denied q.reason q.refused q.gives
   said status.Usage r f w a b o = absurd (o.0 refl)

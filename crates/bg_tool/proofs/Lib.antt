@@ -1,3 +1,3 @@
-pub mod Joined
 pub mod Ends
 pub mod Annotated
+pub mod Benched

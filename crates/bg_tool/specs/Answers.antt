@@ -1,12 +1,11 @@
 -- What the top call claims of how it ends.
-use Rattle.std.specs.Prelude.{◌≡◌, ◌+◌, ◌⊎◌, ◌<◌, ◌≤◌, ℕ, Bool, true, false, List, [], ◌++◌, Option, Some, codes, take, slice_get, IsTrue}
-use Rattle.bg_io.specs.Causes.{joined, counted, joined_text, IsTextOf}
+use Rattle.std.specs.Prelude.{◌≡◌, ◌⊎◌, ◌<◌, ◌≤◌, ℕ, Bool, true, false, List, [], ◌∷◌, ◌++◌, Option, Some, take, IsTrue}
+use Rattle.bg_io.specs.Causes.{joined, joined_text}
 use Rattle.bg_ast.specs.Resolved.{Program}
 use Rattle.bg_ast.specs.Meaning.{meaning_of}
 use Rattle.bg_text.specs.Trees.{Decl}
 use Rattle.bg_front.specs.Programs.{IsProgramOf, IsProgramFrom, IsRefusedBy}
 use Rattle.bg_front.specs.Refusals.{Refusal}
-use Rattle.bg_front.specs.Lines.{line_of}
 use Rattle.bg_houdini.specs.declared.outcome.Outcome as houdini
 use Rattle.bg_houdini.specs.Outcomes.{IsTrueOutcome}
 use Rattle.bg_houdini.specs.Told.{outcome_of}
@@ -16,27 +15,43 @@ use Rattle.bg_sound.specs.Sound.{IsSound}
 use Rattle.bg_sound.specs.Told.{Outcome, status_of}
 use Rattle.bg_told.specs.Views.{why_of}
 use Rattle.bg_told.specs.History.{IsHistory}
-use Rattle.bg_told.specs.Report.{result_text}
+use Rattle.bg_told.specs.Report.{result_text, bench_text}
 use Rattle.bg_tool.specs.declared.asked.Asked.{Asked}
-use Rattle.bg_tool.specs.declared.status.Status.{Status}
-use Rattle.bg_tool.specs.declared.status.Status.TheVariants as status
-use Rattle.bg_tool.specs.Statuses.{number_of, refusal_status, is_report, is_refused}
-use Rattle.bg_tool.specs.Reports.{IsTrueText, MayWrite}
-use Rattle.bg_cli.specs.Cli.{IsTaken, files_in, nodes_in, most_rows_in, guess_in, history_in, annotates_in, generates_in}
+use Rattle.bg_ends.specs.declared.status.Status.{Status}
+use Rattle.bg_ends.specs.declared.status.Status.TheVariants as status
+use Rattle.bg_ends.specs.Statuses.{number_of, refusal_status, is_report, is_refused}
+use Rattle.bg_tool.specs.Reports.{IsTrueText}
+use Rattle.bg_ends.specs.Wrote.{MayWrite}
+use Rattle.bg_cli.specs.Cli.{IsTaken, files_in, cert_in, nodes_in, most_rows_in, guess_in, history_in, job_in, seed_in, size_in}
+use Rattle.bg_cli.specs.declared.job.Job.{Job}
+use Rattle.bg_cli.specs.declared.job.Job.TheVariants as job
+use Rattle.bg_accept.specs.Accepted.{IsAccepted}
+use Rattle.bg_certify.specs.Written.{IsCertText}
+use Rattle.bg_gen.specs.Generated.{generated}
+use Rattle.bg_recheck.specs.Rechecks.{Rechecks}
 use Rattle.bg_tree.specs.declared.outcome.Budget.{Budget}
 
 -- what a search may use up, as the words say
 abbrev pub budget_in : List (List ℕ) → Budget
 budget_in words = record { nodes = nodes_in words; rows = most_rows_in words }
 
+-- whether guesses are asked for; a certificate is of the program as it is, and so is what is told of a program that is made
+abbrev pub guess_for : Job → Bool → Bool
+guess_for job.Certify guess = false
+guess_for job.Check guess = false
+guess_for job.Bench guess = false
+guess_for _ guess = guess
+
 -- what is asked, as the words say
 abbrev pub asked_in : List (List ℕ) → Asked
 asked_in words =
     record {
       budget = budget_in words;
-      guess = guess_in words;
+      guess = guess_for (job_in words) (guess_in words);
       history = history_in words;
-      annotates = annotates_in words;
+      job = job_in words;
+      seed = seed_in words;
+      size = size_in words;
     }
 
 -- a number of workers that may check
@@ -79,14 +94,39 @@ pub record IsAnnotation (asked : Asked) (bytes : List ℕ) (ends : Status) (text
   pub is : text ≡ printed (annotated asked.guess inferred.inferred.retained decls)
   pub gives : number_of ends ≡ status_of (outcome_of why_of (meaning_of program) inferred)
 
--- what is written where the program with its annotations is asked for, and where it isn't
-abbrev pub IsAnswerWhere : Bool → Asked → List ℕ → Status → List ℕ → Type 0
-IsAnswerWhere false asked = IsReport asked
-IsAnswerWhere true asked = IsAnnotation asked
+-- the text is that of a certificate of the program that the bytes spell, for an outcome that is true of the program; what is told of this
+-- one is true of it and has the status. Where this is 0, the program accepts the certificate
+pub record IsCertification (asked : Asked) (bytes : List ℕ) (ends : Status) (text : List ℕ) : Type 0 where
+  pub program : Program
+  pub spelled : IsProgramOf asked.guess bytes program
+  pub inferred : houdini.Outcome
+  pub right : IsTrueOutcome asked.budget program inferred
+  pub sound : IsSound program (outcome_of why_of (meaning_of program) inferred)
+  pub told : IsCertText program inferred text
+  pub gives : number_of ends ≡ status_of (outcome_of why_of (meaning_of program) inferred)
+  pub accepted : ends ≡ status.Verified → IsAccepted program told.cert
+
+-- the text is the lines of the seed and the size, of the retained set and of the counts that a report has of an outcome that is true of
+-- the program that the bytes spell; what is told of this one is true of it and has the status
+pub record IsBenched (asked : Asked) (bytes : List ℕ) (ends : Status) (text : List ℕ) : Type 0 where
+  pub program : Program
+  pub spelled : IsProgramOf asked.guess bytes program
+  pub inferred : houdini.Outcome
+  pub right : IsTrueOutcome asked.budget program inferred
+  pub sound : IsSound program (outcome_of why_of (meaning_of program) inferred)
+  pub is : text ≡ bench_text asked.seed asked.size (outcome_of why_of (meaning_of program) inferred)
+  pub gives : number_of ends ≡ status_of (outcome_of why_of (meaning_of program) inferred)
+
+-- what is written, by what is asked for
+abbrev pub IsAnswerFor : Job → Asked → List ℕ → Status → List ℕ → Type 0
+IsAnswerFor job.Annotate asked = IsAnnotation asked
+IsAnswerFor job.Certify asked = IsCertification asked
+IsAnswerFor job.Bench asked = IsBenched asked
+IsAnswerFor _ asked = IsReport asked
 
 -- what is written
 abbrev pub IsAnswer : Asked → List ℕ → Status → List ℕ → Type 0
-IsAnswer asked = IsAnswerWhere asked.annotates asked
+IsAnswer asked = IsAnswerFor asked.job asked
 
 -- an answer was written, whole
 pub record Answered (asked : Asked) (bytes : List ℕ) (ends : Status) (before now : Option (List ℕ)) : Type 0 where
@@ -105,13 +145,6 @@ pub record AnsweredFront (asked : Asked) (bytes : List ℕ) (before now : Option
 abbrev pub AnsweredSome : Asked → List ℕ → Option (List ℕ) → Option (List ℕ) → Type 0
 AnsweredSome asked bytes before now = (now ≡ before) ⊎ AnsweredFront asked bytes before now
 
--- the bytes are refused for a reason that gives the status, and its line was written, whole
-pub record RefusedFor (guess : Bool) (bytes : List ℕ) (ends : Status) (before now : Option (List ℕ)) : Type 0 where
-  pub reason : Refusal
-  pub refused : IsRefusedBy guess bytes reason
-  pub gives : ends ≡ refusal_status reason
-  pub written : now ≡ joined before (line_of reason)
-
 -- nothing was written, or the first bytes of a text that the call may write when it ends with an answer
 pub record WroteFrontOf (asked : Asked) (contents : Option (List ℕ → List ℕ)) (names : List (List ℕ)) (before now : Option (List ℕ)) : Type 0 where
   pub ends : Status
@@ -123,28 +156,6 @@ pub record WroteFrontOf (asked : Asked) (contents : Option (List ℕ → List �
 abbrev pub WroteSome : Asked → Option (List ℕ → List ℕ) → List (List ℕ) → Option (List ℕ) → Option (List ℕ) → Type 0
 WroteSome asked contents names before now = (now ≡ before) ⊎ WroteFrontOf asked contents names before now
 
--- nothing was written, or the first bytes of the text
-abbrev pub WroteSomeOf : List ℕ → Option (List ℕ) → Option (List ℕ) → Type 0
-WroteSomeOf text before now = (now ≡ before) ⊎ ((count : ℕ) × (now ≡ joined before (take count text)))
-
--- the text of these files is refused for a reason that gives the status, and its line was written, whole
-pub record Refuses (guess : Bool) (contents : Option (List ℕ → List ℕ)) (names : List (List ℕ)) (ends : Status) (before now : Option (List ℕ)) : Type 0 where
-  pub bytes : List ℕ
-  pub read : IsTextOf contents names bytes
-  pub refused : RefusedFor guess bytes ends before now
-
--- the line that says how the words go
-abbrev pub usage_line : List ℕ
-usage_line = codes "usage: bg verify|annotate|certify|check|generate|bench ..\n"
-
--- the line names the file with the number of the last start, counted from 0
-pub record NamesFile (names : List (List ℕ)) (starts started : Option ℕ) (before now : Option (List ℕ)) : Type 0 where
-  pub number : ℕ
-  pub name : List ℕ
-  pub there : slice_get names number ≡ Some name
-  pub is : started ≡ counted starts (number + 1)
-  pub written : now ≡ joined before (codes "error: cannot read " ++ name ++ codes "\n")
-
 -- where no fault was counted, a text that is told: one that spells a program gives a report or an annotated program, one that is refused the status of
 -- the reason, and one that spells no program a status of refusals; unless memory ran out
 pub record Judges (guess : Bool) (contents : Option (List ℕ → List ℕ)) (names : List (List ℕ)) (ends : Status) : Type 0 where
@@ -152,9 +163,46 @@ pub record Judges (guess : Bool) (contents : Option (List ℕ → List ℕ)) (na
   pub refused : (held : List ℕ → List ℕ) (r : Refusal) → contents ≡ Some held → IsRefusedBy guess (joined_text held names) r → (ends ≡ refusal_status r) ⊎ (ends ≡ status.Memory)
   pub none : (held : List ℕ → List ℕ) → contents ≡ Some held → ((p : Program) → IsProgramOf guess (joined_text held names) p → ⊥) → IsTrue (is_refused ends) ⊎ (ends ≡ status.Memory)
 
--- the same of the files that taken words name; where they ask for a program that is made, it is written, unless memory ran out; words
--- that aren't taken are refused
+-- the same of a text that is known
+pub record JudgesText (guess : Bool) (bytes : List ℕ) (ends : Status) : Type 0 where
+  pub program : (p : Program) → IsProgramOf guess bytes p → IsTrue (is_report ends) ⊎ (ends ≡ status.Memory)
+  pub refused : (r : Refusal) → IsRefusedBy guess bytes r → (ends ≡ refusal_status r) ⊎ (ends ≡ status.Memory)
+  pub none : ((p : Program) → IsProgramOf guess bytes p → ⊥) → IsTrue (is_refused ends) ⊎ (ends ≡ status.Memory)
+
+-- whether the files are read as a program that is judged
+abbrev pub judges : Job → Bool
+judges job.Verify = true
+judges job.Annotate = true
+judges job.Certify = true
+judges _ = false
+
+-- whether a certificate is checked
+abbrev pub rechecks : Job → Bool
+rechecks job.Check = true
+rechecks _ = false
+
+-- whether a program that is made is judged
+abbrev pub benches : Job → Bool
+benches job.Bench = true
+benches _ = false
+
+-- the files that are read, in order
+abbrev pub names_for : Job → List (List ℕ) → List ℕ → List (List ℕ)
+names_for job.Check files cert = files ++ (cert ∷ [])
+names_for _ files cert = files
+
+abbrev pub names_in : List (List ℕ) → List (List ℕ)
+names_in words = names_for (job_in words) (files_in words) (cert_in words)
+
+-- guesses aren't asked for where the certificate is
+abbrev pub IsPlain : Asked → Type 0
+IsPlain asked = asked.job ≡ job.Certify → asked.guess ≡ false
+
+-- the same of the files that taken words name; a certificate is answered; where they ask for a program that is made, it is written,
+-- unless memory ran out; where they ask for what is told of one, it is judged; words that aren't taken are refused
 pub record Completes (contents : Option (List ℕ → List ℕ)) (words : List (List ℕ)) (ends : Status) : Type 0 where
-  pub taken : generates_in words ≡ false → IsTaken words → Judges (guess_in words) contents (files_in words) ends
-  pub made : generates_in words ≡ true → IsTaken words → (ends ≡ status.Verified) ⊎ (ends ≡ status.Memory)
+  pub taken : judges (job_in words) ≡ true → IsTaken words → Judges (asked_in words).guess contents (files_in words) ends
+  pub checked : job_in words ≡ job.Check → IsTaken words → Rechecks contents (files_in words) (cert_in words ∷ []) ends
+  pub made : job_in words ≡ job.Generate → IsTaken words → (ends ≡ status.Verified) ⊎ (ends ≡ status.Memory)
+  pub benched : job_in words ≡ job.Bench → IsTaken words → JudgesText (asked_in words).guess (generated (seed_in words) (size_in words)) ends
   pub usage : (IsTaken words → ⊥) → (ends ≡ status.Usage) ⊎ (ends ≡ status.Memory)

@@ -4,8 +4,8 @@ use Rattle.bg_io.specs.Causes.{joined, IsTextOf}
 use Rattle.bg_front.specs.Programs.{IsProgramOf}
 use Rattle.bg_sound.specs.Report.{IsTrueReport}
 use Rattle.bg_told.specs.Report.{result_text}
-use Rattle.bg_tool.specs.declared.status.Status.{Status}
-use Rattle.bg_tool.specs.Statuses.{number_of}
+use Rattle.bg_ends.specs.declared.status.Status.{Status}
+use Rattle.bg_ends.specs.Statuses.{number_of}
 
 -- the text begins with a report that tells what is true of the program that the bytes spell, with its guesses where these are asked for,
 -- and the status is that of what it tells; behind the report there is nothing where no history is asked for
@@ -15,15 +15,3 @@ pub record IsTrueText (guess history : Bool) (bytes : List ℕ) (ends : Status) 
   pub behind : List ℕ
   pub is : text ≡ front ++ behind
   pub none : history ≡ false → behind ≡ []
-
--- a text that the call may write when it ends so, where it has to be such a text of the bytes
-pub record MayWrite (IsText : List ℕ → Status → List ℕ → Type 0) (contents : Option (List ℕ → List ℕ)) (names : List (List ℕ)) (ends : Status) (text : List ℕ) : Type 0 where
-  pub bytes : List ℕ
-  pub read : IsTextOf contents names bytes
-  pub report : IsText bytes ends text
-
--- such a text was written, whole
-pub record Wrote (IsText : List ℕ → Status → List ℕ → Type 0) (contents : Option (List ℕ → List ℕ)) (names : List (List ℕ)) (ends : Status) (before now : Option (List ℕ)) : Type 0 where
-  pub text : List ℕ
-  pub may : MayWrite IsText contents names ends text
-  pub written : now ≡ joined before text

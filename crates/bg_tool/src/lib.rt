@@ -2,9 +2,13 @@
 #![tactic(auto)]
 
 mod asked;
+mod certificates;
 mod driver;
+mod judge;
+mod load;
+mod made;
+mod manner;
 mod report;
-mod status;
+mod reports;
 
 pub use driver::run;
-pub use status::Status;

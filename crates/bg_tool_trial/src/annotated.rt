@@ -1,8 +1,9 @@
 //! Programs with their retained annotations, as the top call writes them, and reads them again.
 use crate::made::words;
 use bg_claims::FreeGate;
+use bg_ends::Status;
 use bg_io::{MemFiles, MemSink, StoredFile};
-use bg_tool::{Status, run};
+use bg_tool::run;
 use std::alloc::AllocError;
 use std::test::Fail;
 use std::thread::Threads;

@@ -10,7 +10,7 @@ type Case = (
     Option<(&'static str, u32, u32, u32)>,
 );
 
-const WORDS: [Case; 32] = [
+const WORDS: [Case; 38] = [
     (
         &["bg", "generate", "1", "4294967295"],
         Some(("", 4, 20_000, 20_000)),
@@ -19,6 +19,8 @@ const WORDS: [Case; 32] = [
     (&["bg", "generate", "18446744073709551616", "1"], None),
     (&["bg", "generate", "1"], None),
     (&["bg", "generate", "1", "2", "3"], None),
+    (&["bg", "bench", "1", "4"], Some(("", 4, 20_000, 20_000))),
+    (&["bg", "bench", "1", "--nodes", "7", "4"], None),
     (
         &["bg", "verify", "a.bpl"],
         Some(("a.bpl", 4, 20_000, 20_000)),
@@ -71,6 +73,16 @@ const WORDS: [Case; 32] = [
     (&["bg", "verify"], None),
     (&["bg"], None),
     (&[], None),
+    (
+        &["bg", "certify", "--workers", "2", "a"],
+        Some(("a", 2, 20_000, 20_000)),
+    ),
+    (&["bg", "certify", "--guess", "a"], None),
+    (
+        &["bg", "check", "--cert", "c", "a", "b"],
+        Some(("a b", 4, 20_000, 20_000)),
+    ),
+    (&["bg", "check", "--cert", "c"], None),
     (&["bg", "check", "a"], None),
     (&["bg", "verify", "-x", "a"], None),
     (&["bg", "help"], None),

@@ -1,9 +1,10 @@
 //! What the top call writes of programs with candidates, whatever the number of workers.
 use crate::made::{stored, words};
 use bg_claims::{FreeGate, Gate, MeetGate};
+use bg_ends::Status;
 use bg_io::{MemFiles, MemSink};
 use bg_rounds_trial::CountGate;
-use bg_tool::{Status, run};
+use bg_tool::run;
 use std::alloc::AllocError;
 use std::test::Fail;
 use std::thread::Threads;

@@ -4,6 +4,8 @@
 #[cfg(test)]
 mod annotated;
 #[cfg(test)]
+mod certified;
+#[cfg(test)]
 mod cli;
 #[cfg(test)]
 mod inferred;

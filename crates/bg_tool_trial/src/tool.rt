@@ -1,8 +1,9 @@
 //! What the top call writes and how it ends, over files and sinks in memory.
 use crate::made::{stored, words};
 use bg_claims::FreeGate;
+use bg_ends::Status;
 use bg_io::{MemFiles, MemSink};
-use bg_tool::{Status, run};
+use bg_tool::run;
 use std::alloc::AllocError;
 use std::test::Fail;
 use std::thread::Threads;
@@ -70,7 +71,7 @@ type Case = (
     &'static str,
 );
 
-const TEXTS: [Case; 27] = [
+const TEXTS: [Case; 28] = [
     (
         &["bg", "generate", "1", "2"],
         "",
@@ -83,6 +84,13 @@ const TEXTS: [Case; 27] = [
         "",
         Status::Verified,
         "",
+        "",
+    ),
+    (
+        &["bg", "bench", "1", "4"],
+        "",
+        Status::Verified,
+        "bench 1 4\nretained set: greatest\nsummary: 9 retained, 3 dropped; 4 verified, 0 refuted, 0 unknown\n",
         "",
     ),
     (VERIFY, COPY, Status::Verified, COPY_REPORT, ""),

@@ -1,5 +1,5 @@
 use Rattle.bg_ast.specs.Views.{program_of}
-use Rattle.bg_tool.proofs.driver.annotation_on.Goals as goal
+use Rattle.bg_tool.proofs.reports.annotation_on.Goals as goal
 
 pub annotation_of-requires-clause-typed : goal.annotation_of-requires-clause-typed
 annotation_of-requires-clause-typed g c κs within =

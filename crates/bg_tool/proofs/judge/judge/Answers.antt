@@ -6,7 +6,7 @@ use Rattle.bg_io.specs.Causes.{IsTextOver}
 use Rattle.bg_io.specs.Errors.{IfTooLong}
 use Rattle.bg_front.specs.declared.limits.TheConstants.{MOST_BYTES}
 use Rattle.bg_tool.proofs.Ends.{Known, long_text, judges, said, said_refusal, wrote_some}
-use Rattle.bg_tool.proofs.driver.judge.Goals as goal
+use Rattle.bg_tool.proofs.judge.judge.Goals as goal
 
 pub returns-in-Err-TooLong-clause-refused : goal.returns-in-Err-TooLong-clause-refused
 returns-in-Err-TooLong-clause-refused g c = λ is.
@@ -14,7 +14,7 @@ returns-in-Err-TooLong-clause-refused g c = λ is.
     let names : List (List ℕ) = map string_bytes c.args.names.now in
     let over : IsTextOver contents names MOST_BYTES = subst (λ (e : ReadError). IfTooLong {T = Vec ℕ Global} (Err e) (λ _. IsTextOver contents names MOST_BYTES)) c.in-Err-TooLong.field-0-is c.in-Err-TooLong.ensures.longer in
     let long = long_text contents names MOST_BYTES over in
-    record { bytes = long.0; read = long.1.0; refused = c.refuse_bytes.ensures.refused is c.args.how.now.asked.guess long.0 long.1.1 }
+    record { bytes = long.0; read = long.1.0; refused = c.refuse_text.ensures.refused is c.args.how.now.asked.guess long.0 long.1.1 }
 
 pub returns-in-Err-TooLong-clause-complete : goal.returns-in-Err-TooLong-clause-complete
 returns-in-Err-TooLong-clause-complete g c = λ quiet_files quiet_out quiet_err.
@@ -23,8 +23,8 @@ returns-in-Err-TooLong-clause-complete g c = λ quiet_files quiet_out quiet_err.
     let over : IsTextOver contents names MOST_BYTES = subst (λ (e : ReadError). IfTooLong {T = Vec ℕ Global} (Err e) (λ _. IsTextOver contents names MOST_BYTES)) c.in-Err-TooLong.field-0-is c.in-Err-TooLong.ensures.longer in
     let long = long_text contents names MOST_BYTES over in
     let known : Known = record { both = c.a_text_has_one_program_or_one_refusal.ensures.both; refusal = c.a_text_has_one_program_or_one_refusal.ensures.refusal } in
-    judges known c.args.how.now.asked.guess contents names long.0 c.refuse_bytes.result long.1.0
-    (said_refusal c.args.how.now.asked.guess long.0 c.refuse_bytes.result _ _ (λ is. c.refuse_bytes.ensures.refused is c.args.how.now.asked.guess long.0 long.1.1) c.refuse_bytes.ensures.ends c.refuse_bytes.ensures.cause quiet_err)
+    judges known c.args.how.now.asked.guess contents names long.0 c.refuse_text.result long.1.0
+    (said_refusal c.args.how.now.asked.guess long.0 c.refuse_text.result _ _ (λ is. c.refuse_text.ensures.refused is c.args.how.now.asked.guess long.0 long.1.1) c.refuse_text.ensures.ends c.refuse_text.ensures.cause quiet_err)
 
 pub returns-in-Ok-clause-prefix : goal.returns-in-Ok-clause-prefix
 returns-in-Ok-clause-prefix g c = λ is.

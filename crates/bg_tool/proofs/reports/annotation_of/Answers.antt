@@ -5,7 +5,7 @@ use Rattle.bg_ast.specs.Views.{program_of}
 use Rattle.bg_told.specs.Views.{why_of}
 use Rattle.bg_print.specs.Printed.{printed}
 use Rattle.bg_tool.proofs.Annotated.{annotated_is}
-use Rattle.bg_tool.proofs.driver.annotation_of.Goals as goal
+use Rattle.bg_tool.proofs.reports.annotation_of.Goals as goal
 
 pub returns-clause-annotation : goal.returns-clause-annotation
 returns-clause-annotation g c = λ bytes spelled.

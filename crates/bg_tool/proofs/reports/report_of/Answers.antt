@@ -4,7 +4,7 @@ use Rattle.bg_ast.specs.Views.{program_of}
 use Rattle.bg_houdini.specs.Told.{outcome_of}
 use Rattle.bg_told.specs.Report.{result_text}
 use Rattle.bg_told.specs.Views.{why_of}
-use Rattle.bg_tool.proofs.driver.report_of.Goals as goal
+use Rattle.bg_tool.proofs.reports.report_of.Goals as goal
 
 pub returns-clause-report : goal.returns-clause-report
 returns-clause-report g c = λ bytes spelled.

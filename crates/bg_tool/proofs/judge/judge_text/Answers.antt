@@ -1,6 +1,6 @@
 use Rattle.std.proofs.Common.{◌∙◌, ap, List, ℕ, inr, subst}
 use Rattle.bg_io.specs.Causes.{joined, WroteFront}
-use Rattle.bg_tool.proofs.driver.judge_text.Goals as goal
+use Rattle.bg_tool.proofs.judge.judge_text.Goals as goal
 
 pub returns-in-Ok-write_all-clause-answer : goal.returns-in-Ok-write_all-clause-answer
 returns-in-Ok-write_all-clause-answer g c = λ _. record {
