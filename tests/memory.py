@@ -62,7 +62,14 @@ procedure Count(n: int) returns (i: int)
   { i := i + 1; }
 }
 """
-RUNS = [(COPY, ["--workers", "1"]), (COUNT, ["--workers", "2"])]
+# a program, and the words of a run; CERT is a file with the certificate that is written of the program
+RUNS = [
+    (COPY, ["verify", "--workers", "1"]),
+    (COUNT, ["verify", "--workers", "2"]),
+    (COUNT, ["annotate", "--workers", "1"]),
+    (COUNT, ["certify", "--workers", "2"]),
+    (COUNT, ["check", "--cert", "CERT"]),
+]
 # So many runs in a row that meet no refusal are behind the last request.
 BEHIND = 64
 
@@ -92,7 +99,9 @@ def main():
         for program, options in RUNS:
             with open(text, "w", encoding="utf-8") as file:
                 file.write(program)
-            words = [bg, "verify", *options, text]
+            with open(f"{folder}/cert", "wb") as file:
+                file.write(run([bg, "certify", text], {})[1])
+            words = [bg, *(f"{folder}/cert" if word == "CERT" else word for word in options), text]
             wanted = run(words, {})
             for more in ({}, {"REFUSE_ALL": "1"}):
                 first, quiet, refused = 1, 0, 0

@@ -1,0 +1,198 @@
+#!/usr/bin/env python3
+"""Certificates through bg: what certify writes is accepted, and no other text is that should not be.
+
+usage: certificates.py --bg COMMAND [--short]
+
+- Each program of examples/ that is verified as it is written: what `certify` writes has its status, and `check` accepts it. For each other
+  one that is judged, `check` names the first place that its report doesn't call proved.
+- The first reason why a certificate is rejected or refused, for texts written by hand.
+- A certificate without one of its lines, with two of its sections exchanged or with one twice, is never accepted: so nothing in it is idle.
+- Hostile texts: numbers out of range, a hundred thousand splits, a text cut off behind each line, one line as long as a text may be: a
+  named status, and memory that grows with the text alone. With --short these are shorter.
+
+The last line is `N passed, M failed`.
+"""
+import argparse
+import glob
+import os
+import re
+import resource
+import shlex
+import subprocess
+import sys
+import tempfile
+
+TOP = os.path.dirname(os.path.dirname(os.path.abspath(__file__)))
+MOST = 67_108_864  # bytes of a certificate's text
+FRONT = "bg-cert 1\ninterp\n"
+EMPTY = FRONT + "end\n"
+COPY = "procedure P(a: bool) { var b: bool; b := a; assert b == a; }"
+COUNT = """const {:existential true} b0, b1, b2: bool;
+procedure Count(n: int) returns (i: int) requires 0 <= n; ensures i == n;
+{ i := 0; while (i < n) invariant b0 ==> i >= 0; invariant b1 ==> i >= 1; invariant b2 ==> i <= n; { i := i + 1; } }"""
+UNPROVED = "rejected: P 1:1 assert 1:45\n"
+TIMES = 60  # kilobytes of memory for each kilobyte of a hostile text, at most
+BASE = 60_000  # kilobytes of memory that any run may take
+
+# a program, a certificate, the status, what is written to the output and to the errors
+ANSWERS = [
+    ("", EMPTY, 0, "accepted\n", ""),
+    ("", "bg-cert 1\nno interp\nend\n", 1, "rejected: axioms\n", ""),
+    (COUNT, FRONT + "retain b2\nretain b0\nend\n", 1, "rejected: retain b0\n", ""),
+    (COUNT, FRONT + "retain b9\nend\n", 1, "rejected: retain b9\n", ""),
+    (COPY, EMPTY, 1, UNPROVED, ""),
+    (COPY, FRONT + "place 0 0\nclause 0\nend\n", 1, UNPROVED, ""),
+    (COPY, FRONT + "place 0 0\nclause 9\nend\n", 1, UNPROVED, ""),
+    (COPY, FRONT + "place 0 0\nunit b\nend\n", 1, UNPROVED, ""),
+    (COPY, FRONT + "place 0 0\nknown 0\nend\n", 1, UNPROVED, ""),
+    ("", FRONT + "place 0 0\nclause 0\nend\n", 1, "rejected: place 0 0\n", ""),
+    ("", "bg-cert 3\ninterp\nend\n", 3, "", "error: certificate version\n"),
+    ("", "bg-cert 1\nend\n", 3, "", "error: certificate line 2\n"),
+    ("", FRONT, 3, "", "error: certificate line 3\n"),
+    ("", FRONT + "end", 3, "", "error: certificate line 3\n"),
+    ("", EMPTY + "\n", 3, "", "error: certificate line 4\n"),
+    ("", FRONT + "place 0 0\nrows 1\nsum 0 -1 0 1\nend\n", 3, "", "error: certificate line 5\n"),
+    ("", FRONT + "place 0 0\nsplit 170141183460469231731687303715884105728\nend\n", 3, "", "error: certificate line 4\n"),
+    ("", FRONT + "place 0 00\nclause 0\nend\n", 3, "", "error: certificate line 3\n"),
+    ("procedure P() { assert x; }", "bg-cert 2\n", 3, "", "error: 1:24 unknown x\n"),
+]
+
+
+class Trial:
+    def __init__(self, bg, folder):
+        self.bg, self.folder, self.passed, self.failed = shlex.split(bg), folder, 0, 0
+
+    def run(self, words):
+        done = subprocess.run([*self.bg, *words], capture_output=True, timeout=600, stdin=subprocess.DEVNULL)
+        return done.returncode, done.stdout, done.stderr
+
+    def stored(self, name, data):
+        path = os.path.join(self.folder, name)
+        with open(path, "wb") as file:
+            file.write(data)
+        return path
+
+    def check(self, cert, program):
+        return self.run(["check", "--cert", self.stored("c.txt", cert), program])
+
+    def holds(self, name, is_so, got=b""):
+        self.passed += bool(is_so)
+        self.failed += not is_so
+        if not is_so:
+            print(f"failed: {name}: {got!r}"[:400])
+
+
+def first_open(report):
+    """The first place that a report doesn't call proved, in the words of a rejection; None where there is no such place."""
+    name = None
+    for line in report.decode().splitlines():
+        if line.startswith("implementation "):
+            name = line.split()[1:3]
+        told = re.fullmatch(r"  refuted (.*)|  unknown (.*) \w+", line)
+        if told and name:
+            return f"rejected: {name[0]} {name[1]} {told[1] or told[2]}\n".encode()
+    return None
+
+
+def example(t, source):
+    """A program of examples/: its certificate, and what is answered of it; nothing where its text is refused."""
+    status, report, _ = t.run(["verify", source])
+    if status > 2:
+        return
+    name = os.path.relpath(source, TOP)
+    certified, cert, err = t.run(["certify", source])
+    t.holds(f"{name}: certify ends as verify", (certified, err) == (status, b""), (certified, err))
+    wanted = (0, b"accepted\n", b"") if status == 0 else (1, first_open(report), b"")
+    got = t.check(cert, source)
+    t.holds(f"{name}: check", got == wanted, (got, wanted))
+
+
+def answers(t):
+    for program, cert, status, out, err in ANSWERS:
+        path = t.stored("a.bpl", program.encode())
+        got = t.check(cert.encode(), path)
+        t.holds(f"{cert!r} for {program!r}", got == (status, out.encode(), err.encode()), got)
+
+
+def sections_of(lines):
+    """The lines in front of the sections, and the sections."""
+    starts = [i for i, line in enumerate(lines) if line.startswith(b"place ")] + [len(lines) - 1]
+    return lines[: starts[0]], [lines[a:b] for a, b in zip(starts, starts[1:])]
+
+
+def doctored(t, source):
+    """Certificates that lack a line, or whose sections stand otherwise: none is accepted."""
+    name = os.path.relpath(source, TOP)
+    _, cert, _ = t.run(["certify", source])
+    lines = cert.splitlines(keepends=True)
+    for i in range(len(lines)):
+        got = t.check(b"".join(lines[:i] + lines[i + 1 :]), source)
+        t.holds(f"{name}: without line {i + 1}", got[0] in (1, 3), got)
+    front, sections = sections_of(lines)
+    for i in range(len(sections) - 1):
+        swapped = sections[:i] + [sections[i + 1], sections[i]] + sections[i + 2 :]
+        got = t.check(b"".join(front + sum(swapped, []) + [b"end\n"]), source)
+        t.holds(f"{name}: sections {i} and {i + 1} exchanged", got[:2] == (1, b"rejected: " + sections[i][0]), got)
+    twice = sections[:1] + sections
+    got = t.check(b"".join(front + sum(twice, []) + [b"end\n"]), source)
+    t.holds(f"{name}: a section twice", got[:2] == (1, b"rejected: " + sections[0][0]), got)
+
+
+def fronts(t, source):
+    """A certificate that is cut off behind each line: the line that is missing is named."""
+    name = os.path.relpath(source, TOP)
+    _, cert, _ = t.run(["certify", source])
+    lines = cert.splitlines(keepends=True)
+    for i in range(1, len(lines)):
+        got = t.check(b"".join(lines[:i]), source)
+        t.holds(f"{name}: {i} lines", got == (3, b"", b"error: certificate line %d\n" % (i + 1)), got)
+
+
+def hostile(t, size, most):
+    """Texts that are long in one way."""
+    path = t.stored("a.bpl", COPY.encode())
+    front = FRONT.encode() + b"place 0 0\n"
+    longest = 0
+    for name, cert, wanted in (
+        ("splits that end", front + b"split 0\n" * size + b"clause 0\n" * (size + 1) + b"end\n", (1, UNPROVED.encode(), b"")),
+        ("splits without end", front + b"split 0\n" * size, (3, b"", b"error: certificate line %d\n" % (size + 4))),
+        ("lemmas in lemmas", front + b"lemma +0\n" * size, (3, b"", b"error: certificate line %d\n" % (size + 4))),
+        ("steps", front + b"rows %d\npath 0\n" % size + b"tight 0\n" * (size - 1) + b"end\n", (1, UNPROVED.encode(), b"")),
+        ("more rows than stand there", front + b"table %d\n" % (2**127 - 1) + b"end\n", (3, b"", b"error: certificate line 5\n")),
+        ("sections", FRONT.encode() + b"place 0 1\nclause 0\n" * size + b"end\n", (1, UNPROVED.encode(), b"")),
+        ("retained names", FRONT.encode() + b"retain b\n" * size + b"end\n", (1, b"rejected: retain b\n", b"")),
+        ("one line", b"x" * most, (3, b"", b"error: certificate line 1\n")),
+        ("one number", front + b"split " + b"9" * (most - 37) + b"\nend\n", (3, b"", b"error: certificate line 4\n")),
+        ("too long", b"x" * (MOST + 1), (8, b"", b"error: limit bytes 67108865\n")),
+    ):
+        got = t.check(cert, path)
+        t.holds(f"hostile: {name}", got == wanted, got)
+        longest = max(longest, len(cert))
+    peak = resource.getrusage(resource.RUSAGE_CHILDREN).ru_maxrss
+    print(f"peak memory {peak // 1000} MB, longest text {longest // 1_000_000} MB")
+    t.holds("memory", peak < BASE + TIMES * longest // 1000, peak)
+
+
+def main():
+    parser = argparse.ArgumentParser(description=__doc__.split("\n", maxsplit=1)[0])
+    parser.add_argument("--bg", required=True)
+    parser.add_argument("--short", action="store_true")
+    args = parser.parse_args()
+    # (the script ./bg then says its failures alone)
+    os.environ["BG_QUIET"] = "1"
+    with tempfile.TemporaryDirectory() as folder:
+        t = Trial(args.bg, folder)
+        for source in sorted(glob.glob(os.path.join(TOP, "examples", "*.bpl"))):
+            example(t, source)
+        answers(t)
+        for name in ("count_inferred",) if args.short else ("count_inferred", "insertion_inferred", "gcd", "bank_inferred"):
+            source = os.path.join(TOP, "examples", name + ".bpl")
+            doctored(t, source)
+            fronts(t, source)
+        hostile(t, 10_000 if args.short else 100_000, 1_000_000 if args.short else MOST)
+    print(f"{t.passed} passed, {t.failed} failed")
+    sys.exit(1 if t.failed else 0)
+
+
+if __name__ == "__main__":
+    main()
