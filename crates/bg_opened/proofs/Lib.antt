@@ -1,0 +1,14 @@
+pub mod Places
+pub mod Worths
+pub mod Typing
+pub mod Runs
+pub mod Resolves
+pub mod Fairs
+pub mod Claims
+pub mod Programs
+pub mod Scalars
+pub mod Whole
+pub mod Passes
+pub mod WrittenMeans
+pub mod WrittenExprs
+pub mod WrittenPrograms
