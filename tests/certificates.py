@@ -162,7 +162,7 @@ def hostile(t, size, most):
         ("sections", FRONT.encode() + b"place 0 1\nclause 0\n" * size + b"end\n", (1, UNPROVED.encode(), b"")),
         ("retained names", FRONT.encode() + b"retain b\n" * size + b"end\n", (1, b"rejected: retain b\n", b"")),
         ("one line", b"x" * most, (3, b"", b"error: certificate line 1\n")),
-        ("one number", front + b"split " + b"9" * (most - 37) + b"\nend\n", (3, b"", b"error: certificate line 4\n")),
+        ("one number", front + b"split " + b"9" * (most - 38) + b"\nend\n", (3, b"", b"error: certificate line 4\n")),
         ("too long", b"x" * (MOST + 1), (8, b"", b"error: limit bytes 67108865\n")),
     ):
         got = t.check(cert, path)
