@@ -88,7 +88,7 @@ two_found : (s n : Text) → Plain s → Plain n → finished rules (walk rules 
 two_found s n h k = ap (λ (w : Walk). finished rules w.held) (two_walk s n h k)
 
 seed_found : (s n : Text) → IsSeed s → seed_of (two_rows s n) ≡ digits_value 10 (without_leading_plus s)
-seed_found s n k = read_seed s k
+seed_found s n k = ap (λ t. number_or 0 (Some t)) (as_plain s k.is_plain).0 ∙ read_seed s k
 
 size_found : (s n : Text) → IsSize n → size_of (two_rows s n) ≡ digits_value 10 (without_leading_plus n)
 size_found s n l = ap (λ t. number_or 0 (Some t)) (as_plain n l.is_plain).0 ∙ read_size n l

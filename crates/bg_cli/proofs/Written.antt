@@ -9,7 +9,7 @@ use Rattle.clap.specs.ValueTests.{accepts, is_numeral, fits_i64}
 use Rattle.clap.specs.declared.builder.value_parser.ValueParser.TheVariants as parser
 use Rattle.clap.proofs.WalkLemmas.{both}
 use Rattle.clap.proofs.ValueTestLemmas.{accepts-Accepts, Accepts-accepts}
-use Rattle.bg_cli.specs.Cli.{Plain, IsNumberTo, IsBudget, IsSeed, IsSize, as_workers, number_or, wide_number}
+use Rattle.bg_cli.specs.Cli.{Plain, IsNumberTo, IsBudget, IsSeed, IsSize, as_workers, number_or}
 
 pub as_plain : (n : Text) → Plain n → (without_minus n ≡ n) × (starts_with_minus n ≡ false)
 as_plain [] h = absurd h
@@ -44,8 +44,8 @@ read_budget n k = read_number 20000 1000000 n (omega arith) k
 pub some_workers : (x : ℕ) → 1 ≤ x → x ≤ 16 → as_workers x ≡ x
 some_workers x low high = rw (le-leb 1 x low, le-leb x 16 high) refl
 
-size_passes : (n : Text) → IsSize n → accepts false (parser.Unsigned 0 4294967295) n ≡ true
-size_passes n k =
+seed_passes : (n : Text) → IsSeed n → accepts false (parser.Unsigned 0 4294967295) n ≡ true
+seed_passes n k =
     let s = no_sign n (as_plain n k.is_plain).1 in
     let z : ℤ = signed_digits_value 10 n in
     let a = both (is_numeral (without_leading_sign n)) (fits_i64 z && (int_le (pos 0) z && int_le z (pos 4294967295))) k.passes in
@@ -56,7 +56,7 @@ size_passes n k =
     Accepts-accepts false (parser.Unsigned 0 4294967295) n (numeral, omega (arith, top), omega arith, top)
 
 pub read_size : (n : Text) → IsSize n → number_or 0 (Some n) ≡ digits_value 10 (without_leading_plus n)
-read_size n k = rw (size_passes n k) refl
+read_size n k = read_number 0 1000 n (omega arith) k
 
-pub read_seed : (s : Text) → IsSeed s → wide_number (Some s) ≡ digits_value 10 (without_leading_plus s)
-read_seed s k = rw k.passes refl
+pub read_seed : (s : Text) → IsSeed s → number_or 0 (Some s) ≡ digits_value 10 (without_leading_plus s)
+read_seed s k = rw (seed_passes s k) refl

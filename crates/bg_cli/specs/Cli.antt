@@ -81,21 +81,21 @@ cert = record (new_rule (codes "cert")) { long = Some (codes "cert"); required =
 abbrev pub check : App
 check = with_rule (with_rule (new_app (codes "check")) cert) files
 
--- a number that fits in 64 bits
+-- a number that fits in 32 bits
 abbrev pub seed : Rule
 seed =
     record (new_rule (codes "SEED")) {
       required = true;
-      parser = Some (parser.Unsigned 0 18446744073709551615);
+      parser = Some (parser.Signed (pos 0) (pos 4294967295));
       action = Some Set;
     }
 
--- a number that fits in 32 bits
+-- a number from 1 to 1,000
 abbrev pub size : Rule
 size =
     record (new_rule (codes "SIZE")) {
       required = true;
-      parser = Some (parser.Signed (pos 0) (pos 4294967295));
+      parser = Some (parser.Signed (pos 1) (pos 1000));
       action = Some Set;
     }
 
@@ -209,15 +209,9 @@ job_for m = job_of (option_map (λ p. p.0) (subcommand_rows_of m))
 abbrev pub cert_of : List Row → Text
 cert_of rows = unwrap_or (first_of (codes "cert") rows) []
 
--- the decimal number, where it fits in 64 bits, else 0
-abbrev pub wide_number : Option Text → ℕ
-wide_number None = 0
-wide_number (Some text) =
-    if accepts false (parser.Unsigned 0 18446744073709551615) text then digits_value 10 (without_leading_plus text) else 0
-
 -- the seed of the program that is made
 abbrev pub seed_of : List Row → ℕ
-seed_of rows = wide_number (one_of (codes "SEED") rows)
+seed_of rows = number_or 0 (one_of (codes "SEED") rows)
 
 -- its size
 abbrev pub size_of : List Row → ℕ
@@ -276,9 +270,8 @@ IsWorkers = IsNumberTo 16
 -- one that is a seed
 pub record IsSeed (n : Text) : Type 0 where
   pub is_plain : Plain n
-  pub passes : accepts false (parser.Unsigned 0 18446744073709551615) n ≡ true
+  pub passes : accepts false (parser.Signed (pos 0) (pos 4294967295)) n ≡ true
 
 -- one that is a size
-pub record IsSize (n : Text) : Type 0 where
-  pub is_plain : Plain n
-  pub passes : accepts false (parser.Signed (pos 0) (pos 4294967295)) n ≡ true
+abbrev pub IsSize : Text → Type 0
+IsSize = IsNumberTo 1000

@@ -96,7 +96,7 @@ fn seed<'a>(alloc: Global) -> Arg<'a>
 {
     Arg::new(alloc, "SEED")
         .required(true)
-        .value_parser(value_parser!(u64))
+        .value_parser(value_parser!(u32))
         .action(ArgAction::Set)
 }
 
@@ -107,7 +107,7 @@ fn size<'a>(alloc: Global) -> Arg<'a>
 {
     Arg::new(alloc, "SIZE")
         .required(true)
-        .value_parser(value_parser!(u32))
+        .value_parser(value_parser!(u32).range(1..=1_000))
         .action(ArgAction::Set)
 }
 
@@ -276,7 +276,7 @@ fn cert_of<'a>(check: &ArgMatches<'a>) -> &'a str
 fn seed_of(generate: &ArgMatches<'_>) -> u64
     ensures { result ≡ seed_of (rows_of (found_of generate.now)) }
 {
-    generate.get_one::<u64>("SEED").unwrap_or(0)
+    u64::from(generate.get_one::<u32>("SEED").unwrap_or(0))
 }
 
 /// The size that the matches of the command hold.

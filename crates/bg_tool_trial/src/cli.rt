@@ -10,13 +10,14 @@ type Case = (
     Option<(&'static str, u32, u32, u32)>,
 );
 
-const WORDS: [Case; 38] = [
+const WORDS: [Case; 39] = [
     (
-        &["bg", "generate", "1", "4294967295"],
+        &["bg", "generate", "4294967295", "1000"],
         Some(("", 4, 20_000, 20_000)),
     ),
-    (&["bg", "generate", "1", "4294967296"], None),
-    (&["bg", "generate", "18446744073709551616", "1"], None),
+    (&["bg", "generate", "1", "1001"], None),
+    (&["bg", "generate", "1", "0"], None),
+    (&["bg", "generate", "4294967296", "1"], None),
     (&["bg", "generate", "1"], None),
     (&["bg", "generate", "1", "2", "3"], None),
     (&["bg", "bench", "1", "4"], Some(("", 4, 20_000, 20_000))),

@@ -80,11 +80,11 @@ const TEXTS: [Case; 28] = [
         "",
     ),
     (
-        &["bg", "generate", "18446744073709551615", "0"],
+        &["bg", "generate", "4294967295", "0"],
         "",
-        Status::Verified,
+        Status::Usage,
         "",
-        "",
+        USAGE,
     ),
     (
         &["bg", "bench", "1", "4"],

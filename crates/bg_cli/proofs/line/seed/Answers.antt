@@ -1,9 +1,9 @@
-use Rattle.std.proofs.Common.{rules, ap, Some, ◌≡◌, ◌∙◌}
+use Rattle.std.proofs.Common.{rules, ap, Some, ◌≡◌, ◌∙◌, pos}
 use Rattle.clap.specs.declared.builder.value_parser.ValueParser.TheVariants as parser
 use Rattle.bg_cli.proofs.line.seed.Goals as goal
 
 pub returns-clause-rule : goal.returns-clause-rule
 returns-clause-rule c =
     let given = c.value_parser-2.ensures.given in
-    let reads : c.value_parser-2.result.value_parser ≡ Some (parser.Unsigned 0 18446744073709551615) = given.1 ∙ ap Some (given.2 ∙ c.value_parser.ensures) in
+    let reads : c.value_parser-2.result.value_parser ≡ Some (parser.Signed (pos 0) (pos 4294967295)) = given.1 ∙ ap Some (given.2 ∙ c.value_parser.ensures) in
     search (rules, reads)
