@@ -1,5 +1,5 @@
 -- Ways that meet: variable by variable, in any order of the ways.
-use Rattle.std.proofs.Common.{◌≡◌, ◌+◌, ℕ, zero, suc, Bool, true, false, ◌&&◌, if◌then◌else◌, List, [], ◌∷◌, ◌++◌, map, drop, reverse, refl, sym, ap, ◌∙◌, add-one}
+use Rattle.std.proofs.Common.{◌≡◌, ◌+◌, ◌==◌, ℕ, zero, suc, Bool, true, false, ◌&&◌, if◌then◌else◌, List, [], ◌∷◌, ◌++◌, map, drop, reverse, refl, sym, ap, ◌∙◌, add-one, arith}
 use Rattle.std.specs.Prelude.{slice_get}
 use Rattle.std.proofs.lemmas.List.{map-append, reverse-append}
 use mathlib.Core.List.{reverse-cons}
@@ -142,6 +142,23 @@ last_first hs front last h =
 
 same_arrival : (g g' f f' b : List ℕ) (n n' : ℕ) → g ≡ g' → f ≡ f' → n ≡ n' → (let a : Arrival = record { env = record { globals = g; before = b; frame = f }; next = n } in a) ≡ (let a : Arrival = record { env = record { globals = g'; before = b; frame = f' }; next = n' } in a)
 same_arrival g g' f f' b n n' h k l = rw (h, k, l) refl
+
+-- one way alone is as it was
+begins : (j : ℕ) (js : List ℕ) → all_begin j ((j ∷ js) ∷ []) ≡ true
+begins j js = let e : (j == j) ≡ true = grind arith in rw e refl
+
+alone_merged : (n : ℕ) (js : List ℕ) → merge n js (js ∷ []) ≡ js
+alone_merged n [] = refl
+alone_merged n (j ∷ js) = rw (begins j js) (ap (λ l. j ∷ l) (alone_merged n js))
+
+alone_after : (n : ℕ) (js : List ℕ) → after_merge n js (js ∷ []) ≡ n
+alone_after n [] = refl
+alone_after n (j ∷ js) = rw (begins j js) (alone_after n js)
+
+pub alone_arrives : (entry v : Env) (n : ℕ) → arrive_at entry (v ∷ []) n ≡ (let a : Arrival = record { env = v; next = n } in a)
+alone_arrives entry v n =
+    let m = after_merge n v.globals (v.globals ∷ []) in
+    same_arrival _ v.globals _ v.frame v.before _ n (alone_merged n v.globals) (alone_merged m v.frame) (alone_after m v.frame ∙ alone_after n v.globals)
 
 -- the arrival where ways meet, as the code makes it
 abbrev pub met_at : Env → List (List ℕ) → List (List ℕ) → ℕ → Arrival

@@ -16,7 +16,7 @@ use Rattle.bg_incarnate.specs.declared.held.Held.{Held}
 use Rattle.bg_incarnate.specs.Views.{held_env, passive_block_of, incarnations_of, incarnations_at, onto}
 use Rattle.bg_incarnate.specs.Arrived.{arrival_of, ways_of}
 use Rattle.bg_incarnate.specs.Walked.{Walked, walked_of, ways_in, open_of, passed_at, walked_at, ways_after, walk, walk_after, arrival_in, first_in, next_in, finished, arrived_with}
-use Rattle.bg_incarnate.proofs.Meeting.{last_first}
+use Rattle.bg_incarnate.proofs.Meeting.{last_first, alone_arrives}
 use Rattle.bg_incarnate.proofs.Passing.{drop_item}
 use Rattle.bg_incarnate.proofs.Walks.{open_grown, arrivals_are, passives_are, count_step}
 
@@ -31,6 +31,13 @@ grown ws new e k v whole h none short known =
 -- one more way in a list
 pub one_way : (old new : Vec Held Global) (h : Held) → new.items ≡ old.items ++ h ∷ [] → ways_in new ≡ held_env h ∷ ways_in old
 one_way old new h e = last_first new.items old.items h e
+
+-- one way alone leads to the next block
+pub alone_here : (ways rest : List (Vec Held Global)) (here : Vec Held Global) (only : Held) (entry : Env) (n : ℕ) → ways ≡ here ∷ rest → here.items ≡ only ∷ [] → arrive_at entry (ways_here (open_of ways)) n ≡ (let a : Arrival = record { env = held_env only; next = n } in a)
+alone_here ways rest here only entry n h k =
+    ap (λ l. arrive_at entry (ways_here (open_of l)) n) h
+    ∙ ap (λ l. arrive_at entry (ways_of l) n) k
+    ∙ alone_arrives entry (held_env only) n
 
 pub set_open : (ws : List (Vec Held Global)) (k : ℕ) (w x : Vec Held Global) (v : Env) → slice_get ws k ≡ Some x → ways_in w ≡ v ∷ ways_in x → open_of (slice_set ws k w) ≡ way_to k v (open_of ws)
 set_open [] k w x v h e = let bad : None ≡ Some x = h in cc

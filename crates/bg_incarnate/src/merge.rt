@@ -1,5 +1,5 @@
 //! Ways that meet.
-ghost use Rattle.std.specs.Prelude.{◌≡◌, suc, map, slice_get, if◌then◌else◌, IfOk, OnOk};
+ghost use Rattle.std.specs.Prelude.{◌≡◌, [], ◌∷◌, suc, map, slice_get, if◌then◌else◌, IfOk, OnOk, MatchOption};
 ghost use Rattle.bg_passive.specs.Arrivals.{arrive_at};
 ghost use Rattle.bg_incarnate.specs.Views.{held_env};
 ghost use Rattle.bg_incarnate.specs.Arrived.{ways_of, held_part, is_some, same_at, merge_from, after_from};
@@ -85,6 +85,13 @@ pub fn copied<'b>(alloc: Global, held: &Held<'b>) -> Result<Held<'b>, AllocError
         before: held.before,
         frame,
     })
+}
+
+/// The way, where there is one alone. Then none is left.
+pub fn alone<'b>(ways: &mut Vec<Held<'b>>) -> Option<Held<'b>>
+    ensures { MatchOption result (ways.new.items ≡ ways.old.items) (λ h. ways.old.items ≡ h ∷ []) }
+{
+    if ways.len() == 1 { ways.pop() } else { None }
 }
 
 /// The incarnations where these ways meet; where there is no way, those at entry.

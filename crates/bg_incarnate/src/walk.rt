@@ -10,7 +10,7 @@ ghost use Rattle.bg_incarnate.specs.Walked.{walked_of, open_of, passed_at, walke
 use crate::arrived::Arrived;
 use crate::command::commands;
 use crate::held::Held;
-use crate::merge::{arrive, copied};
+use crate::merge::{alone, arrive, copied};
 use bg_blocks::{Block, Exit};
 use std::alloc::{AllocError, Global};
 use std::collections::VecDeque;
@@ -69,7 +69,7 @@ fn open_exit<'b>(
     }
 }
 
-/// The incarnations where the ways to the next block meet.
+/// The incarnations where the ways to the next block meet. Those of a way that is alone are taken over.
 fn meet<'b>(
     alloc: Global,
     entry: &Held<'b>,
@@ -80,9 +80,12 @@ fn meet<'b>(
     ensures more { OnOk result (next.new ≡ (arrive_at (held_env entry.now) (ways_here (open_of ways.old.items)) next.old).next) }
     ensures ways { open_of ways.new.items ≡ ways_on (open_of ways.old.items) }
 {
-    match ways.pop_front() {
-        None => arrive(alloc, entry, &[], next),
-        Some(here) => arrive(alloc, entry, &here, next),
+    let Some(mut here) = ways.pop_front() else {
+        return arrive(alloc, entry, &[], next);
+    };
+    match alone(&mut here) {
+        Some(only) => Ok(only),
+        None => arrive(alloc, entry, &here, next),
     }
 }
 
