@@ -3,7 +3,7 @@
 use bg_formula::{Atom, Clauses};
 use bg_rows::{Row, key};
 use bg_simplex::Lit;
-use bg_solved::{learn_equality, made_row};
+use bg_solved::{are_opposite, learn_equality, made_row};
 use bg_trail::{Engine, at_place, atom_of, is_positive, opposite};
 use std::alloc::{AllocError, Global};
 use std::collections::BTreeMap;
@@ -60,14 +60,51 @@ fn take(e: &mut Engine<'_>, sides: &mut Sides, l: Lit) -> Result<(), AllocError>
     Ok(())
 }
 
+/// Solves the equality of two literals' rows, if they are opposite: whether they are.
+fn take_both(e: &mut Engine<'_>, l: Lit, other: Lit) -> Result<bool, AllocError> {
+    let f = e.formula;
+    let (Some(row), Some(opposite)) = (row_of(f, l), row_of(f, other)) else {
+        return Ok(false);
+    };
+    if !are_opposite(row, opposite) {
+        return Ok(false);
+    }
+    learn_equality(e.alloc, &mut e.solved, l, row, other, opposite)?;
+    Ok(true)
+}
+
+/// Takes in a literal behind the one that waits. The two sides of an equality mostly stand side by side on the trail, and are found
+/// without a key. Answers the literal that waits then.
+fn take_next(
+    e: &mut Engine<'_>,
+    sides: &mut Sides,
+    waits: Option<Lit>,
+    l: Lit,
+) -> Result<Option<Lit>, AllocError> {
+    let Some(other) = waits else {
+        return Ok(Some(l));
+    };
+    if take_both(e, l, other)? {
+        return Ok(None);
+    }
+    take(e, sides, other)?;
+    Ok(Some(l))
+}
+
 /// Solves the equalities whose two rows are true at the root. Clauses stand from the last block of the program back, so the literals
 /// are taken from the last on: a variable is then solved for those from which it is made.
 pub fn solve_equalities(e: &mut Engine<'_>) -> Result<(), AllocError> {
     let mut sides = BTreeMap::new(e.alloc);
+    let mut waits = None;
     for place in (0..e.trail.len).rev() {
         if let Some(l) = at_place(&e.trail, place) {
-            take(e, &mut sides, l)?;
+            if row_of(e.formula, l).is_some() {
+                waits = take_next(e, &mut sides, waits, l)?;
+            }
         }
+    }
+    if let Some(l) = waits {
+        take(e, &mut sides, l)?;
     }
     Ok(())
 }

@@ -4,8 +4,8 @@ use crate::pairs::solve_equalities;
 use bg_formula::Atom;
 use bg_simplex::{Lit, Multiple};
 use bg_trail::{
-    Engine, Reason, Span, add_clause, assign, is_false, is_met, is_open, literal, named, negated,
-    numbered, propagate, seat, units,
+    Engine, Reason, Span, add_clause, assign, atom_of, is_false, is_met, is_open, literal, named,
+    negated, numbered, propagate, seat, units,
 };
 use std::alloc::AllocError;
 
@@ -104,6 +104,28 @@ fn open_literals(e: &Engine<'_>) -> Result<Vec<bool>, AllocError> {
     Ok(named_in)
 }
 
+/// Says of an atom that it needs no seat.
+fn leave_standing(wanted: &mut [bool], l: Lit) {
+    if let Some(is_wanted) = wanted.get_mut(atom_of(l)) {
+        *is_wanted = false;
+    }
+}
+
+/// Which atoms need a seat: those that a clause names which isn't true yet, and those that have a value. The two sides of a solved
+/// equality need none: over the terms that stay their rows say nothing.
+fn wanted(e: &Engine<'_>) -> Result<Vec<bool>, AllocError> {
+    let mut made = open_literals(e)?;
+    for (a, is_wanted) in made.iter_mut().enumerate() {
+        let a = u32::try_from(a).unwrap_or(u32::MAX);
+        *is_wanted = *is_wanted || !is_open(&e.trail, literal(a, true));
+    }
+    for equality in &e.solved.equalities {
+        leave_standing(&mut made, equality.up);
+        leave_standing(&mut made, equality.down);
+    }
+    Ok(made)
+}
+
 /// Decides an atom whose row has no terms left. Answers why it can't be.
 fn know(e: &mut Engine<'_>, a: u32, value: bool) -> Result<Option<Reason>, AllocError> {
     let p = literal(a, value);
@@ -127,13 +149,12 @@ fn seat_atom(e: &mut Engine<'_>, a: u32) -> Result<Option<Reason>, AllocError> {
     }
 }
 
-/// Seats the atoms that a clause names which isn't true yet, and those that have a value. Answers why one can't have it.
+/// Seats the atoms that need it. Answers why one can't have its value.
 fn seat_all(e: &mut Engine<'_>) -> Result<Option<Reason>, AllocError> {
-    let named_in = open_literals(e)?;
-    for (a, is_named) in named_in.iter().enumerate() {
-        let a = u32::try_from(a).unwrap_or(u32::MAX);
-        if *is_named || !is_open(&e.trail, literal(a, true)) {
-            let found = seat_atom(e, a)?;
+    let wanted = wanted(e)?;
+    for (a, is_wanted) in wanted.iter().enumerate() {
+        if *is_wanted {
+            let found = seat_atom(e, u32::try_from(a).unwrap_or(u32::MAX))?;
             if found.is_some() {
                 return Ok(found);
             }

@@ -48,12 +48,13 @@ pub fn merged(
     k: Fraction,
     b: &[Part],
 ) -> Result<Vec<Part>, AllocError> {
-    let mut made = Vec::new(alloc);
+    let most = a.len().saturating_add(b.len());
+    let mut made = Vec::with_capacity(alloc, most)?;
     let mut read = Read {
         first: 0,
         second: 0,
     };
-    for _ in 0..a.len().saturating_add(b.len()) {
+    for _ in 0..most {
         let Some(part) = next(a, k, b, &mut read) else {
             break;
         };

@@ -19,25 +19,49 @@ fn turned(
     merged(alloc, &alone, Some(column), negated(by), parts)
 }
 
+/// A line stands no more among those of a column.
+fn leave(users: &mut Vec<Vec<u32>>, column: u32, line: u32) {
+    if let Some(lines) = users.get_mut(column as usize) {
+        lines.retain(|l| *l != line);
+    }
+}
+
+/// A line stands among those of a column.
+fn join(users: &mut Vec<Vec<u32>>, column: u32, line: u32) -> Result<(), AllocError> {
+    if let Some(lines) = users.get_mut(column as usize) {
+        lines.push(line)?;
+    }
+    Ok(())
+}
+
 /// A line stands no more among those of the columns that are in `old` alone, and from now on among those of the columns that are in
-/// `new` alone.
+/// `new` alone. Both stand by column, so each part is read once.
 fn change_users(
     users: &mut Vec<Vec<u32>>,
     line: u32,
     old: &[Part],
     new: &[Part],
 ) -> Result<(), AllocError> {
-    for part in old {
-        if by_of(new, part.column).is_none() {
-            if let Some(lines) = users.get_mut(part.column as usize) {
-                lines.retain(|l| *l != line);
+    let mut first: usize = 0;
+    let mut second: usize = 0;
+    for _ in 0..old.len().saturating_add(new.len()) {
+        match (old.get(first), new.get(second)) {
+            (None, None) => return Ok(()),
+            (Some(p), Some(q)) if p.column == q.column => {
+                first = first.saturating_add(1);
+                second = second.saturating_add(1);
             }
-        }
-    }
-    for part in new {
-        if by_of(old, part.column).is_none() {
-            if let Some(lines) = users.get_mut(part.column as usize) {
-                lines.push(line)?;
+            (Some(p), Some(q)) if p.column < q.column => {
+                leave(users, p.column, line);
+                first = first.saturating_add(1);
+            }
+            (Some(p), None) => {
+                leave(users, p.column, line);
+                first = first.saturating_add(1);
+            }
+            (_, Some(q)) => {
+                join(users, q.column, line)?;
+                second = second.saturating_add(1);
             }
         }
     }

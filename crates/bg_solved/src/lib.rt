@@ -20,4 +20,4 @@ pub use derive::{Deriver, add_multiple, clear, new_deriver, push_step, reduced_r
 pub use equality::{Dep, Equality, Solved, new_solved};
 pub use equation::{Equation, made_row};
 pub use rewrite::{Reduced, reduce};
-pub use solve::learn_equality;
+pub use solve::{are_opposite, learn_equality};

@@ -166,6 +166,50 @@ pub fn rewrite(alloc: Global, s: &Solved, row: &Row) -> Result<Option<Rewritten>
     Ok(Some(Rewritten { row, deps }))
 }
 
+/// The opposite of what was taken from a row; none where a number leaves 128 bits.
+fn opposite_deps(alloc: Global, deps: &[Dep]) -> Result<Option<Vec<Dep>>, AllocError> {
+    let mut made = Vec::with_capacity(alloc, deps.len())?;
+    for dep in deps {
+        let Some(times) = dep.times.checked_neg() else {
+            return Ok(None);
+        };
+        made.push(Dep {
+            equality: dep.equality,
+            times,
+        })?;
+    }
+    Ok(Some(made))
+}
+
+/// The opposite entries; none where a number leaves 128 bits.
+fn opposite_entries(alloc: Global, entries: &[Entry]) -> Result<Option<Vec<Entry>>, AllocError> {
+    let mut made = Vec::with_capacity(alloc, entries.len())?;
+    for t in entries {
+        let Some(by) = t.by.checked_neg() else {
+            return Ok(None);
+        };
+        made.push(Entry {
+            variable: t.variable,
+            by,
+        })?;
+    }
+    Ok(Some(made))
+}
+
+/// What the opposite row is without terms that are eliminated; none where a number leaves 128 bits.
+pub fn denied(alloc: Global, a: &Rewritten) -> Result<Option<Rewritten>, AllocError> {
+    let (Some(entries), Some(bound)) = (
+        opposite_entries(alloc, &a.row.entries)?,
+        a.row.bound.checked_neg(),
+    ) else {
+        return Ok(None);
+    };
+    match (made_row(entries, bound), opposite_deps(alloc, &a.deps)?) {
+        (Some(row), Some(deps)) => Ok(Some(Rewritten { row, deps })),
+        _ => Ok(None),
+    }
+}
+
 /// The row over the terms that stay, tightened; none where a number leaves 128 bits. Only want of memory is an error.
 pub fn reduce(alloc: Global, s: &Solved, row: &Row) -> Result<Option<Reduced>, AllocError> {
     match rewrite(alloc, s, row)? {

@@ -1,6 +1,6 @@
 //! Equalities are solved.
 use crate::equality::{Equality, Solved};
-use crate::rewrite::{Rewritten, rewrite};
+use crate::rewrite::{Rewritten, denied, rewrite};
 use bg_rows::{Entry, Row, coefficient};
 use bg_simplex::Lit;
 use std::alloc::{AllocError, Global};
@@ -21,7 +21,7 @@ fn are_negated(a: &[Entry], b: &[Entry]) -> bool {
 }
 
 /// Whether two rows together say that a sum is a number.
-fn are_opposite(a: &Row, b: &Row) -> bool {
+pub fn are_opposite(a: &Row, b: &Row) -> bool {
     a.bound.checked_neg() == Some(b.bound) && are_negated(&a.entries, &b.entries)
 }
 
@@ -47,6 +47,22 @@ fn push(s: &mut Solved, equality: Equality) -> Result<(), AllocError> {
     Ok(())
 }
 
+/// The second of two rows without terms that are eliminated, where this is what the first one comes to: of opposite rows what is left
+/// is opposite too.
+fn other_side(
+    alloc: Global,
+    s: &Solved,
+    a: &Rewritten,
+    up_row: &Row,
+    down_row: &Row,
+) -> Result<Option<Rewritten>, AllocError> {
+    if are_opposite(up_row, down_row) {
+        denied(alloc, a)
+    } else {
+        rewrite(alloc, s, down_row)
+    }
+}
+
 /// Learns that two literals' rows, which hold for good, say that a sum is a number: true where they do and a term stands in it once, so
 /// that it is eliminated from now on. Only want of memory is an error.
 pub fn learn_equality(
@@ -60,7 +76,7 @@ pub fn learn_equality(
     let Some(a) = rewrite(alloc, s, up_row)? else {
         return Ok(false);
     };
-    let Some(b) = rewrite(alloc, s, down_row)? else {
+    let Some(b) = other_side(alloc, s, &a, up_row, down_row)? else {
         return Ok(false);
     };
     if !are_opposite(&a.row, &b.row) {
