@@ -124,7 +124,7 @@ module _ (depth : ℕ) (p : Prog) (h : IsOpenable depth p) where
             procedure = bare;
             is_there = refl;
             locals = λ k d l. absurd (omega arith);
-            body = (refl, (refl, tt));
+            body = ((refl, (refl, tt)), tt);
           },
           tt,
         );

@@ -1,6 +1,6 @@
 -- The axioms' own program: its one place fails exactly under the interpretations that meet the program.
 use Rattle.std.specs.Prelude.{ℕ, false, [], ◌∷◌, None}
-use Rattle.bg_ast.specs.Syntax.{Fact, Assert, Proc, Impl, Prog}
+use Rattle.bg_ast.specs.Syntax.{Fact, Skip, Then, Assert, Proc, Impl, Prog}
 use Rattle.bg_ast.specs.Execution.{State, AtAssert, Place}
 use Rattle.bg_opened.specs.Programs.{opened_program}
 
@@ -14,7 +14,7 @@ claims_false =
     record {
       procedure = 0;
       locals = [];
-      body = Assert (record { id = 0; is_free = false; candidate = None; says = Fact false });
+      body = Then (Assert (record { id = 0; is_free = false; candidate = None; says = Fact false })) Skip;
     }
 
 -- the constants, functions and axioms of a program, with one implementation, which claims what is false

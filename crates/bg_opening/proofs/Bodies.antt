@@ -1,0 +1,22 @@
+-- Bodies with axioms in front.
+use Rattle.std.proofs.Common.{◌≡◌, List, [], ◌∷◌, ◌++◌, map, refl, ap, ◌∙◌}
+use Rattle.std.proofs.lemmas.List.{map-append}
+use Rattle.bg_ast.specs.Resolved as r
+use Rattle.bg_ast.specs.declared.resolved.Stmt.{Stmt}
+use Rattle.bg_ast.specs.Views.{st_of, sts_from, sts_in}
+use Rattle.bg_opened.specs.Written as w
+use Rattle.bg_opening.specs.Views.{assuming}
+use Rattle.bg_opening.proofs.Statements.{sts-are}
+
+-- statements behind what is assumed
+assumed-front : (es : List r.Ex) (ss : List r.St) → sts_from (map assuming es ++ ss) ≡ w.supposing es (sts_from ss)
+assumed-front [] ss = refl
+assumed-front (e ∷ es) ss = ap (r.Then (r.Assume e)) (assumed-front es ss)
+
+-- a body that is made of both
+pub body-is : (o : r.Ex → r.Ex) (made front rest ss : List Stmt) (es : List r.Ex) → made ≡ front ++ rest → map st_of front ≡ map assuming es → map st_of rest ≡ map (w.opened_st o) (map st_of ss) → sts_in made ≡ w.supposing es (w.opened_sts o (sts_in ss))
+body-is o made front rest ss es is f h =
+    ap sts_in is
+    ∙ ap sts_from (map-append st_of front rest ∙ ap (λ l. l ++ map st_of rest) f)
+    ∙ assumed-front es (map st_of rest)
+    ∙ ap (w.supposing es) (sts-are o ss rest h)

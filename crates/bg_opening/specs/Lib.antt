@@ -1,0 +1,4 @@
+pub mod Views
+pub mod Desks
+pub mod Applied
+pub mod Axioms

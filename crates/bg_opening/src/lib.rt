@@ -1,0 +1,19 @@
+//! The opened program of a resolved one: constants are globals, bodies of functions stand in the place of their applications, and axioms
+//! are assumed in front of each body. Beside it the axioms' own program.
+#![tactic(auto)]
+
+mod applies;
+mod axioms;
+mod copies;
+mod declared;
+mod exprs;
+pub mod laws;
+mod nodes;
+mod passes;
+mod puts;
+mod stmts;
+mod types;
+mod whole;
+
+pub use axioms::axiom_program;
+pub use whole::open_program;
