@@ -1,0 +1,15 @@
+pub mod AppliedForms
+pub mod Greatest
+pub mod Deepest
+pub mod Ranks
+pub mod Table
+pub mod Within
+pub mod Alike
+pub mod Products
+pub mod WeightForms
+pub mod Same
+pub mod Passes
+pub mod Counted
+pub mod Whole
+pub mod Meant
+pub mod Openable

@@ -1,0 +1,6 @@
+pub mod Chains
+pub mod Counts
+pub mod Applied
+pub mod Ranked
+pub mod Weights
+pub mod Bodies
