@@ -8,7 +8,7 @@ import operator
 import random
 import re
 
-from language import walk
+from language import FUNCTIONS, walk
 
 OPERATORS = {
     "<==>": operator.eq, "==": operator.eq, "!=": operator.ne, "<": operator.lt, "<=": operator.le, ">": operator.gt,
@@ -19,12 +19,17 @@ VALUES = {"bool": r"true|false", "int": r"0|-?[1-9][0-9]*"}
 
 
 def evaluate(now, entry, says):
-    """The value of an expression; `now` and `entry` have the value of each name, and `entry` is what `old` sees."""
+    """The value of an expression; `now` and `entry` have the value of each name and the functions, and `entry` is what `old` sees."""
     kind = says[0]
     if kind in ("num", "bool"):
         return says[1]
     if kind == "name":
         return now[says[1]]
+    if kind == "apply":
+        own = now[FUNCTIONS][says[1]]
+        given = {it.name: evaluate(now, entry, part) for it, part in zip(own.params, says[2])}
+        inside = {**now, **given}
+        return evaluate(inside, inside, own.body)
     if kind == "old":
         return evaluate(entry, entry, says[1])
     if kind == "not":
@@ -99,19 +104,21 @@ class RandomChoices:
 
 
 class Run:
-    """A run of an implementation. `outer` and `inner` have the values of the globals and of the implementation's own names."""
+    """A run of an implementation. `fixed` has the values of the constants and the functions, `outer` and `inner` those of the globals
+    and of the implementation's own names."""
 
     def __init__(self, program, implementation, choices, steps=None, candidates=()):
         """An induction run, or a source run of at most so many steps, under a set of candidates: clauses of others are absent."""
         self.program, self.implementation, self.choices, self.steps = program, implementation, choices, steps
         self.candidates = candidates
+        self.fixed = {FUNCTIONS: program.functions}
         self.procedure = program.procedures[implementation.procedure]
         self.is_induction = steps is None
         self.outer, self.inner, self.entry = {}, {}, {}
 
-    def run(self, outer, inner):
+    def run(self, constants, outer, inner):
         """The end of the run from these values."""
-        self.outer, self.inner, self.entry = dict(outer), dict(inner), dict(outer)
+        self.begin(constants, outer, inner)
         try:
             if not self.holds_all(it for it in self.procedure.clauses if it.kind == "requires"):
                 return End("blocked")
@@ -122,18 +129,22 @@ class Run:
         except End as end:
             return end
 
+    def begin(self, constants, outer, inner):
+        self.fixed = {**constants, FUNCTIONS: self.program.functions}
+        self.outer, self.inner, self.entry = dict(outer), dict(inner), dict(outer)
+
     def now(self):
-        return {**self.outer, **self.inner}
+        return {**self.fixed, **self.outer, **self.inner}
 
     def before(self):
-        return {**self.entry, **self.inner}
+        return {**self.fixed, **self.entry, **self.inner}
 
     def own(self):
         """The procedure's names, which stand for the implementation's by position: their values now and as `old` sees them."""
         theirs = self.procedure.params + self.procedure.results
         mine = self.implementation.params + self.implementation.results
         names = {it.name: self.inner[other.name] for it, other in zip(theirs, mine)}
-        return {**self.outer, **names}, {**self.entry, **names}
+        return {**self.fixed, **self.outer, **names}, {**self.fixed, **self.entry, **names}
 
     def value(self, says):
         return evaluate(self.now(), self.before(), says)
@@ -270,7 +281,7 @@ class Run:
         callee = self.program.procedures[it.callee]
         given = {v.name: self.value(says) for v, says in zip(callee.params, it.values)}
         for clause in callee.checked("requires"):
-            scope = {**self.outer, **given}
+            scope = {**self.fixed, **self.outer, **given}
             self.check(clause, f"precondition {spot(it)} of {spot(clause)}", (scope, scope))
         before, results = dict(self.outer), {}
 
@@ -281,12 +292,18 @@ class Run:
             results.update((v.name, self.choices.value(v.type)) for v in callee.results)
 
         def holds():
-            now, entry = {**self.outer, **given, **results}, {**before, **given, **results}
+            now, entry = {**self.fixed, **self.outer, **given, **results}, {**self.fixed, **before, **given, **results}
             return all(evaluate(now, entry, it.says) for it in callee.clauses if it.kind == "ensures" and self.is_there(it))
 
         self.settle(choose, holds)
         for name, v in zip(it.names, callee.results):
             self.store(name, results[v.name])
+
+
+def meets(program, constants):
+    """Whether all axioms are true where the constants have these values."""
+    scope = {**constants, FUNCTIONS: program.functions}
+    return all(evaluate(scope, scope, says) for says in program.axioms)
 
 
 def spot(it):

@@ -22,8 +22,8 @@ def wanted(text):
     """Returns the output, the error line and the status that a stored text stands for."""
     if text.startswith(b"error: "):
         return b"", text, 3
-    said = re.findall(rb"^implementation \S+ \S+ (\w+)$", text, re.M)
-    return text, b"", 1 if b"refuted" in said else 2 if b"unknown" in said else 0
+    said = re.findall(rb"^(?:implementation \S+ \S+|axioms:) (\w+)", text, re.M)
+    return text, b"", 1 if {b"refuted", b"contradictory"} & set(said) else 2 if b"unknown" in said else 0
 
 
 def words_of(source):

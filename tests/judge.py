@@ -6,8 +6,9 @@ usage: judge.py FILE.bpl REPORT [--runs N] [--seed K] [--nodes N] [--rows N]
 The report has the form that docs/FORMATS.md gives, with the places that the program has. Each counterexample is replayed: the run
 fails at the place that it is printed for, and takes each printed choice. What is kept of an unknown place is its budget, or an
 operation that leaves 128 bits. Of each implementation N runs (100) are made at random, half with loops that turn and half with
-loops that are cut, from entry values that its preconditions take; none may fail at a place that the report doesn't list. All runs are
-made under the retained candidates. The status is 0 where nothing is wrong, and 1 where something is, which is printed.
+loops that are cut, from values of the constants that the axioms take and entry values that its preconditions take; none may fail at a
+place that the report doesn't list. All runs are made under the retained candidates. Where the axioms are called contradictory, no values
+of the constants that were tried may meet them. The status is 0 where nothing is wrong, and 1 where something is, which is printed.
 """
 import argparse
 import random
@@ -15,10 +16,11 @@ import re
 import sys
 from dataclasses import dataclass, field
 
-from evaluator import ListedChoices, RandomChoices, Run, places, text_of, value_of
+from evaluator import ListedChoices, RandomChoices, Run, meets, places, text_of, value_of
 from language import TextFault, read_program
 
 FATES = r"retained|retained unchecked|dropped|dropped unknown (?:nodes|rows|range)"
+AXIOMS = ("consistent", "contradictory", "unknown nodes", "unknown rows", "unknown range")
 WORDS = ("verified", "refuted", "unknown")
 OPERATIONS = {"+": lambda a, b: a + b, "-": lambda a, b: a - b, "*": lambda a, b: a * b, "neg": lambda a, _: -a}
 NUMBER = r"(?:0|-?[1-9][0-9]*)"
@@ -49,8 +51,9 @@ class Said:
 
 @dataclass
 class Report:
-    """What a report says: of each candidate, of the retained set, and of each implementation."""
+    """What a report says: of the axioms, of each candidate, of the retained set, and of each implementation."""
 
+    axioms: str
     fates: dict
     is_greatest: bool
     said: list
@@ -60,8 +63,9 @@ class Report:
 
 
 def read_front(lines):
-    """Takes what a report says of candidates from its lines, and returns it with whether the retained set is called greatest."""
-    if lines[:1] != ["axioms: consistent"] or lines[-1] != "" or len(lines) < 4:
+    """Takes what a report says of axioms and candidates from its lines, and returns it with whether the retained set is called greatest."""
+    axioms = lines[0].removeprefix("axioms: ")
+    if f"axioms: {axioms}" != lines[0] or axioms not in AXIOMS or lines[-1] != "" or len(lines) < 4:
         raise Wrong("the report has not the form of one")
     fates, at = {}, 1
     while found := re.fullmatch(rf"candidate (\S+) ({FATES})", lines[at]):
@@ -71,13 +75,13 @@ def read_front(lines):
     if not found:
         raise Wrong(f"a line that no report has: {lines[at]}")
     del lines[: at + 1]
-    return fates, found[1] == "greatest"
+    return axioms, fates, found[1] == "greatest"
 
 
 def read_report(text):
     """Returns what a report says; its lines are those of the form, and its counts are right."""
     lines = text.split("\n")
-    fates, is_greatest = read_front(lines)
+    axioms, fates, is_greatest = read_front(lines)
     said = []
     for line in lines[:-2]:
         found = re.fullmatch(r"implementation (\S+ \d+:\d+) (verified|refuted|unknown)", line)
@@ -90,7 +94,7 @@ def read_report(text):
             said[-1].places[-1].lines.append(line[4:])
         else:
             raise Wrong(f"a line that no report has: {line}")
-    report = Report(fates, is_greatest, said)
+    report = Report(axioms, fates, is_greatest, said)
     counts = f"{len(report.retained())} retained, {len(fates) - len(report.retained())} dropped; "
     counts += ", ".join(f"{sum(it.word == word for it in said)} {word}" for word in WORDS)
     if lines[-2] != f"summary: {counts}":
@@ -136,13 +140,13 @@ def check_kept(place, budgets):
         raise Wrong(f"{place.name}: no operation that leaves 128 bits: {place.lines}")
 
 
-def entry_values(variables, lines):
-    """The values that the first lines give to variables, by name."""
+def entry_values(variables, lines, kind="var"):
+    """The values that the first lines give to variables or constants, by name."""
     values = {}
     if len(lines) < len(variables):
         raise Wrong(f"{len(variables)} variables, and {len(lines)} lines")
     for it, line in zip(variables, lines):
-        head, text = f"var {it.name} = ", line.partition(" = ")[2]
+        head, text = f"{kind} {it.name} = ", line.partition(" = ")[2]
         value = value_of(text, it.type)
         if not line.startswith(head) or value is None:
             raise Wrong(f"{head}with a value of type {it.type} is wanted in place of: {line}")
@@ -151,10 +155,13 @@ def entry_values(variables, lines):
 
 
 def check_counterexample(program, own, place, retained):
-    """The printed run fails at its place, and takes each printed choice."""
-    outer, inner = program.globals, own.inner()
-    state = entry_values(outer, place.lines), entry_values(inner, place.lines[len(outer) :])
-    lines = place.lines[len(outer) + len(inner) :]
+    """The printed constants meet the axioms, and the printed run fails at its place and takes each printed choice."""
+    constants = entry_values(program.constants, place.lines, "const")
+    if not meets(program, constants):
+        raise Wrong(f"the axioms are not met by {constants}")
+    outer, inner, lines = program.globals, own.inner(), place.lines[len(program.constants) :]
+    state = constants, entry_values(outer, lines), entry_values(inner, lines[len(outer) :])
+    lines = lines[len(outer) + len(inner) :]
     if not all(line.startswith("choice ") for line in lines):
         raise Wrong(f"choices are wanted behind the variables: {lines}")
     choices = ListedChoices([line[len("choice ") :] for line in lines])
@@ -172,17 +179,29 @@ def pool_of(text):
     return [*range(-3, 6)] * (1 + len(near) // 12) + sorted(near)
 
 
-def start(program, own, choices, retained):
-    """Entry values at random, if they are found, of those that the preconditions take."""
-    run = Run(program, own, choices, candidates=retained)
+def interpretation(program, choices):
+    """Values of the constants at random that meet the axioms, or None where none were found."""
+    for _ in range(60):
+        constants = {it.name: choices.value(it.type) for it in program.constants}
+        if meets(program, constants):
+            return constants
+    return None
+
+
+def start(program, own, choices, asked):
+    """Values at random: of the constants, and entry values, if they are found, of those that the preconditions take."""
+    constants = interpretation(program, choices)
+    if constants is None:
+        return None
+    run = Run(program, own, choices, candidates=asked.retained)
     wanted = [it for it in run.procedure.clauses if it.kind == "requires"]
     for _ in range(30):
         outer = {it.name: choices.value(it.type) for it in program.globals}
         inner = {it.name: choices.value(it.type) for it in own.inner()}
-        run.outer, run.inner, run.entry = outer, inner, outer
+        run.begin(constants, outer, inner)
         if run.holds_all(wanted):
             break
-    return outer, inner
+    return constants, outer, inner
 
 
 def attack(program, own, said, asked):
@@ -190,10 +209,12 @@ def attack(program, own, said, asked):
     open_places = {it.name for it in said.places}
     for number in range(asked.runs):
         choices = RandomChoices(f"{asked.seed} {said.title} {number}", asked.pool)
-        outer, inner = start(program, own, choices, asked.retained)
-        end = Run(program, own, choices, None if number % 2 else STEPS, asked.retained).run(outer, inner)
+        values = start(program, own, choices, asked)
+        if values is None:
+            continue
+        end = Run(program, own, choices, None if number % 2 else STEPS, asked.retained).run(*values)
         if end.word == "failed" and end.place not in open_places:
-            values = ", ".join(f"{name} = {text_of(value)}" for name, value in {**outer, **inner}.items())
+            values = ", ".join(f"{name} = {text_of(value)}" for group in values for name, value in group.items())
             kind = "with loops cut" if number % 2 else "with loops that turn"
             raise Wrong(f"{end.place} is called proved, and a run {kind} fails there from {values or 'the only state'}")
 
@@ -206,6 +227,16 @@ class Asked:
     seed: int
     pool: list
     retained: set
+
+
+def check_axioms(program, report, asked):
+    """Where the axioms are called contradictory, no values at random meet them; and without axioms they are consistent."""
+    if not program.axioms and report.axioms != "consistent":
+        raise Wrong(f"there are no axioms, and they are {report.axioms}")
+    for number in range(asked.runs if report.axioms == "contradictory" else 0):
+        constants = interpretation(program, RandomChoices(f"{asked.seed} axioms {number}", asked.pool))
+        if constants is not None:
+            raise Wrong(f"the axioms are called contradictory, and are met by {constants}")
 
 
 def faults_in(text, report, runs=100, seed=1, nodes=20_000, rows=20_000):
@@ -225,6 +256,7 @@ def faults_in(text, report, runs=100, seed=1, nodes=20_000, rows=20_000):
         except Wrong as wrong:
             faults.append(f"{where}: {wrong}")
 
+    ask("axioms", check_axioms, program, report, asked)
     for it, own in zip(report.said, program.implementations):
         for place in it.places:
             where = f"{it.title}, {place.name}"

@@ -145,7 +145,33 @@ retained set: greatest
 implementation Count 6:1 verified
 summary: 3 retained, 1 dropped; 1 verified, 0 refuted, 0 unknown
 """
-RIGHT = [("loop", STEP, STEP_REPORT), ("jumps", PICK, PICK_REPORT), ("range", FAR, FAR_REPORT), ("budget", FAR, BUDGET_REPORT), ("candidates", KEPT, KEPT_REPORT)]
+FIXED = """const c: int;
+const on: bool;
+function twice(x: int): int { x + x }
+function far(x: int, y: int) returns (r: bool) { twice(x - y) > 2 || twice(y - x) > 2 }
+axiom c > 2;
+axiom on ==> far(c, 0);
+var g: int;
+procedure P(x: int)
+  requires on;
+  modifies g;
+{
+  g := twice(x);
+  assert far(x, 1) || g < 2 * c - 1 || x == 4;
+  assert g != 6 || x + c > 6;
+}
+"""
+FIXED_REPORT = """axioms: consistent
+retained set: greatest
+implementation P 8:1 refuted
+  refuted assert 14:3
+    const c = 3
+    const on = true
+    var g = 0
+    var x = 3
+summary: 0 retained, 0 dropped; 0 verified, 1 refuted, 0 unknown
+"""
+RIGHT = [("loop", STEP, STEP_REPORT), ("jumps", PICK, PICK_REPORT), ("range", FAR, FAR_REPORT), ("budget", FAR, BUDGET_REPORT), ("candidates", KEPT, KEPT_REPORT), ("constants", FIXED, FIXED_REPORT)]
 # What is doctored, the program, its right report, a text of it and what stands in its place, and a phrase of the answer.
 DOCTORED = [
     ("a counterexample's value", STEP, STEP_REPORT, "var n = 1", "var n = 2", "the run ended"),
@@ -163,7 +189,14 @@ DOCTORED = [
     ("a number with a needless zero", STEP, STEP_REPORT, "var r = 0", "var r = 00", "a value of type int is wanted"),
     ("an implementation's word", STEP, STEP_REPORT.replace("0 verified, 1", "1 verified, 0"), "1:1 refuted", "1:1 verified", "not the word"),
     ("the summary", STEP, STEP_REPORT, "0 verified, 1", "1 verified, 0", "the counts are"),
-    ("the front", STEP, STEP_REPORT, "consistent", "contradictory", "has not the form"),
+    ("the front", STEP, STEP_REPORT, "consistent", "inconsistent", "has not the form"),
+    ("axioms that aren't there", STEP, STEP_REPORT, "consistent", "contradictory", "there are no axioms"),
+    ("axioms that are met", FIXED, FIXED_REPORT, "consistent", "contradictory", "are met by"),
+    ("a constant that axioms deny", FIXED, FIXED_REPORT, "const c = 3", "const c = 2", "the axioms are not met"),
+    ("a constant's value", FIXED, FIXED_REPORT, "const c = 3", "const c = 4", "the run ended"),
+    ("a constant that is missing", FIXED, FIXED_REPORT, "    const on = true\n", "", "const on = "),
+    ("a constant as a variable", FIXED, FIXED_REPORT, "const c = 3", "var c = 3", "const c = "),
+    ("constants in another order", FIXED, FIXED_REPORT, "const c = 3\n    const on = true", "const on = true\n    const c = 3", "const c = "),
     ("a line", STEP, STEP_REPORT, "  refuted inv", "  rejected inv", "a line that no report has"),
     ("an implementation that is missing", STEP, STEP_REPORT, "Step 1:1", "Step 2:1", "the implementations are"),
     ("places in another order", PICK, PICK_REPORT, "  refuted assert 21:5\n", f"{POST}  refuted assert 21:5\n", "its places are"),
@@ -201,6 +234,9 @@ UNSOUND = [
     ("a break", "procedure P(c: bool)\n{\n  var x: int;\n  x := 0;\n  out: if (*) {\n    x := 1;\n    if (c) {\n      break out;\n    }\n"
      "    x := 0;\n  }\n  assert x == 0;\n}\n", "assert 12:3"),
     ("a jump", "procedure P()\n{\n  var x: bool;\n  goto a, b;\n  a:\n  x := true;\n  b:\n  assert x;\n}\n", "assert 8:3"),
+    ("a constant's value", "const c: int;\naxiom c > 1;\nprocedure P(x: int) {\n  assert x <= c;\n}\n", "assert 4:3"),
+    ("a function's body", "function f(x: int, y: int): int { x - y }\nprocedure P(x: int) {\n  assert f(x, 1) == f(1, x);\n}\n", "assert 3:3"),
+    ("old in an argument", "var g: int;\nfunction f(x: int): int { x + 1 }\nprocedure P()\n  modifies g;\n{\n  g := f(g);\n  assert f(old(g)) == f(g);\n}\n", "assert 7:3"),
     ("a return", "procedure P(c: bool) returns (r: int)\n  ensures r == 1;\n{\n  r := 0;\n  if (c) {\n    return;\n  }\n  r := 1;\n}\n", "postcondition 2:3"),
 ]  # fmt: skip
 

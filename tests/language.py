@@ -3,8 +3,8 @@
 It is written from the rules of the language in docs/TEXT.md, and knows nothing of the program that it judges. A text that
 breaks one of them is refused (`TextFault`) at a place near the fault.
 
-Types are "int" and "bool". Expressions are tuples: ("num", n), ("bool", b), ("name", x), ("old", e), ("not", e), ("neg", e)
-and ("bin", sign, left, right).
+Types are "int" and "bool". Expressions are tuples: ("num", n), ("bool", b), ("name", x), ("old", e), ("not", e), ("neg", e),
+("bin", sign, left, right) and ("apply", f, arguments).
 """
 import re
 from dataclasses import dataclass, field
@@ -20,6 +20,7 @@ TOKEN = re.compile(
 )
 SYNONYMS = {"&&", "||", "==>", "<==", "<==>"}
 ORDERS = {"<", "<=", ">", ">="}
+FUNCTIONS = "()"  # where functions stand beside variables; no name is this
 
 
 class TextFault(Exception):
@@ -66,6 +67,15 @@ def tokens_of(text):
 class Variable:
     name: str
     type: str
+
+
+@dataclass
+class Function:
+    """A function with a body: its arguments, the type of its result, and the body."""
+
+    params: list
+    result: str
+    body: tuple
 
 
 @dataclass
@@ -128,6 +138,9 @@ class Statement:
 @dataclass
 class Program:
     candidates: list = field(default_factory=list)
+    constants: list = field(default_factory=list)
+    functions: dict = field(default_factory=dict)
+    axioms: list = field(default_factory=list)
     globals: list = field(default_factory=list)
     procedures: dict = field(default_factory=dict)
     implementations: list = field(default_factory=list)
@@ -179,7 +192,10 @@ class Reader:
         return found
 
     def whole(self):
-        rules = {"const": self.constants, "var": self.globals, "procedure": self.procedure, "implementation": self.implementation}
+        rules = {
+            "const": self.constants, "function": self.function, "axiom": self.axiom, "var": self.globals,
+            "procedure": self.procedure, "implementation": self.implementation,
+        }  # fmt: skip
         while self.now().kind != "end":
             token = self.take(kind="word")
             if token.text not in rules:
@@ -189,12 +205,43 @@ class Reader:
             rules[token.text](token.pos)
         return self.program
 
-    def constants(self, pos):
-        if [":", "existential", "true"] not in self.attributes():
-            raise TextFault(f"{pos}: a constant that is no candidate is not judged")
-        self.program.candidates += self.commas(self.name)
+    def constants(self, _):
+        is_candidate = [":", "existential", "true"] in self.attributes()
+        names = self.commas(self.name)
         self.take(":")
-        self.take("bool")
+        kind = self.type()
+        self.take(";")
+        if is_candidate:
+            self.program.candidates += names
+        else:
+            self.program.constants += [Variable(name, kind) for name in names]
+
+    def function(self, pos):
+        name = self.name()
+        self.take("(")
+        params = self.commas(self.argument, ")")
+        self.take(")")
+        if self.accept("returns"):
+            self.take("(")
+            result = self.argument().type
+            self.take(")")
+        else:
+            self.take(":")
+            result = self.type()
+        if not self.accept("{"):
+            raise TextFault(f"{pos}: a function without a body is not judged")
+        self.program.functions[name] = Function(params, result, self.expression())
+        self.take("}")
+
+    def argument(self):
+        name = None
+        if self.now(1).text == ":":
+            name = self.name()
+            self.take(":")
+        return Variable(name, self.type())
+
+    def axiom(self, _):
+        self.program.axioms.append(self.expression())
         self.take(";")
 
     def globals(self, _):
@@ -408,6 +455,10 @@ class Reader:
         token = self.take()
         if token.kind == "num":
             return ("num", int(token.text))
+        if token.kind == "name" and self.accept("("):
+            given = self.commas(self.expression, ")")
+            self.take(")")
+            return ("apply", token.text, given)
         if token.kind == "name":
             return ("name", token.text)
         if token.kind == "word" and token.text in ("true", "false"):
@@ -450,6 +501,12 @@ def type_of(types, says):
         if says[1] not in types:
             raise TextFault(f"no variable {says[1]}")
         return types[says[1]]
+    if kind == "apply":
+        if says[1] not in types[FUNCTIONS]:
+            raise TextFault(f"no function {says[1]}")
+        own = types[FUNCTIONS][says[1]]
+        check_list(types, says[2], [v.type for v in own.params])
+        return own.result
     if kind == "old":
         return type_of(types, says[1])
     if kind in ("not", "neg"):
@@ -470,19 +527,24 @@ def wanted(types, says, kind):
     return kind
 
 
-def names_and_types(*groups):
-    """Types by name; the later group hides the earlier one."""
-    return {it.name: it.type for group in groups for it in group}
+def names_and_types(program, *groups):
+    """Types by name, constants' among them; the later group hides the earlier one."""
+    types = {it.name: it.type for group in (program.constants, *groups) for it in group}
+    return {**types, FUNCTIONS: program.functions}
 
 
 def check_types(program):
     """Refuses a program that names what isn't there, or of which a part has no type or another than is wanted."""
+    for it in program.functions.values():
+        wanted(names_and_types(program, it.params), it.body, it.result)
+    for says in program.axioms:
+        wanted(names_and_types(program), says, "bool")
     for it in program.procedures.values():
         for clause in it.clauses:
             seen = it.params + (it.results if clause.kind == "ensures" else [])
-            wanted(names_and_types(program.globals, seen), clause.says, "bool")
+            wanted(names_and_types(program, program.globals, seen), clause.says, "bool")
     for it in program.implementations:
-        types, own = names_and_types(program.globals, it.inner()), program.procedures.get(it.procedure)
+        types, own = names_and_types(program, program.globals, it.inner()), program.procedures.get(it.procedure)
         if own is None or [v.type for v in own.params + own.results] != [v.type for v in it.params + it.results]:
             raise TextFault(f"no procedure for the implementation {it.title()}")
         for statement in walk(it.body):

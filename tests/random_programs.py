@@ -1,9 +1,11 @@
 #!/usr/bin/env python3
 """Makes random programs over truth values and whole numbers with the whole statement language, and judges their reports (judge.py).
 
-usage: random_programs.py --bg COMMAND [--count N] [--seed K] [--runs N] [--truths] [--candidates] [--workers N..] [--budget N] [--jobs N] [--keep FOLDER]
+usage: random_programs.py --bg COMMAND [--count N] [--seed K] [--runs N] [--truths] [--constants] [--candidates] [--workers N..] [--budget N] [--jobs N]
+                          [--keep FOLDER]
 
-Of each implementation N runs are tried. With --truths there are no whole numbers. With --candidates most programs declare some; what
+Of each implementation N runs are tried. With --truths there are no whole numbers. With --constants most programs have constants, functions
+with a body and axioms. With --candidates most programs declare some; what
 `annotate` writes of them, with guesses and without, has the same words for its implementations, and is annotated as it is. With --workers
 each program is judged once with each of these numbers of workers: where no report has an unknown, their verdict lines are the same. With
 --budget the program gets as many inner nodes and rows. With --keep programs and reports are written to a folder, and left there. The last
@@ -58,7 +60,7 @@ class Body:
     def __init__(self, rng, program, procedure, params, results):
         self.rng, self.program, self.procedure = rng, program, procedure
         self.locals = some_names(rng, "x", 4, program.numbers)
-        self.reads = program.names + params + results + self.locals
+        self.reads = program.constants + program.names + params + results + self.locals
         self.writes = procedure.modifies + results + self.locals
         self.labels = 0
 
@@ -170,11 +172,30 @@ class Body:
         return ["{"] + declared + self.statements("  ", 3, [], []) + ["}"]
 
 
-class Program:
-    """A program: candidates, at most as many as asked, globals, procedures and implementations."""
+class Function:
+    """A function's name, which has the type of its result, its arguments, and a body over them, constants and earlier functions."""
 
-    def __init__(self, rng, numbers, candidates=0):
-        self.numbers = numbers
+    def __init__(self, rng, program, number):
+        self.name = f"f{number}{'n' if program.numbers and rng.random() < 0.6 else ''}"
+        self.params = some_names(rng, "a", 4, program.numbers)
+        reads = program.constants + self.params
+        self.body = program.number(rng, reads, 2) if is_number(self.name) else program.formula(rng, reads, 2)
+
+    def line(self):
+        params = ", ".join(f"{name}: {type_of(name)}" for name in self.params)
+        return f"function {self.name}({params}): {type_of(self.name)} {{ {self.body} }}"
+
+
+class Program:
+    """A program: candidates, at most as many as asked, constants, functions and axioms where asked, globals, procedures and implementations."""
+
+    def __init__(self, rng, numbers, candidates=0, constants=False):
+        self.numbers, self.constants, self.functions, self.axioms = numbers, [], [], []
+        if constants:
+            self.constants = some_names(rng, "k", 4, numbers)
+            for k in range(rng.randrange(4)):
+                self.functions.append(Function(rng, self, k))
+            self.axioms = [self.formula(rng, self.constants, 2) for _ in range(rng.randrange(3)) if self.constants or rng.random() < 0.2]
         self.candidates = [f"c{k}" for k in range(rng.randint(0, candidates))] if candidates else []
         self.names = some_names(rng, "g", 4, numbers)
         self.procedures = [Procedure(rng, k, self.names, numbers) for k in range(rng.randint(1, 4))]
@@ -190,6 +211,9 @@ class Program:
 
     def formula(self, rng, names, depth, old=False):
         kind = rng.random()
+        applied = self.application(rng, names, depth, old, False)
+        if applied:
+            return applied
         if self.numbers and rng.random() < 0.4:
             sides = [self.number(rng, names, min(depth, 1), old) for _ in range(2)]
             return f" {rng.choice(RELATIONS)} ".join(sides)
@@ -209,6 +233,9 @@ class Program:
     def number(self, rng, names, depth, old=False):
         """A linear expression."""
         kind = rng.random()
+        applied = self.application(rng, names, depth, old, True)
+        if applied:
+            return applied
         numbers = [name for name in names if is_number(name)]
         if not depth or kind < 0.4:
             if not numbers or rng.random() < 0.35:
@@ -223,15 +250,25 @@ class Program:
             return f"{rng.choice([2, 3, 5])} * {part()}"
         return f"{part()} {rng.choice('+-')} {part()}"
 
+    def application(self, rng, names, depth, old, numbers):
+        """A function of this type applied to arguments, now and then, where there is one."""
+        fits = [f for f in self.functions if is_number(f.name) == numbers]
+        if not fits or not depth or rng.random() < 0.7:
+            return None
+        f = rng.choice(fits)
+        given = [self.number(rng, names, depth - 1, old) if is_number(a) else self.formula(rng, names, depth - 1, old) for a in f.params]
+        return f"{f.name}({', '.join(given)})"
+
     def bracketed(self, text):
-        return text if re.fullmatch(r"[\w!]+|old\(\w+\)", text) else f"({text})"
+        return text if re.fullmatch(r"[\w!]+|(old|f\dn?)\(\w*\)", text) else f"({text})"
 
     def operand(self, rng, names, depth, old):
         return self.bracketed(self.formula(rng, names, depth, old))
 
     def specification(self, rng, q):
         lines = [f"  modifies {', '.join(q.modifies)};"] if q.modifies else []
-        for word, names in (("requires", self.names + q.params), ("ensures", self.names + q.params + q.results)):
+        outer = self.constants + self.names
+        for word, names in (("requires", outer + q.params), ("ensures", outer + q.params + q.results)):
             for _ in range(rng.randrange(3)):
                 says = self.formula(rng, names, 2, old=word == "ensures")
                 lines.append(f"  free {word} {says};" if rng.random() < 0.2 else f"  {word} {self.guarded(rng, says)};")
@@ -244,6 +281,9 @@ class Program:
 
     def lines(self, rng):
         lines = [f"const {{:existential true}} {name}: bool;" for name in self.candidates]
+        lines += [f"const {name}: {type_of(name)};" for name in self.constants]
+        lines += [f.line() for f in self.functions]
+        lines += [f"axiom {says};" for says in self.axioms]
         lines += [f"var {name}: {type_of(name)};" for name in self.names]
         for q in self.procedures:
             if rng.random() < 0.6:
@@ -277,7 +317,8 @@ def reported(args, folder, number, text, workers):
     with open(os.path.join(folder, f"{number}.report"), "w", encoding="latin-1") as file:
         file.write(report)
     said = re.findall(r"^implementation \S+ \S+ (\w+)$", report, re.M)
-    want = 1 if "refuted" in said else 2 if "unknown" in said else 0
+    said += re.findall(r"^axioms: (\w+)", report)
+    want = 1 if {"refuted", "contradictory"} & set(said) else 2 if "unknown" in said else 0
     if ran.returncode != want or ran.stderr:
         return report, [f"status {ran.returncode} for {want}: {ran.stderr.decode('latin-1').strip()}"]
     budgets = {"nodes": args.budget, "rows": args.budget} if args.budget else {}
@@ -313,7 +354,7 @@ def annotation_faults(args, folder, number, options):
 def judged(args, folder, number):
     """What is wrong with the reports of one program, a list of lines, and the words that they say of candidates and implementations."""
     rng = random.Random(args.seed * 1_000_003 + number)
-    text = Program(rng, not args.truths, 8 if args.candidates else 0).text
+    text = Program(rng, not args.truths, 8 if args.candidates else 0, args.constants).text
     reports, faults = [], []
     for workers in args.workers or [None]:
         report, wrong = reported(args, folder, number, text, workers)
@@ -324,7 +365,7 @@ def judged(args, folder, number):
         faults.append(f"the verdict lines of {args.workers} workers differ")
     if args.candidates:
         faults += annotation_faults(args, folder, number, []) + annotation_faults(args, folder, number, ["--guess"])
-    return faults, re.findall(r"^(?:candidate|implementation) \S+ (?:\d+:\d+ )?(\w+)", "\n".join(reports), re.M)
+    return faults, re.findall(r"^(?:axioms:|(?:candidate|implementation) \S+(?: \d+:\d+)?) (\w+)", "\n".join(reports), re.M)
 
 
 def main():
@@ -334,6 +375,7 @@ def main():
     parser.add_argument("--seed", type=int, default=1)
     parser.add_argument("--runs", type=int, default=100)
     parser.add_argument("--truths", action="store_true")
+    parser.add_argument("--constants", action="store_true")
     parser.add_argument("--candidates", action="store_true")
     parser.add_argument("--workers", type=int, nargs="+")
     parser.add_argument("--budget", type=int)
@@ -353,7 +395,7 @@ def main():
                 failed += bool(wrong)
                 for line in wrong:
                     print(f"{number}: {line}", flush=True)
-    told = ("retained", "dropped") * args.candidates + ("verified", "refuted", "unknown")
+    told = ("retained", "dropped") * args.candidates + ("verified", "refuted", "unknown") + ("consistent", "contradictory") * args.constants
     print(", ".join(f"{words[word]} {word}" for word in told))
     print(f"{args.count - failed} passed, {failed} failed")
     return 1 if failed or not args.count else 0
