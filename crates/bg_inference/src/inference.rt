@@ -1,0 +1,91 @@
+//! Inference of a program's candidates.
+ghost use Rattle.std.specs.Prelude.{◌≡◌, ◌<◌, ◌≤◌, ◌∷◌, [], ℕ, Bool, Some, IfOk};
+ghost use Rattle.bg_ast.specs.Meaning.{meaning_of};
+ghost use Rattle.bg_ast.specs.Views.{program_of};
+ghost use Rattle.bg_check.specs.Verdicts.{IsRight, judged};
+ghost use Rattle.bg_check.specs.declared.verdict.Judged as code;
+ghost use Rattle.bg_opened.specs.Axioms.{axiom_program, axiom_place};
+ghost use Rattle.bg_opened.specs.Openable.{IsOpenable};
+ghost use Rattle.bg_expanded.specs.Chains.{most_bodies};
+ghost use Rattle.bg_inference.specs.Outcomes.{IsTrueOutcome};
+
+use crate::outcome::Outcome;
+use bg_ast::resolved::Resolved;
+use bg_check::{Judged, Verdict};
+use bg_claims::Gate;
+use bg_opened::laws::{
+    axioms_have_a_program, opened_programs_are_over_scalars, written_programs_are_opened,
+};
+use bg_opening::laws::written_axiom_programs_are_those_of_the_meaning;
+use bg_opening::{axiom_program, open_program};
+use bg_places::laws::placed_are_places;
+use bg_tree::Budget;
+use std::alloc::{AllocError, Global};
+use std::thread::Threads;
+
+/// How deep bodies of functions are put in.
+const DEPTH: usize = 16;
+
+/// The one verdict.
+fn only(verdicts: Vec<Vec<Judged>>) -> Option<Judged>
+    ensures { (j : code.Judged) → judged verdicts.items ≡ (j ∷ []) ∷ [] → result ≡ Some j }
+{
+    let mut verdicts = verdicts;
+    let mut row = verdicts.pop()?;
+    row.pop()
+}
+
+/// What is known of the one place of the axioms' own program.
+fn judge_axioms<R: Threads + Sync, G: Gate>(
+    rt: &R,
+    alloc: Global,
+    program: &Resolved,
+    budget: Budget,
+    gate: &G,
+) -> Result<Verdict, AllocError>
+    requires openable { IsOpenable most_bodies (meaning_of (program_of program.now)) }
+    ensures { IfOk result (λ v. (set : ℕ → Bool) × IsRight budget (axiom_program most_bodies (meaning_of (program_of program.now))) set axiom_place v) }
+{
+    axioms_have_a_program();
+    opened_programs_are_over_scalars();
+    placed_are_places();
+    written_axiom_programs_are_those_of_the_meaning();
+    let axioms = axiom_program(alloc, DEPTH, program)?;
+    let outcome = bg_houdini::infer(rt, alloc, &axioms, budget, 1, gate)?;
+    match only(outcome.verdicts) {
+        Some(judged) => Ok(judged.verdict),
+        None => Err(AllocError),
+    }
+}
+
+/// The candidates of a program that hold together, inferred with `workers` workers in threads, and the verdicts on its ordinary places
+/// under them. Constants, functions with a body and axioms are opened first: a constant is a variable that nothing changes, a body stands
+/// in the place of each application, 16 deep, and the axioms are assumed in front of each body (K. R. M. Leino, This is Boogie 2, 2008).
+/// Beside that a program of the axioms alone is judged: whether some interpretation meets them.
+///
+/// Only want of memory is an error; what `bg_houdini::infer` counts as such counts here too.
+pub fn infer<R: Threads + Sync, G: Gate>(
+    rt: &R,
+    alloc: Global,
+    program: Resolved,
+    budget: Budget,
+    workers: u32,
+    gate: &G,
+) -> Result<Outcome, AllocError>
+    requires openable { IsOpenable most_bodies (meaning_of (program_of program)) }
+    requires workers { (0 < workers) × (workers ≤ 16) }
+    ensures { IfOk result (IsTrueOutcome budget (program_of program)) }
+{
+    opened_programs_are_over_scalars();
+    written_programs_are_opened();
+    let axioms = judge_axioms(rt, alloc, &program, budget, gate)?;
+    let globals = program.globals.len();
+    let opened = open_program(alloc, DEPTH, program)?;
+    let judged = bg_houdini::infer(rt, alloc, &opened, budget, workers, gate)?;
+    Ok(Outcome {
+        opened,
+        globals,
+        axioms,
+        judged,
+    })
+}
