@@ -1,5 +1,6 @@
 -- A certificate that is accepted isn't answered in another way.
 use Rattle.std.proofs.Common.{◌≡◌, ◌⊎◌, inl, inr, ℕ, Bool, true, false, List, Option, Some, None, refl, sym, ap, ◌∙◌, subst}
+use Rattle.std.specs.Prelude.{is_some}
 use Rattle.bg_base.specs.declared.exact.OutOfRange.{OutOfRange}
 use Rattle.bg_text.specs.Trees.{Id}
 use Rattle.bg_ast.specs.Syntax.{Prog}
@@ -34,6 +35,10 @@ both_ways : (b : Bool) → b ≡ true → b ≡ false → ⊥
 both_ways true h k = absurd cc
 both_ways false h k = absurd cc
 
+not_none : {A : Type 0} (o : Option A) → is_some o ≡ true → o ≡ None → ⊥
+not_none None h k = absurd cc
+not_none (Some x) h k = absurd (let b : ⊥ = cc in b)
+
 shown_and_bare : OneLaw → NoneLaw → (p : Prog) (set : ℕ → Bool) (names : List Id) (sections : List SectionOf) (i : ℕ) (t : Place) → IsShown p set names sections i t → IsBare p set names sections i t → ⊥
 shown_and_bare one none p set names sections i t s (inl e) =
     none_there (section_at t.implementation i sections) s.section e s.is_its
@@ -47,7 +52,7 @@ shown_and_bare one none p set names sections i t s (inr (inr o)) = none p t s.fo
 
 pub answered_so : OneLaw → NoneLaw → (p : r.Program) (c : CertOf) (a : AnswerOf) → IsAccepted p c → IsAnswer p c a → a ≡ Accepted
 answered_so one none p c Accepted h g = refl
-answered_so one none p c NoInterp h g = absurd (both_ways c.interp h.axioms g)
+answered_so one none p c NoInterp h g = absurd (not_none c.interp h.axioms g)
 answered_so one none p c (NotRetained name) h g = absurd (none_there _ name h.retained g.1)
 answered_so one none p c (NotShown a) h g =
     let bare = g.1.1.1 in

@@ -1,5 +1,5 @@
 -- When a program accepts a certificate.
-use Rattle.std.specs.Prelude.{◌≡◌, ◌⊎◌, ℕ, Bool, true, false, List, [], Option, Some, None, slice_get}
+use Rattle.std.specs.Prelude.{◌≡◌, ◌⊎◌, ℕ, Bool, true, false, List, [], Option, Some, None, is_some, slice_get}
 use Rattle.bg_base.specs.declared.exact.OutOfRange.{OutOfRange}
 use Rattle.bg_text.specs.Trees.{Id}
 use Rattle.bg_ast.specs.Syntax.{Prog}
@@ -76,7 +76,7 @@ extra p c = extra_behind (is_required p (retained_by p c)) None c.sections
 -- The axioms have an interpretation; the retained names are those of candidates, in order; each required place has a section that its
 -- clauses accept; and there is no section but these, in order
 pub record IsAccepted (p : r.Program) (c : CertOf) : Type 0 where
-  pub axioms : c.interp ≡ true
+  pub axioms : is_some c.interp ≡ true
   pub retained : unplaced p.candidates c.retained ≡ None
   pub shown : AreShown p c
   pub no_other : extra p c ≡ None

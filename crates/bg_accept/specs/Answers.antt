@@ -1,5 +1,5 @@
 -- What is answered of a certificate.
-use Rattle.std.specs.Prelude.{◌≡◌, ◌⊎◌, ℕ, ◌<◌, true, false, List, Some, None}
+use Rattle.std.specs.Prelude.{◌≡◌, ◌⊎◌, ℕ, ◌<◌, true, List, Some, None, is_some}
 use Rattle.bg_ast.specs.Resolved as r
 use Rattle.bg_ast.specs.Meaning.{meaning_of}
 use Rattle.bg_places.specs.Placed.{Placed}
@@ -24,9 +24,9 @@ pub record IsFirstBare (p : r.Program) (c : CertOf) (k i : ℕ) (a : Placed) : T
 -- the first of the rules that is broken, in the order in which they stand in `IsAccepted`
 abbrev pub IsAnswer : r.Program → CertOf → AnswerOf → Type 0
 IsAnswer p c Accepted = IsAccepted p c
-IsAnswer p c NoInterp = c.interp ≡ false
-IsAnswer p c (NotRetained name) = (c.interp ≡ true) × (unplaced p.candidates c.retained ≡ Some name)
+IsAnswer p c NoInterp = c.interp ≡ None
+IsAnswer p c (NotRetained name) = (is_some c.interp ≡ true) × (unplaced p.candidates c.retained ≡ Some name)
 IsAnswer p c (NotShown a) =
-    (c.interp ≡ true) × ((unplaced p.candidates c.retained ≡ None) × ((i : ℕ) × IsFirstBare p c a.place.implementation i a))
+    (is_some c.interp ≡ true) × ((unplaced p.candidates c.retained ≡ None) × ((i : ℕ) × IsFirstBare p c a.place.implementation i a))
 IsAnswer p c (NotRequired k i) =
-    (c.interp ≡ true) × ((unplaced p.candidates c.retained ≡ None) × (AreShown p c × ((s : SectionOf) × ((extra p c ≡ Some s) × ((s.implementation ≡ k) × (s.place ≡ i))))))
+    (is_some c.interp ≡ true) × ((unplaced p.candidates c.retained ≡ None) × (AreShown p c × ((s : SectionOf) × ((extra p c ≡ Some s) × ((s.implementation ≡ k) × (s.place ≡ i))))))

@@ -1,5 +1,5 @@
 //! Whether a program accepts a certificate.
-ghost use Rattle.std.specs.Prelude.{◌≡◌, true, None, IfOk};
+ghost use Rattle.std.specs.Prelude.{◌≡◌, true, None, is_some, IfOk};
 ghost use Rattle.bg_ast.specs.Meaning.{meaning_of};
 ghost use Rattle.bg_ast.specs.Views.{program_of};
 ghost use Rattle.bg_sense.specs.Typed.{IsTyped};
@@ -31,7 +31,7 @@ fn answer<'q, 'n, 'c>(
     requires typed { IsTyped (meaning_of (program_of program.now)) }
     requires scalars { is_over_scalars true (meaning_of (program_of program.now)) ≡ true }
     requires spellable { IsSpellable (cert_of cert.now) }
-    requires interp { (cert_of cert.now).interp ≡ true }
+    requires interp { is_some (cert_of cert.now).interp ≡ true }
     requires retained { unplaced (program_of program.now).candidates (cert_of cert.now).retained ≡ None }
     requires marked { set.now ≡ marks (program_of program.now).candidates (cert_of cert.now).retained }
     requires tables { AreTables (program_of program.now) (cert_of cert.now).sections tables.now }
@@ -62,7 +62,7 @@ fn check_sections<'c>(
     requires typed { IsTyped (meaning_of (program_of program.now)) }
     requires scalars { is_over_scalars true (meaning_of (program_of program.now)) ≡ true }
     requires spellable { IsSpellable (cert_of cert.now) }
-    requires interp { (cert_of cert.now).interp ≡ true }
+    requires interp { is_some (cert_of cert.now).interp ≡ true }
     requires retained { unplaced (program_of program.now).candidates (cert_of cert.now).retained ≡ None }
     requires marked { set.now ≡ marks (program_of program.now).candidates (cert_of cert.now).retained }
     ensures { IfOk result (λ a. IsAnswer (program_of program.now) (cert_of cert.now) (answer_of a)) }
@@ -85,7 +85,7 @@ pub fn check<'c>(
     requires spellable { IsSpellable (cert_of cert.now) }
     ensures { IfOk result (λ a. IsAnswer (program_of program.now) (cert_of cert.now) (answer_of a)) }
 {
-    if !cert.interp {
+    if cert.interp.is_none() {
         return Ok(Answer::NoInterp);
     }
     match retained_names(alloc, &program.candidates, &cert.retained)? {

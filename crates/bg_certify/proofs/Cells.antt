@@ -1,5 +1,5 @@
 -- The certificates that a true outcome has for places are right.
-use Rattle.std.proofs.Common.{◌≡◌, ℕ, zero, suc, ◌+◌, ◌<◌, Bool, true, false, List, [], ◌∷◌, ◌++◌, length, map, get_or, Option, Some, None, refl, sym, ap, ◌∙◌, subst, inl, inr, cond, arith}
+use Rattle.std.proofs.Common.{◌≡◌, ℕ, zero, suc, ◌+◌, Bool, true, false, List, [], ◌∷◌, ◌++◌, length, map, Option, Some, None, refl, sym, ap, ◌∙◌, subst, inl, inr, cond, arith}
 use Rattle.std.specs.Prelude.{◌⊎◌, is_some, is_none, slice_get, filter, Contains, drop, if◌then◌else◌}
 use Rattle.bg_ast.specs.Syntax.{Prog}
 use Rattle.bg_ast.specs.Resolved as r
@@ -15,9 +15,9 @@ use Rattle.bg_tree.specs.declared.outcome.Budget.{Budget}
 use Rattle.bg_check.specs.declared.verdict.Verdict.{Verdict}
 use Rattle.bg_check.specs.declared.verdict.Verdict.TheVariants.{Proved, Refuted, Unknown}
 use Rattle.bg_check.specs.declared.verdict.Judged.{Judged}
-use Rattle.bg_check.specs.Verdicts.{IsRight, placed_at, AreRightAt, AreRightOf, AreRightFrom, is_proved}
+use Rattle.bg_check.specs.Verdicts.{IsRight, placed_at, AreRightAt, AreRightFrom, is_proved}
 use Rattle.bg_houdini.specs.Tasks.{has_candidate, number_or}
-use Rattle.bg_certify.specs.Found.{cert_kept, cert_proved, cert_judged, cert_for, kept_behind, judged_behind, certs_for, kept_after, certs_from}
+use Rattle.bg_certify.specs.Found.{cert_kept, cert_proved, cert_for, kept_behind, judged_behind, certs_for, kept_after, certs_from}
 use Rattle.bg_certify.proofs.Order.{cert_at, certs_at}
 
 -- ---- what a place has

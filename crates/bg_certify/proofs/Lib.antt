@@ -4,5 +4,9 @@ pub mod Walks
 pub mod Order
 pub mod Cells
 pub mod Rightly
+pub mod Giving
+pub mod Whole
+pub mod Straight
+pub mod Meeting
 pub mod Verified
 pub mod Own

@@ -6,7 +6,7 @@ use Rattle.bg_text.specs.Trees.{Id}
 use Rattle.bg_cert.specs.declared.cert.Cert.{Cert}
 use Rattle.bg_certtext.specs.Views.{SectionOf}
 use Rattle.bg_accept.specs.Sections.{is_at, section_at, is_behind, extra_behind}
-use Rattle.bg_certify.specs.Spelled.{spelled, with_section, row, rows}
+use Rattle.bg_certify.specs.Spelled.{spelled, row, rows}
 
 -- ---- the certificate of a place
 

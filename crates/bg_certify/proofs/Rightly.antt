@@ -1,42 +1,38 @@
 -- What is written of a true outcome.
-use Rattle.std.proofs.Common.{◌≡◌, ℕ, zero, suc, ◌+◌, ◌<◌, Bool, true, false, List, [], ◌∷◌, ◌++◌, length, map, get_or, Option, Some, None, refl, sym, ap, ◌∙◌, subst, inl, inr, arith}
-use Rattle.std.specs.Prelude.{◌⊎◌, slice_get, filter, Contains}
-use Rattle.std.proofs.lemmas.List.{length-map, get_or_past}
+use Rattle.std.proofs.Common.{◌≡◌, ℕ, zero, suc, ◌+◌, ◌<◌, Bool, true, false, List, [], ◌∷◌, length, map, Option, Some, None, refl, sym, ap, ◌∙◌, subst, inl, inr, arith}
+use Rattle.std.specs.Prelude.{◌⊎◌, slice_get, filter}
+use Rattle.std.proofs.lemmas.List.{length-map}
 use Rattle.std.proofs.lemmas.Option.{slice_get_within}
-use Rattle.bg_ast.specs.Syntax.{Prog}
 use Rattle.bg_ast.specs.Resolved as r
 use Rattle.bg_ast.specs.Meaning.{meaning_of}
 use Rattle.bg_ast.specs.Execution.{Place}
-use Rattle.bg_sense.specs.Clauses.{is_kept}
 use Rattle.bg_sense.specs.Places.{places}
 use Rattle.bg_words.specs.Sets.{Numbers, has, IsSubset}
 use Rattle.bg_formula.specs.Formulas.{Formula}
 use Rattle.bg_cert.specs.declared.cert.Cert.{Cert}
-use Rattle.bg_cert.specs.Certs.{NodeOf, CertOf, Accepts, cert_of, is_accepted, uses}
+use Rattle.bg_cert.specs.Certs.{CertOf, Accepts, cert_of, uses}
 use Rattle.bg_cert.specs.Walks.{no_instance}
 use Rattle.bg_places.specs.Placed.{Placed, place_in, placed, placed_impl}
-use Rattle.bg_rounds.specs.declared.checker.Kept.{Kept}
 use Rattle.bg_task.specs.Certified.{HasCertificate}
 use Rattle.bg_task.proofs.Numbered.{OfNumber, number_impl}
 use Rattle.bg_tree.specs.declared.outcome.Budget.{Budget}
-use Rattle.bg_check.specs.declared.verdict.Judged.{Judged}
 use Rattle.bg_check.specs.Verdicts.{judged}
 use Rattle.bg_houdini.specs.declared.outcome.Outcome.{Outcome}
-use Rattle.bg_houdini.specs.Tasks.{has_candidate, tasks_of, candidate_at, candidate_of, number_or}
+use Rattle.bg_houdini.specs.Tasks.{has_candidate, tasks_of, candidate_at, candidate_of}
 use Rattle.bg_houdini.specs.Outcomes.{IsTrueOutcome}
 use Rattle.bg_meant.specs.Once.{AreOnce}
 use Rattle.bg_certtext.specs.Views as text
 use Rattle.bg_accept.specs.Names.{marks, unplaced}
-use Rattle.bg_accept.specs.Sections.{section_at, accepts_section, extra_behind}
-use Rattle.bg_accept.specs.Accepted.{retained_by, places_of, places_at, is_needed, is_required, IsShown, IsRequired, extra}
+use Rattle.bg_accept.specs.Sections.{section_at, extra_behind}
+use Rattle.bg_accept.specs.Accepted.{retained_by, places_of, places_at, is_needed, is_required, IsShown, IsRequired}
 use Rattle.bg_certify.specs.Names.{text_in, names_in}
 use Rattle.bg_certify.specs.Spelled.{spelled, rows}
 use Rattle.bg_certify.specs.Found.{cert_kept, certs_from}
-use Rattle.bg_certify.specs.Written.{IsUnproved, IsWritten}
+use Rattle.bg_certify.specs.Written.{IsUnproved, HasSections}
 use Rattle.bg_certify.proofs.Retained.{marks_are, all_placed}
 use Rattle.bg_certify.proofs.Spelling.{section_back}
 use Rattle.bg_certify.proofs.Order.{cert_at, certs_at, spelled_if, rows_at, rows_fine}
-use Rattle.bg_certify.proofs.Cells.{HasIt, HasNone, Cell, AreKept, TasksKept, kept_from, ImplCells, impl_at, counts, impl_of, IsKept, cell_of, kept_of}
+use Rattle.bg_certify.proofs.Cells.{HasIt, Cell, AreKept, TasksKept, kept_from, ImplCells, impl_at, counts, impl_of, cell_of, kept_of}
 
 -- ---- what the laws of the crates below say
 
@@ -178,13 +174,12 @@ module _ (placed_law : PlacedLaw) (inside_law : InsideLaw) (above_law : AboveLaw
               sec ∙ ap (λ (y : Option Cert). spelled_if p.candidates k i y) h.none,
             )
 
-    pub written : (c : text.CertOf) → c.interp ≡ true → c.retained ≡ names_in o.inferred.retained p.candidates → c.sections ≡ rows p.candidates 0 (certs_of p o) → IsWritten p o c
-    written c axioms names sections =
+    pub has_sections : (c : text.CertOf) → c.retained ≡ names_in o.inferred.retained p.candidates → c.sections ≡ rows p.candidates 0 (certs_of p o) → HasSections p o c
+    has_sections c names sections =
         let marks_is : marks p.candidates c.retained ≡ o.inferred.retained =
         ap (marks p.candidates) names ∙ marks_are o.inferred.retained p.candidates true_of.inferred.count once in
         let set_is : retained_by p c ≡ has o.inferred.retained = ap (λ (bs : List Bool). has bs) marks_is in
         record {
-          axioms = axioms;
           retained = λ b. ap (λ (f : ℕ → Bool). f b) set_is;
           placed = ap (unplaced p.candidates) names ∙ all_placed o.inferred.retained p.candidates once;
           no_other =

@@ -1,13 +1,14 @@
 -- What a certificate of an outcome says.
-use Rattle.std.specs.Prelude.{◌≡◌, ◌⊎◌, ℕ, true, false, List, None, Some, Contains, slice_get}
+use Rattle.std.specs.Prelude.{◌≡◌, ◌⊎◌, ℕ, false, List, None, Some, Contains, slice_get}
 use Rattle.bg_ast.specs.Resolved as r
 use Rattle.bg_ast.specs.Meaning.{meaning_of}
 use Rattle.bg_words.specs.Sets.{has}
 use Rattle.bg_places.specs.Placed.{Placed}
 use Rattle.bg_check.specs.declared.verdict.Judged.{Judged}
 use Rattle.bg_check.specs.Verdicts.{is_proved, placed_at, judged}
-use Rattle.bg_houdini.specs.declared.outcome.Outcome.{Outcome}
-use Rattle.bg_houdini.specs.Outcomes.{IsTrueOutcome}
+use Rattle.bg_houdini.specs.declared.outcome.Outcome as houdini
+use Rattle.bg_inference.specs.declared.outcome.Outcome.{Outcome}
+use Rattle.bg_inference.specs.Outcomes.{judged_program, IsTrueOutcome}
 use Rattle.bg_tree.specs.declared.outcome.Budget.{Budget}
 use Rattle.bg_certtext.specs.Views.{CertOf}
 use Rattle.bg_certtext.specs.Texts.{text_of}
@@ -15,9 +16,10 @@ use Rattle.bg_certtext.specs.Spellable.{IsSpellable}
 use Rattle.bg_accept.specs.Names.{unplaced}
 use Rattle.bg_accept.specs.Sections.{section_at}
 use Rattle.bg_accept.specs.Accepted.{retained_by, IsRequired, IsShown, extra}
+use Rattle.bg_certify.specs.Given.{constant_names, interp_by}
 
 -- the outcome has a verdict on this place of implementation k, which isn't that it is proved
-pub record IsUnproved (o : Outcome) (k : ℕ) (a : Placed) : Type 0 where
+pub record IsUnproved (o : houdini.Outcome) (k : ℕ) (a : Placed) : Type 0 where
   pub verdicts : List Judged
   pub there : slice_get (judged o.verdicts.items) k ≡ Some verdicts
   pub verdict : Judged
@@ -25,17 +27,22 @@ pub record IsUnproved (o : Outcome) (k : ℕ) (a : Placed) : Type 0 where
   pub is_its : placed_at verdict ≡ a
   pub not_proved : is_proved verdict.verdict ≡ false
 
--- the axioms have an interpretation; the retained names are those of the candidates that the outcome retains, in order; the sections
--- are those of required places, in order; and each required place has a section that its clauses accept, or none where the outcome's
--- verdict isn't that it is proved
-pub record IsWritten (p : r.Program) (o : Outcome) (c : CertOf) : Type 0 where
-  pub axioms : c.interp ≡ true
+-- of an opened program: the retained names are those of the candidates that the outcome retains, in order; the sections are those of
+-- required places, in order; and each required place has a section that its clauses accept, or none where the outcome's verdict isn't
+-- that it is proved
+pub record HasSections (p : r.Program) (o : houdini.Outcome) (c : CertOf) : Type 0 where
   pub retained : (b : ℕ) → retained_by p c b ≡ has o.inferred.retained b
   pub placed : unplaced p.candidates c.retained ≡ None
   pub no_other : extra p c ≡ None
   pub each : (k i : ℕ) (a : Placed) → IsRequired p (retained_by p c) k i a →
       IsShown (meaning_of p) (retained_by p c) p.candidates c.sections i a.place
       ⊎ (IsUnproved o k a × (section_at k i c.sections ≡ None))
+
+-- the interpretation gives the constants the values that were found to meet the axioms, and there is none where none was found; the rest
+-- is of the opened program
+pub record IsWritten (p : r.Program) (o : Outcome) (c : CertOf) : Type 0 where
+  pub interp : c.interp ≡ interp_by (constant_names p.constants) o.axioms
+  pub sections : HasSections (judged_program p) o.judged c
 
 -- the text is that of such a certificate
 pub record IsCertText (p : r.Program) (o : Outcome) (text : List ℕ) : Type 0 where

@@ -5,12 +5,12 @@ ghost use Rattle.bg_ast.specs.Meaning.{meaning_of};
 ghost use Rattle.bg_tree.specs.declared.outcome.Budget.{Budget};
 ghost use Rattle.bg_check.specs.declared.verdict.Cause.{Cause};
 ghost use Rattle.bg_sound.specs.Told.{Why, status_of};
-ghost use Rattle.bg_houdini.specs.declared.outcome.Outcome.{Outcome};
-ghost use Rattle.bg_houdini.specs.Outcomes.{IsTrueOutcome};
-ghost use Rattle.bg_houdini.specs.Told.{outcome_of};
+ghost use Rattle.bg_inference.specs.declared.outcome.Outcome.{Outcome};
+ghost use Rattle.bg_inference.specs.Outcomes.{IsTrueOutcome};
+ghost use Rattle.bg_inference.specs.Told.{outcome_of};
 ghost use Rattle.bg_front.specs.Programs.{IsProgramOf};
 ghost use Rattle.bg_certtext.specs.Views.{CertOf};
-ghost use Rattle.bg_accept.specs.Accepted.{IsAccepted};
+ghost use Rattle.bg_confirm.specs.Accepted.{IsAccepted};
 ghost use Rattle.bg_certify.specs.Names.{HasOwnNames};
 ghost use Rattle.bg_certify.specs.Written.{IsWritten};
 
@@ -19,7 +19,8 @@ pub fn candidates_have_names_of_their_own()
     ensures { (bytes : List ℕ) (p : Program) → IsProgramOf false bytes p → HasOwnNames p }
 {}
 
-/// A program accepts the certificate of an outcome that is true of it, where each implementation is verified.
+/// A program accepts the certificate of an outcome that is true of it, where its status is 0: the axioms are consistent, and each
+/// implementation is verified.
 pub fn verified_programs_are_accepted()
     ensures { (budget : Budget) (p : Program) (o : Outcome) (words : Cause → Why) (c : CertOf) → IsTrueOutcome budget p o →
         status_of (outcome_of words (meaning_of p) o) ≡ 0 → IsWritten p o c → IsAccepted p c }

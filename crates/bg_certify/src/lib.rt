@@ -3,6 +3,7 @@
 
 mod certificate;
 mod found;
+mod given;
 pub mod laws;
 mod names;
 mod nodes;

@@ -11,6 +11,7 @@ pub mod Ends
 pub mod ReadsOptions
 pub mod ReadsNumbers
 pub mod ReadsWords
+pub mod ReadsGivens
 pub mod ReadsLists
 pub mod ReadsSteps
 pub mod ReadsNodes

@@ -1,17 +1,18 @@
 -- The machine takes the lines of a certificate, and what it read is the certificate.
-use Rattle.std.proofs.Common.{◌≡◌, ℕ, suc, Bool, true, false, not, ◌==◌, List, [], ◌∷◌, ◌++◌, map, flat_map, length, codes, Some, refl, ap, sym, ◌∙◌, append_assoc, append-nil, arith}
+use Rattle.std.proofs.Common.{◌≡◌, ℕ, suc, Bool, true, false, not, ◌==◌, List, [], ◌∷◌, ◌++◌, map, flat_map, length, codes, Some, None, refl, ap, sym, ◌∙◌, append_assoc, append-nil, arith}
 use Rattle.std.proofs.lemmas.Bool.{ne_eqb}
 use Rattle.std.specs.List.{list_all}
 use Rattle.bg_certtext.specs.declared.draft.Stage.{Stage}
 use Rattle.bg_certtext.specs.declared.draft.Stage.TheVariants as at
-use Rattle.bg_certtext.specs.Views.{RowOf, NodeOf, SectionOf, CertOf}
-use Rattle.bg_certtext.specs.Spellable.{IsSpellable, is_name, is_number, is_row, is_node, is_section, are_trees}
-use Rattle.bg_certtext.specs.Texts.{lines_of, retain_words, interp_words, place_words, section_lines, table_lines, row_words, node_lines, end_words}
+use Rattle.bg_certtext.specs.Views.{RowOf, NodeOf, SectionOf, GivenOf, CertOf}
+use Rattle.bg_certtext.specs.Spellable.{IsSpellable, is_given, is_interp, is_name, is_number, is_row, is_node, is_section, are_trees}
+use Rattle.bg_certtext.specs.Texts.{lines_of, given_words, retain_words, interp_lines, place_words, section_lines, table_lines, row_words, node_lines, end_words}
 use Rattle.bg_certtext.specs.Machine.{DraftOf, start, next, after, cert_in}
 use Rattle.bg_certtext.proofs.ReadsOptions.{both}
 use Rattle.bg_certtext.proofs.ReadsNumbers.{natural_read}
 use Rattle.bg_certtext.proofs.ReadsWords.{count_read}
-use Rattle.bg_certtext.proofs.ReadsStates.{Head, AtInterp, AtRetained, Lines, open_draft, head_draft, first_head, draft_at, with_open, counted}
+use Rattle.bg_certtext.proofs.ReadsGivens.{given_read}
+use Rattle.bg_certtext.proofs.ReadsStates.{Interp, Head, AtInterp, AtGivens, AtRetained, Lines, open_draft, head_draft, first_head, draft_at, with_open, counted}
 use Rattle.bg_certtext.proofs.ReadsForwards.{after_join, after_first, rows_run, tree_run}
 
 -- ---- a place
@@ -77,20 +78,41 @@ sections_run (s ∷ ss) first h k =
 
 -- ---- the lines in front
 
-names_run : (names : List (List ℕ)) (b : Bool) (done : List (List ℕ)) → list_all is_name names ≡ true → after (map retain_words names) (head_draft at.Retained (first_head b done)) ≡ Some (head_draft at.Retained (first_head b (done ++ names)))
-names_run [] b done k = ap (λ (ns : List (List ℕ)). Some (head_draft at.Retained (first_head b ns))) (sym (append-nil done))
-names_run (n ∷ ns) b done k =
+names_run : (names : List (List ℕ)) (i : Interp) (done : List (List ℕ)) → list_all is_name names ≡ true → after (map retain_words names) (head_draft at.Retained (first_head i done)) ≡ Some (head_draft at.Retained (first_head i (done ++ names)))
+names_run [] i done k = ap (λ (ns : List (List ℕ)). Some (head_draft at.Retained (first_head i ns))) (sym (append-nil done))
+names_run (n ∷ ns) i done k =
     let p = both (is_name n) (list_all is_name ns) k in
-    let d : DraftOf = head_draft at.Retained (first_head b done) in
-    let e : DraftOf = head_draft at.Retained (first_head b (done ++ n ∷ [])) in
+    let d : DraftOf = head_draft at.Retained (first_head i done) in
+    let e : DraftOf = head_draft at.Retained (first_head i (done ++ n ∷ [])) in
     let took : next (retain_words n) d ≡ Some e = rw p.0 refl in
     after_first (retain_words n) (map retain_words ns) d e took
-    ∙ names_run ns b (done ++ n ∷ []) p.1
-    ∙ ap (λ (ms : List (List ℕ)). Some (head_draft at.Retained (first_head b ms))) (append_assoc done (n ∷ []) ns)
+    ∙ names_run ns i (done ++ n ∷ []) p.1
+    ∙ ap (λ (ms : List (List ℕ)). Some (head_draft at.Retained (first_head i ms))) (append_assoc done (n ∷ []) ns)
 
-interp_next : (b : Bool) → next (interp_words b) (draft_at AtInterp) ≡ Some (draft_at (AtRetained b []))
-interp_next true = refl
-interp_next false = refl
+givens_run : (gs done : List GivenOf) → list_all is_given gs ≡ true → after (map given_words gs) (draft_at (AtGivens done)) ≡ Some (draft_at (AtGivens (done ++ gs)))
+givens_run [] done k = ap (λ (gs : List GivenOf). Some (draft_at (AtGivens gs))) (sym (append-nil done))
+givens_run (g ∷ gs) done k =
+    let p = both (is_given g) (list_all is_given gs) k in
+    let took : next (given_words g) (draft_at (AtGivens done)) ≡ Some (draft_at (AtGivens (done ++ g ∷ []))) = rw (given_read g p.0) refl in
+    after_first (given_words g) (map given_words gs) (draft_at (AtGivens done)) (draft_at (AtGivens (done ++ g ∷ []))) took
+    ∙ givens_run gs (done ++ g ∷ []) p.1
+    ∙ ap (λ (gs : List GivenOf). Some (draft_at (AtGivens gs))) (append_assoc done (g ∷ []) gs)
+
+-- the stage behind the interpretation
+abbrev opened : Interp → Stage
+opened None = at.Retained
+opened (Some gs) = at.Givens
+
+interp_run : (i : Interp) → is_interp i ≡ true → after (interp_lines i) (draft_at AtInterp) ≡ Some (head_draft (opened i) (first_head i []))
+interp_run None k = refl
+interp_run (Some gs) k = givens_run gs [] k
+
+-- the lines behind it make the same of it as where a name stands in front
+behind_interp : (i : Interp) (names : List (List ℕ)) (ss : List SectionOf) → after (map retain_words names ++ (flat_map section_lines ss ++ end_words ∷ [])) (head_draft (opened i) (first_head i [])) ≡ after (map retain_words names ++ (flat_map section_lines ss ++ end_words ∷ [])) (draft_at (AtRetained i []))
+behind_interp None names ss = refl
+behind_interp (Some gs) [] [] = refl
+behind_interp (Some gs) [] (s ∷ ss) = refl
+behind_interp (Some gs) (n ∷ ns) ss = refl
 
 -- ---- a certificate
 
@@ -103,17 +125,20 @@ pub record Accepts (lines : Lines) (c : CertOf) : Type 0 where
 
 pub lines_are_accepted : (c : CertOf) → IsSpellable c → Accepts (lines_of c) c
 lines_are_accepted c k =
-    let p = both (list_all is_name c.retained) (list_all is_section c.sections) k in
+    let p = both (is_interp c.interp) _ k in
+    let q = both (list_all is_name c.retained) (list_all is_section c.sections) p.1 in
     let h : Head = first_head c.interp c.retained in
+    let front : Lines = interp_lines c.interp in
     let names : Lines = map retain_words c.retained in
     let places : Lines = flat_map section_lines c.sections in
     record {
       draft = head_draft at.End (behind_all h c.sections);
       ran =
-          after_first (interp_words c.interp) ((names ++ places) ++ end_words ∷ []) (draft_at AtInterp) (draft_at (AtRetained c.interp [])) (interp_next c.interp)
-          ∙ ap (λ (ls : Lines). after ls (draft_at (AtRetained c.interp []))) (append_assoc names places (end_words ∷ []))
-          ∙ after_join names (places ++ end_words ∷ []) (draft_at (AtRetained c.interp [])) (head_draft at.Retained h) (names_run c.retained c.interp [] p.0)
-          ∙ sections_run c.sections true h p.1;
+          ap (λ (ls : Lines). after ls (draft_at AtInterp)) (append_assoc (front ++ names) places (end_words ∷ []) ∙ append_assoc front names (places ++ end_words ∷ []))
+          ∙ after_join front (names ++ (places ++ end_words ∷ [])) (draft_at AtInterp) (head_draft (opened c.interp) (first_head c.interp [])) (interp_run c.interp p.0)
+          ∙ behind_interp c.interp c.retained c.sections
+          ∙ after_join names (places ++ end_words ∷ []) (draft_at (AtRetained c.interp [])) (head_draft at.Retained h) (names_run c.retained c.interp [] q.0)
+          ∙ sections_run c.sections true h q.1;
       ended = refl;
       has = behind_is h c.sections;
     }

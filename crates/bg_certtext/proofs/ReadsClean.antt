@@ -1,5 +1,5 @@
 -- The words of a certificate's lines have no space and no newline.
-use Rattle.std.proofs.Common.{◌≡◌, ℕ, suc, ◌+◌, ◌%◌, ◌<◌, ◌^◌, Bool, true, false, not, ◌&&◌, nat_lt, nat_le, int_le, List, [], ◌∷◌, ◌++◌, map, flat_map, length, codes, ℤ, pos, negsuc, refl, arith}
+use Rattle.std.proofs.Common.{◌≡◌, ℕ, suc, ◌+◌, ◌%◌, ◌<◌, ◌^◌, Bool, true, false, not, ◌&&◌, nat_lt, nat_le, int_le, List, [], ◌∷◌, ◌++◌, map, flat_map, length, codes, Option, Some, None, ℤ, pos, negsuc, refl, arith}
 use Rattle.std.proofs.lemmas.Bool.{ltb-true, lt-ltb, ne_eqb}
 use Rattle.std.proofs.lemmas.Fmt.{decimal_by_steps_wide}
 use Rattle.std.specs.List.{list_all}
@@ -10,9 +10,11 @@ use Rattle.bg_rows.specs.declared.step.Step.TheVariants.{Path, Sum, Tight}
 use Rattle.bg_cert.specs.declared.cert.Named.{Named}
 use Rattle.bg_cert.specs.declared.cert.Named.TheVariants.{OfAtom, OfRow}
 use Rattle.bg_certtext.specs.declared.text.Term.{Term}
-use Rattle.bg_certtext.specs.Views.{RowOf, NodeOf, Splits, Bounds, Cuts, Learns, IsClause, IsUnit, IsKnown, Derives, SectionOf, CertOf}
-use Rattle.bg_certtext.specs.Spellable.{IsSpellable, is_inside_word, is_empty, is_name, is_number, is_zero, is_factor, is_row, is_literal, is_step, is_node, is_section, are_terms, are_steps, are_trees}
-use Rattle.bg_certtext.specs.Texts.{literal_word, step_words, node_words, node_lines, term_words, row_words, table_lines, place_words, section_lines, retain_words, interp_words, version_words, end_words, lines_of}
+use Rattle.bg_certtext.specs.declared.text.Value.{Value}
+use Rattle.bg_certtext.specs.declared.text.Value.TheVariants.{Truth, Number}
+use Rattle.bg_certtext.specs.Views.{RowOf, NodeOf, Splits, Bounds, Cuts, Learns, IsClause, IsUnit, IsKnown, Derives, SectionOf, GivenOf, CertOf}
+use Rattle.bg_certtext.specs.Spellable.{IsSpellable, is_inside_word, is_empty, is_name, is_number, is_zero, is_factor, is_row, is_literal, is_step, is_node, is_section, is_value, is_given, is_interp, are_terms, are_steps, are_trees}
+use Rattle.bg_certtext.specs.Texts.{literal_word, step_words, node_words, node_lines, term_words, row_words, table_lines, place_words, section_lines, retain_words, value_word, given_words, interp_lines, version_words, end_words, lines_of}
 use Rattle.bg_certtext.proofs.ReadsOptions.{both, all_of}
 
 -- a word has neither inside, a line at least one such word
@@ -159,22 +161,35 @@ section_clean s k =
     (triple (codes "place") (decimal s.implementation) (decimal s.place) (plain (codes "place") refl) (number_clean s.implementation k1.0) (number_clean s.place k2.0))
     (all_append is_line (table_lines s.table) (flat_map node_lines s.nodes) (table_clean s.table k3.0 k4.0) (all_flat is_line is_node node_lines node_clean s.nodes k5.0))
 
-interp_clean : (b : Bool) → is_line (interp_words b) ≡ true
-interp_clean true = lone (codes "interp") (plain (codes "interp") refl)
-interp_clean false = pair (codes "no") (codes "interp") (plain (codes "no") refl) (plain (codes "interp") refl)
+value_clean : (v : Value) → is_value v ≡ true → is_clean (value_word v) ≡ true
+value_clean (Truth true) h = plain (codes "true") refl
+value_clean (Truth false) h = plain (codes "false") refl
+value_clean (Number k) h = signed_clean k h
+
+given_clean : (g : GivenOf) → is_given g ≡ true → is_line (given_words g) ≡ true
+given_clean g h =
+    let p = both (is_name g.name) (is_value g.value) h in
+    triple (codes "const") g.name (value_word g.value) (plain (codes "const") refl) (name_clean g.name p.0) (value_clean g.value p.1)
+
+interp_clean : (i : Option (List GivenOf)) → is_interp i ≡ true → list_all is_line (interp_lines i) ≡ true
+interp_clean None h = one_line (codes "no" ∷ codes "interp" ∷ []) (pair (codes "no") (codes "interp") (plain (codes "no") refl) (plain (codes "interp") refl))
+interp_clean (Some gs) h =
+    all_of (is_line (codes "interp" ∷ [])) (list_all is_line (map given_words gs)) (lone (codes "interp") (plain (codes "interp") refl)) (all_map is_line is_given given_words given_clean gs h)
 
 pub lines_clean : (c : CertOf) → IsSpellable c → list_all is_line (lines_of c) ≡ true
 lines_clean c h =
-    let p = both (list_all is_name c.retained) (list_all is_section c.sections) h in
+    let p = both (is_interp c.interp) _ h in
+    let q = both (list_all is_name c.retained) (list_all is_section c.sections) p.1 in
+    let front : List (List (List ℕ)) = interp_lines c.interp in
     let names : List (List (List ℕ)) = map retain_words c.retained in
     let places : List (List (List ℕ)) = flat_map section_lines c.sections in
     all_of (is_line version_words) _ (pair (codes "bg-cert") (codes "1") (plain (codes "bg-cert") refl) (plain (codes "1") refl))
-    (all_of (is_line (interp_words c.interp)) _ (interp_clean c.interp)
-    (all_append is_line (names ++ places) (end_words ∷ [])
-    (all_append is_line names places
-    (all_map is_line is_name retain_words (λ name k. pair (codes "retain") name (plain (codes "retain") refl) (name_clean name k)) c.retained p.0)
-    (all_flat is_line is_section section_lines section_clean c.sections p.1))
-    (one_line end_words (lone (codes "end") (plain (codes "end") refl)))))
+    (all_append is_line (front ++ names ++ places) (end_words ∷ [])
+    (all_append is_line (front ++ names) places
+    (all_append is_line front names (interp_clean c.interp p.0)
+    (all_map is_line is_name retain_words (λ name k. pair (codes "retain") name (plain (codes "retain") refl) (name_clean name k)) c.retained q.0))
+    (all_flat is_line is_section section_lines section_clean c.sections q.1))
+    (one_line end_words (lone (codes "end") (plain (codes "end") refl))))
 
 pub version_clean : (z : ℤ) → fits z ≡ true → is_line (codes "bg-cert" ∷ signed_decimal z ∷ []) ≡ true
 version_clean z h = pair (codes "bg-cert") (signed_decimal z) (plain (codes "bg-cert") refl) (signed_clean z h)

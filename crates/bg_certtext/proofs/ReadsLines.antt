@@ -4,7 +4,7 @@ use Rattle.std.specs.List.{list_all}
 use Rattle.bg_rows.specs.declared.step.Step.{Step}
 use Rattle.bg_certtext.specs.Views.{RowOf, NodeOf, Derives, SectionOf}
 use Rattle.bg_certtext.specs.Spellable.{is_step, are_steps}
-use Rattle.bg_certtext.specs.Texts.{retain_words, interp_words, version_words, place_words, section_lines, row_words, step_words, table_lines, node_lines}
+use Rattle.bg_certtext.specs.Texts.{retain_words, interp_lines, version_words, place_words, section_lines, row_words, step_words, table_lines, node_lines}
 use Rattle.bg_certtext.proofs.ReadsOptions.{both, all_of}
 use Rattle.bg_certtext.proofs.ReadsStates.{Head, Lines, with_open, open_section, head_lines, nodes_lines, rows_lines, steps_lines, counted}
 
@@ -35,9 +35,9 @@ steps_one n (r ∷ rs) s h k =
 
 pub head_more : (h : Head) (table : List RowOf) (nodes : List NodeOf) → head_lines (with_open h table nodes) ≡ nodes_lines h table nodes
 head_more h table nodes =
-    let front : Lines = map retain_words h.retained in
+    let front : Lines = interp_lines h.interp ++ map retain_words h.retained in
     let s : SectionOf = open_section h table nodes in
-    ap (λ (ls : Lines). version_words ∷ interp_words h.interp ∷ ls)
+    ap (λ (ls : Lines). version_words ∷ ls)
     (ap (λ (ls : Lines). front ++ ls) (flat_map_one section_lines h.sections s) ∙ sym (append_assoc front (flat_map section_lines h.sections) (section_lines s)))
 
 pub nodes_more : (h : Head) (table : List RowOf) (nodes : List NodeOf) (n : NodeOf) → nodes_lines h table (nodes ++ n ∷ []) ≡ nodes_lines h table nodes ++ node_lines n

@@ -20,7 +20,7 @@ section_good h table nodes g =
 
 pub sections_good : (h : Head) (table : List RowOf) (nodes : List NodeOf) → GoodNodes h table nodes 0 → GoodHead (with_open h table nodes)
 sections_good h table nodes g =
-    record { names = g.rows.place.head.names; sections = all_one is_section h.sections (open_section h table nodes) g.rows.place.head.sections (section_good h table nodes g) }
+    record { interp = g.rows.place.head.interp; names = g.rows.place.head.names; sections = all_one is_section h.sections (open_section h table nodes) g.rows.place.head.sections (section_good h table nodes g) }
 
 closed_stays : (st : Stage) (h : Head) (table : List RowOf) (nodes : List NodeOf) (n : ℕ) → GoodNodes h table nodes n → Stays (nodes_lines h table nodes) (closed n (open_draft st h table nodes [] n 0))
 closed_stays st h table nodes zero g = record { state = AtSections (with_open h table nodes); good = sections_good h table nodes g; is = refl; lines_are = sym (head_more h table nodes) }

@@ -1,14 +1,16 @@
 -- Whatever lines the machine took, it stands where they were read right.
-use Rattle.std.proofs.Common.{◌≡◌, ⊎_elim, ℕ, Bool, true, false, ◌&&◌, List, [], ◌∷◌, ◌++◌, map, codes, bytes_eq, Some, None, refl, ap, sym, ◌∙◌, append_assoc, append-nil}
+use Rattle.std.proofs.Common.{◌≡◌, ⊎_elim, ℕ, true, false, ◌&&◌, List, [], ◌∷◌, ◌++◌, map, codes, bytes_eq, Some, None, refl, ap, sym, ◌∙◌, append_assoc, append-nil}
 use Rattle.std.specs.List.{list_all}
 use Rattle.bg_certtext.specs.declared.draft.Stage.{Stage}
 use Rattle.bg_certtext.specs.declared.draft.Stage.TheVariants as at
-use Rattle.bg_certtext.specs.Spellable.{is_empty, is_name}
-use Rattle.bg_certtext.specs.Texts.{retain_words, interp_words, version_words, place_words}
-use Rattle.bg_certtext.specs.Machine.{DraftOf, start, then_, two, name_in, with_place, with_name, on_section, on_retained, on_version, on_interp, next, after}
+use Rattle.bg_certtext.specs.Views.{GivenOf}
+use Rattle.bg_certtext.specs.Spellable.{is_empty, is_name, is_given, is_interp}
+use Rattle.bg_certtext.specs.Texts.{given_words, retain_words, interp_lines, version_words, place_words}
+use Rattle.bg_certtext.specs.Machine.{DraftOf, start, then_, two, name_in, given_in, with_place, with_name, with_given, on_section, on_retained, on_given, on_version, on_interp, next, after}
 use Rattle.bg_certtext.proofs.ReadsOptions.{then_made, when_made, if_made, same_some, both}
 use Rattle.bg_certtext.proofs.ReadsWords.{same_word, two_back, name_back}
-use Rattle.bg_certtext.proofs.ReadsStates.{Head, State, AtVersion, AtInterp, AtRetained, AtTable, AtRows, AtNodes, AtSteps, AtSections, AtEnd, Lines, Stays, Goes, Good, GoodHead, head_draft, first_head, head_lines, written, draft_at}
+use Rattle.bg_certtext.proofs.ReadsGivens.{given_back}
+use Rattle.bg_certtext.proofs.ReadsStates.{Interp, Head, State, AtVersion, AtInterp, AtGivens, AtRetained, AtTable, AtRows, AtNodes, AtSteps, AtSections, AtEnd, Lines, Stays, Goes, Good, GoodHead, head_draft, first_head, head_lines, written, draft_at}
 use Rattle.bg_certtext.proofs.ReadsLines.{map_one, all_one}
 use Rattle.bg_certtext.proofs.ReadsMoves.{on_node_goes, along}
 use Rattle.bg_certtext.proofs.ReadsTables.{on_steps_goes, on_rows_goes, on_table_goes}
@@ -23,7 +25,7 @@ place_goes st h key ws e g k i =
     let line : key ∷ ws ≡ place_words p.0 p.1 = cc (same, q.0) in
     record {
       state = AtTable (record h { implementation = p.0; place = p.1 });
-      good = record { head = record { names = g.names; sections = g.sections }; implementation = q.1; place = q.2 };
+      good = record { head = record { interp = g.interp; names = g.names; sections = g.sections }; implementation = q.1; place = q.2 };
       is = sym (same_some (with_place p.0 p.1 (head_draft st h)) e l);
       lines_are = ap (λ (us : List (List ℕ)). head_lines h ++ us ∷ []) line;
     }
@@ -51,37 +53,63 @@ on_section_goes st h (key ∷ ws) e g i =
 
 -- ---- in front of the places
 
-first_good : (b : Bool) (names : List (List ℕ)) → list_all is_name names ≡ true → GoodHead (first_head b names)
-first_good b names g = record { names = g; sections = refl }
+first_good : (i : Interp) (names : List (List ℕ)) → is_interp i ≡ true → list_all is_name names ≡ true → GoodHead (first_head i names)
+first_good i names f g = record { interp = f; names = g; sections = refl }
 
-first_lines : (b : Bool) (names : List (List ℕ)) → written (AtRetained b names) ≡ head_lines (first_head b names)
-first_lines b names = ap (λ (ls : Lines). version_words ∷ interp_words b ∷ ls) (sym (append-nil (map retain_words names)))
+first_lines : (i : Interp) (names : List (List ℕ)) → written (AtRetained i names) ≡ head_lines (first_head i names)
+first_lines i names = ap (λ (ls : Lines). version_words ∷ ls) (sym (append-nil (interp_lines i ++ map retain_words names)))
 
-retain_goes : (b : Bool) (names : List (List ℕ)) (key : List ℕ) (ws : List (List ℕ)) (e : DraftOf) → list_all is_name names ≡ true → bytes_eq key (codes "retain") ≡ true → then_ (name_in ws) (λ name. Some (with_name name (head_draft at.Retained (first_head b names)))) ≡ Some e → Goes (written (AtRetained b names)) (key ∷ ws) e
-retain_goes b names key ws e g k i =
-    let (name, f, l) = then_made (name_in ws) (λ (name : List ℕ). Some (with_name name (head_draft at.Retained (first_head b names)))) e i in
-    let q = name_back ws name f in
+retain_goes : (st : Stage) (i : Interp) (names : List (List ℕ)) (key : List ℕ) (ws : List (List ℕ)) (e : DraftOf) → is_interp i ≡ true → list_all is_name names ≡ true → bytes_eq key (codes "retain") ≡ true → then_ (name_in ws) (λ name. Some (with_name name (head_draft st (first_head i names)))) ≡ Some e → Goes (written (AtRetained i names)) (key ∷ ws) e
+retain_goes st i names key ws e f g k m =
+    let (name, n, l) = then_made (name_in ws) (λ (name : List ℕ). Some (with_name name (head_draft st (first_head i names)))) e m in
+    let q = name_back ws name n in
     let same : key ≡ codes "retain" = same_word key (codes "retain") k in
     let line : key ∷ ws ≡ retain_words name = cc (same, q.0) in
     record {
-      state = AtRetained b (names ++ name ∷ []);
-      good = all_one is_name names name g q.1;
-      is = sym (same_some (with_name name (head_draft at.Retained (first_head b names))) e l);
+      state = AtRetained i (names ++ name ∷ []);
+      good = (f, all_one is_name names name g q.1);
+      is = sym (same_some (with_name name (head_draft st (first_head i names))) e l);
       lines_are =
-          ap (λ (us : List (List ℕ)). written (AtRetained b names) ++ us ∷ []) line
-          ∙ ap (λ (ls : Lines). version_words ∷ interp_words b ∷ ls) (sym (map_one retain_words names name));
+          ap (λ (us : List (List ℕ)). written (AtRetained i names) ++ us ∷ []) line
+          ∙ ap (λ (ls : Lines). version_words ∷ ls)
+          (append_assoc (interp_lines i) (map retain_words names) (retain_words name ∷ []) ∙ ap (λ (ls : Lines). interp_lines i ++ ls) (sym (map_one retain_words names name)));
     }
 
-on_retained_goes : (b : Bool) (names : List (List ℕ)) (ws : List (List ℕ)) (e : DraftOf) → list_all is_name names ≡ true → on_retained ws (head_draft at.Retained (first_head b names)) ≡ Some e → Goes (written (AtRetained b names)) ws e
-on_retained_goes b names [] e g i = absurd (cc)
-on_retained_goes b names (key ∷ ws) e g i =
+on_retained_goes : (st : Stage) (i : Interp) (names : List (List ℕ)) (ws : List (List ℕ)) (e : DraftOf) → is_interp i ≡ true → list_all is_name names ≡ true → on_retained ws (head_draft st (first_head i names)) ≡ Some e → Goes (written (AtRetained i names)) ws e
+on_retained_goes st i names [] e f g m = absurd (cc)
+on_retained_goes st i names (key ∷ ws) e f g m =
     ⊎_elim
-    (λ p. retain_goes b names key ws e g p.0 p.1)
+    (λ p. retain_goes st i names key ws e f g p.0 p.1)
     (λ p.
-    along (written (AtRetained b names) ++ (key ∷ ws) ∷ []) (head_lines (first_head b names) ++ (key ∷ ws) ∷ []) e
-    (ap (λ (ls : Lines). ls ++ (key ∷ ws) ∷ []) (first_lines b names))
-    (on_section_goes at.Retained (first_head b names) (key ∷ ws) e (first_good b names g) p.1))
-    (if_made (bytes_eq key (codes "retain")) _ _ e i)
+    along (written (AtRetained i names) ++ (key ∷ ws) ∷ []) (head_lines (first_head i names) ++ (key ∷ ws) ∷ []) e
+    (ap (λ (ls : Lines). ls ++ (key ∷ ws) ∷ []) (first_lines i names))
+    (on_section_goes st (first_head i names) (key ∷ ws) e (first_good i names f g) p.1))
+    (if_made (bytes_eq key (codes "retain")) _ _ e m)
+
+given_goes : (gs : List GivenOf) (key : List ℕ) (ws : List (List ℕ)) (e : DraftOf) → list_all is_given gs ≡ true → bytes_eq key (codes "const") ≡ true → then_ (given_in ws) (λ g. Some (with_given g (draft_at (AtGivens gs)))) ≡ Some e → Goes (written (AtGivens gs)) (key ∷ ws) e
+given_goes gs key ws e g k i =
+    let (x, f, l) = then_made (given_in ws) (λ (x : GivenOf). Some (with_given x (draft_at (AtGivens gs)))) e i in
+    let q = given_back ws x f in
+    let line : key ∷ ws ≡ given_words x = ap (λ (w : List ℕ). w ∷ ws) (same_word key (codes "const") k) ∙ q.0 in
+    record {
+      state = AtGivens (gs ++ x ∷ []);
+      good = all_one is_given gs x g q.1;
+      is = sym (same_some (with_given x (draft_at (AtGivens gs))) e l);
+      lines_are =
+          ap (λ (us : List (List ℕ)). written (AtGivens gs) ++ us ∷ []) line
+          ∙ ap (λ (ls : Lines). version_words ∷ (codes "interp" ∷ []) ∷ ls) (sym (map_one given_words gs x));
+    }
+
+on_given_goes : (gs : List GivenOf) (ws : List (List ℕ)) (e : DraftOf) → list_all is_given gs ≡ true → on_given ws (draft_at (AtGivens gs)) ≡ Some e → Goes (written (AtGivens gs)) ws e
+on_given_goes gs [] e g i = absurd (cc)
+on_given_goes gs (key ∷ ws) e g i =
+    ⊎_elim
+    (λ p. given_goes gs key ws e g p.0 p.1)
+    (λ p.
+    along (written (AtGivens gs) ++ (key ∷ ws) ∷ []) (written (AtRetained (Some gs) []) ++ (key ∷ ws) ∷ []) e
+    (ap (λ (ls : Lines). (version_words ∷ ls) ++ (key ∷ ws) ∷ []) (sym (append-nil (interp_lines (Some gs)))))
+    (on_retained_goes at.Givens (Some gs) [] (key ∷ ws) e g refl p.1))
+    (if_made (bytes_eq key (codes "const")) _ _ e i)
 
 on_version_goes : (ws : List (List ℕ)) (e : DraftOf) → on_version ws (draft_at AtVersion) ≡ Some e → Goes [] ws e
 on_version_goes [] e i = absurd (cc)
@@ -97,15 +125,15 @@ on_version_goes (key ∷ v ∷ w ∷ ws) e i = absurd (cc)
 on_interp_goes : (ws : List (List ℕ)) (e : DraftOf) → on_interp ws (draft_at AtInterp) ≡ Some e → Goes (version_words ∷ []) ws e
 on_interp_goes [] e i = absurd (cc)
 on_interp_goes (key ∷ []) e i =
-    let t = when_made (bytes_eq key (codes "interp")) (draft_at (AtRetained true [])) e i in
-    record { state = AtRetained true []; good = refl; is = sym t.1; lines_are = ap (λ (w : List ℕ). version_words ∷ (w ∷ []) ∷ []) (same_word key (codes "interp") t.0) }
+    let t = when_made (bytes_eq key (codes "interp")) (draft_at (AtGivens [])) e i in
+    record { state = AtGivens []; good = refl; is = sym t.1; lines_are = ap (λ (w : List ℕ). version_words ∷ (w ∷ []) ∷ []) (same_word key (codes "interp") t.0) }
 on_interp_goes (word ∷ key ∷ []) e i =
-    let t = when_made (bytes_eq word (codes "no") && bytes_eq key (codes "interp")) (draft_at (AtRetained false [])) e i in
+    let t = when_made (bytes_eq word (codes "no") && bytes_eq key (codes "interp")) (draft_at (AtRetained None [])) e i in
     let p = both (bytes_eq word (codes "no")) (bytes_eq key (codes "interp")) t.0 in
     let first : word ≡ codes "no" = same_word word (codes "no") p.0 in
     let second : key ≡ codes "interp" = same_word key (codes "interp") p.1 in
-    let line : word ∷ key ∷ [] ≡ interp_words false = cc (first, second) in
-    record { state = AtRetained false []; good = refl; is = sym t.1; lines_are = ap (λ (us : List (List ℕ)). version_words ∷ us ∷ []) line }
+    let line : (word ∷ key ∷ []) ∷ [] ≡ interp_lines None = cc (first, second) in
+    record { state = AtRetained None []; good = (refl, refl); is = sym t.1; lines_are = ap (λ (ls : Lines). version_words ∷ ls) line }
 on_interp_goes (word ∷ key ∷ w ∷ ws) e i = absurd (cc)
 
 -- ---- any line
@@ -113,7 +141,8 @@ on_interp_goes (word ∷ key ∷ w ∷ ws) e i = absurd (cc)
 pub next_goes : (s : State) (ws : List (List ℕ)) (e : DraftOf) → Good s → next ws (draft_at s) ≡ Some e → Goes (written s) ws e
 next_goes AtVersion ws e g i = on_version_goes ws e i
 next_goes AtInterp ws e g i = on_interp_goes ws e i
-next_goes (AtRetained b names) ws e g i = on_retained_goes b names ws e g i
+next_goes (AtGivens gs) ws e g i = on_given_goes gs ws e g i
+next_goes (AtRetained b names) ws e g i = on_retained_goes at.Retained b names ws e g.0 g.1 i
 next_goes (AtTable h) ws e g i = on_table_goes h ws e g i
 next_goes (AtRows h table m) ws e g i = on_rows_goes h table m ws e g i
 next_goes (AtNodes h table nodes t) ws e g i = on_node_goes at.Nodes h table nodes t ws e g i

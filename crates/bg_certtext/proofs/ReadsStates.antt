@@ -1,25 +1,29 @@
 -- Where the machine may stand: what it read, which lines those were, and that they are right so far.
-use Rattle.std.proofs.Common.{◌≡◌, ℕ, suc, ◌+◌, Bool, true, false, List, [], ◌∷◌, ◌++◌, map, flat_map, length, codes}
+use Rattle.std.proofs.Common.{◌≡◌, ℕ, suc, ◌+◌, true, List, [], ◌∷◌, ◌++◌, map, flat_map, length, codes, Option, Some, None}
 use Rattle.std.specs.List.{list_all}
 use Rattle.std.specs.Fmt.{decimal}
 use Rattle.bg_rows.specs.declared.step.Step.{Step}
 use Rattle.bg_certtext.specs.declared.draft.Stage.{Stage}
 use Rattle.bg_certtext.specs.declared.draft.Stage.TheVariants as at
-use Rattle.bg_certtext.specs.Views.{RowOf, NodeOf, SectionOf}
-use Rattle.bg_certtext.specs.Spellable.{is_name, is_number, is_row, is_node, are_steps, are_trees, is_section}
-use Rattle.bg_certtext.specs.Texts.{retain_words, interp_words, version_words, place_words, section_lines, row_words, step_words, end_words}
+use Rattle.bg_certtext.specs.Views.{RowOf, NodeOf, SectionOf, GivenOf}
+use Rattle.bg_certtext.specs.Spellable.{is_name, is_number, is_row, is_node, are_steps, are_trees, is_section, is_given, is_interp}
+use Rattle.bg_certtext.specs.Texts.{retain_words, interp_lines, version_words, place_words, section_lines, row_words, step_words, end_words}
 use Rattle.bg_certtext.specs.Machine.{DraftOf}
+
+-- an interpretation, where there is one
+abbrev pub Interp : Type 0
+Interp = Option (List GivenOf)
 
 -- what stands in front of the place that is open
 pub record Head : Type 0 where
-  pub interp : Bool
+  pub interp : Interp
   pub retained : List (List ℕ)
   pub sections : List SectionOf
   pub implementation : ℕ
   pub place : ℕ
 
-abbrev pub first_head : Bool → List (List ℕ) → Head
-first_head b names = record { interp = b; retained = names; sections = []; implementation = 0; place = 0 }
+abbrev pub first_head : Interp → List (List ℕ) → Head
+first_head i names = record { interp = i; retained = names; sections = []; implementation = 0; place = 0 }
 
 abbrev pub open_section : Head → List RowOf → List NodeOf → SectionOf
 open_section h table nodes = record { implementation = h.implementation; place = h.place; table = table; nodes = nodes }
@@ -31,7 +35,8 @@ with_open h table nodes = record h { sections = h.sections ++ open_section h tab
 pub data State : Type 0 where
   AtVersion : State
   AtInterp : State
-  AtRetained : Bool → List (List ℕ) → State
+  AtGivens : List GivenOf → State
+  AtRetained : Interp → List (List ℕ) → State
   AtTable : Head → State
   AtRows : Head → List RowOf → ℕ → State
   AtNodes : Head → List RowOf → List NodeOf → ℕ → State
@@ -59,9 +64,10 @@ abbrev pub head_draft : Stage → Head → DraftOf
 head_draft s h = open_draft s h [] [] [] 0 0
 
 abbrev pub draft_at : State → DraftOf
-draft_at AtVersion = head_draft at.Version (first_head false [])
-draft_at AtInterp = head_draft at.Interp (first_head false [])
-draft_at (AtRetained b names) = head_draft at.Retained (first_head b names)
+draft_at AtVersion = head_draft at.Version (first_head None [])
+draft_at AtInterp = head_draft at.Interp (first_head None [])
+draft_at (AtGivens gs) = head_draft at.Givens (first_head (Some gs) [])
+draft_at (AtRetained i names) = head_draft at.Retained (first_head i names)
 draft_at (AtTable h) = open_draft at.Table h [] [] [] 1 0
 draft_at (AtRows h table m) = open_draft at.Rows h table [] [] 1 (suc m)
 draft_at (AtNodes h table nodes t) = open_draft at.Nodes h table nodes [] (suc t) 0
@@ -75,7 +81,7 @@ abbrev pub Lines : Type 0
 Lines = List (List (List ℕ))
 
 abbrev pub head_lines : Head → Lines
-head_lines h = version_words ∷ interp_words h.interp ∷ (map retain_words h.retained ++ flat_map section_lines h.sections)
+head_lines h = version_words ∷ (interp_lines h.interp ++ map retain_words h.retained ++ flat_map section_lines h.sections)
 
 abbrev pub nodes_lines : Head → List RowOf → List NodeOf → Lines
 nodes_lines h table nodes = head_lines h ++ section_lines (open_section h table nodes)
@@ -92,7 +98,8 @@ steps_lines h table nodes steps n = nodes_lines h table nodes ++ (counted (codes
 abbrev pub written : State → Lines
 written AtVersion = []
 written AtInterp = version_words ∷ []
-written (AtRetained b names) = version_words ∷ interp_words b ∷ map retain_words names
+written (AtGivens gs) = version_words ∷ interp_lines (Some gs)
+written (AtRetained i names) = version_words ∷ (interp_lines i ++ map retain_words names)
 written (AtTable h) = nodes_lines h [] []
 written (AtRows h table m) = rows_lines h table (length table + suc m)
 written (AtNodes h table nodes t) = nodes_lines h table nodes
@@ -103,6 +110,7 @@ written (AtEnd h) = head_lines h ++ end_words ∷ []
 -- ---- they are right so far
 
 pub record GoodHead (h : Head) : Type 0 where
+  pub interp : is_interp h.interp ≡ true
   pub names : list_all is_name h.retained ≡ true
   pub sections : list_all is_section h.sections ≡ true
 
@@ -132,7 +140,8 @@ pub record GoodSteps (steps : List Step) (n : ℕ) : Type 0 where
 abbrev pub Good : State → Type 0
 Good AtVersion = Unit {0}
 Good AtInterp = Unit {0}
-Good (AtRetained b names) = list_all is_name names ≡ true
+Good (AtGivens gs) = list_all is_given gs ≡ true
+Good (AtRetained i names) = (is_interp i ≡ true) × (list_all is_name names ≡ true)
 Good (AtTable h) = GoodPlace h
 Good (AtRows h table m) = GoodRows h table (length table + suc m)
 Good (AtNodes h table nodes t) = GoodNodes h table nodes (suc t)

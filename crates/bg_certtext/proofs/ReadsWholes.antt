@@ -1,14 +1,14 @@
 -- Wherever the machine stands, what it read is the beginning of a certificate.
-use Rattle.std.proofs.Common.{◌≡◌, ℕ, zero, suc, ◌+◌, ◌-◌, true, false, List, [], ◌∷◌, ◌++◌, map, length, pos, refl, ap, sym, subst, ◌∙◌, append_assoc, append-nil, arith}
+use Rattle.std.proofs.Common.{◌≡◌, ℕ, zero, suc, ◌+◌, ◌-◌, true, false, List, [], ◌∷◌, ◌++◌, map, length, codes, Some, None, pos, refl, ap, sym, subst, ◌∙◌, append_assoc, append-nil, arith}
 use Rattle.std.specs.List.{list_all}
 use Rattle.bg_rows.specs.declared.step.Step.{Step}
 use Rattle.bg_rows.specs.declared.step.Step.TheVariants.{Path}
 use Rattle.bg_certtext.specs.Views.{RowOf, NodeOf, IsClause, Derives, CertOf}
-use Rattle.bg_certtext.specs.Spellable.{IsSpellable, is_empty, is_number, is_name, is_section, is_node}
-use Rattle.bg_certtext.specs.Texts.{lines_of, retain_words, interp_words, version_words, end_words, node_lines, row_words, step_words}
+use Rattle.bg_certtext.specs.Spellable.{IsSpellable, is_empty, is_number, is_name, is_interp, is_section, is_node}
+use Rattle.bg_certtext.specs.Texts.{lines_of, retain_words, interp_lines, version_words, end_words, node_lines, row_words, step_words}
 use Rattle.bg_certtext.specs.Reading.{Begins}
 use Rattle.bg_certtext.proofs.ReadsOptions.{all_of}
-use Rattle.bg_certtext.proofs.ReadsStates.{Head, State, AtVersion, AtInterp, AtRetained, AtTable, AtRows, AtNodes, AtSteps, AtSections, AtEnd, Lines, Good, GoodHead, GoodRows, GoodNodes, GoodSteps, first_head, with_open, written, head_lines, nodes_lines, rows_lines, steps_lines}
+use Rattle.bg_certtext.proofs.ReadsStates.{Head, State, AtVersion, AtInterp, AtGivens, AtRetained, AtTable, AtRows, AtNodes, AtSteps, AtSections, AtEnd, Lines, Good, GoodHead, GoodRows, GoodNodes, GoodSteps, first_head, with_open, written, head_lines, nodes_lines, rows_lines, steps_lines}
 use Rattle.bg_certtext.proofs.ReadsLines.{head_more, nodes_more, steps_more, steps_whole, rows_more, length_one}
 use Rattle.bg_certtext.proofs.ReadsMoves.{node_good, sections_good}
 use Rattle.bg_certtext.proofs.ReadsTables.{steps_good, rows_good, table_is_whole, place_good}
@@ -21,7 +21,8 @@ abbrev pub head_cert : Head → CertOf
 head_cert h = record { interp = h.interp; retained = h.retained; sections = h.sections }
 
 pub head_spells : (h : Head) → GoodHead h → IsSpellable (head_cert h)
-head_spells h g = all_of (list_all is_name h.retained) (list_all is_section h.sections) g.names g.sections
+head_spells h g =
+    all_of (is_interp h.interp) _ g.interp (all_of (list_all is_name h.retained) (list_all is_section h.sections) g.names g.sections)
 
 head_begins : (h : Head) → GoodHead h → Begins (head_lines h)
 head_begins h g = (head_cert h, end_words ∷ [], head_spells h g, refl)
@@ -77,11 +78,16 @@ rows_begin (suc m) h table g =
     (rows_begin m h (table ++ r ∷ []) (rows_good h table r (suc m) g refl))
 
 pub good_begins : (s : State) → Good s → Begins (written s)
-good_begins AtVersion g = (head_cert (first_head false []), lines_of (head_cert (first_head false [])), refl, refl)
-good_begins AtInterp g = (head_cert (first_head false []), interp_words false ∷ end_words ∷ [], refl, refl)
-good_begins (AtRetained b names) g =
-    let h : Head = first_head b names in
-    (head_cert h, end_words ∷ [], head_spells h (record { names = g; sections = refl }), ap (λ (ls : Lines). (version_words ∷ interp_words b ∷ ls) ++ end_words ∷ []) (append-nil (map retain_words names)))
+good_begins AtVersion g = (head_cert (first_head None []), lines_of (head_cert (first_head None [])), refl, refl)
+good_begins AtInterp g = (head_cert (first_head None []), (codes "no" ∷ codes "interp" ∷ []) ∷ end_words ∷ [], refl, refl)
+good_begins (AtGivens gs) g =
+    let h : Head = first_head (Some gs) [] in
+    let front : Lines = interp_lines (Some gs) in
+    (head_cert h, end_words ∷ [], head_spells h (record { interp = g; names = refl; sections = refl }), ap (λ (ls : Lines). (version_words ∷ ls) ++ end_words ∷ []) (append-nil (front ++ []) ∙ append-nil front))
+good_begins (AtRetained i names) g =
+    let h : Head = first_head i names in
+    let front : Lines = interp_lines i ++ map retain_words names in
+    (head_cert h, end_words ∷ [], head_spells h (record { interp = g.0; names = g.1; sections = refl }), ap (λ (ls : Lines). (version_words ∷ ls) ++ end_words ∷ []) (append-nil front))
 good_begins (AtTable h) g = nodes_begin 1 h [] [] (place_good h g)
 good_begins (AtRows h table m) g = rows_begin m h table g
 good_begins (AtNodes h table nodes t) g = nodes_begin (suc t) h table nodes g

@@ -1,5 +1,5 @@
 -- The reader as a machine: what is read so far, and what the next line makes of it.
-use Rattle.std.specs.Prelude.{◌≡◌, ℕ, zero, suc, ◌+◌, ◌-◌, ◌≤◌, ◌==◌, Bool, true, false, not, ◌&&◌, List, [], ◌∷◌, ◌++◌, length, map, flat_map, codes, Result, Ok, Err, Option, Some, None, ℤ, pos, negsuc, int_le, nat_lt, nat_le, if◌then◌else◌}
+use Rattle.std.specs.Prelude.{◌≡◌, ℕ, zero, suc, ◌+◌, ◌-◌, ◌≤◌, ◌==◌, Bool, true, false, not, ◌&&◌, List, [], ◌∷◌, ◌++◌, length, map, flat_map, codes, Result, Ok, Err, Option, Some, None, option_map, ℤ, pos, negsuc, int_le, nat_lt, nat_le, if◌then◌else◌}
 use Rattle.std.specs.Str.{bytes_eq}
 use Rattle.std.specs.List.{list_all}
 use Rattle.bg_rows.specs.declared.step.Step.{Step}
@@ -7,6 +7,8 @@ use Rattle.bg_rows.specs.declared.step.Step.TheVariants.{Path, Sum, Tight}
 use Rattle.bg_cert.specs.declared.cert.Named.{Named}
 use Rattle.bg_cert.specs.declared.cert.Named.TheVariants.{OfAtom, OfRow}
 use Rattle.bg_certtext.specs.declared.text.Term.{Term}
+use Rattle.bg_certtext.specs.declared.text.Value.{Value}
+use Rattle.bg_certtext.specs.declared.text.Value.TheVariants.{Truth, Number}
 use Rattle.bg_certtext.specs.declared.draft.Stage.{Stage}
 use Rattle.bg_certtext.specs.declared.draft.Stage.TheVariants as at
 use Rattle.bg_certtext.specs.declared.draft.Draft.{Draft}
@@ -14,7 +16,7 @@ use Rattle.bg_certtext.specs.declared.error.ReadError.{ReadError}
 use Rattle.bg_certtext.specs.declared.error.ReadError.TheVariants as errors
 use Rattle.bg_certtext.specs.declared.text.CertText.{CertText}
 use Rattle.bg_certtext.specs.Lines.{line}
-use Rattle.bg_certtext.specs.Views.{cert_of, RowOf, NodeOf, Splits, Bounds, Cuts, Learns, IsClause, IsUnit, IsKnown, Derives, SectionOf, CertOf, section_of, row_of, node_of}
+use Rattle.bg_certtext.specs.Views.{cert_of, RowOf, NodeOf, Splits, Bounds, Cuts, Learns, IsClause, IsUnit, IsKnown, Derives, SectionOf, GivenOf, CertOf, given_of, section_of, row_of, node_of}
 use Rattle.bg_certtext.specs.Spellable.{is_empty, is_name, is_factor, children}
 use Rattle.bg_certtext.specs.Words.{natural, integer, words_of, is_in_line}
 
@@ -52,6 +54,17 @@ with_sign _ = None
 abbrev pub name_in : List (List ℕ) → Option (List ℕ)
 name_in (name ∷ []) = when (is_name name) name
 name_in _ = None
+
+-- the value that a word is
+abbrev pub value_in : List ℕ → Option Value
+value_in w =
+    if bytes_eq w (codes "true") then Some (Truth true)
+    else (if bytes_eq w (codes "false") then Some (Truth false) else then_ (integer w) (λ k. Some (Number k)))
+
+-- a constant's name and value
+abbrev pub given_in : List (List ℕ) → Option GivenOf
+given_in (name ∷ w ∷ []) = then_ (value_in w) (λ v. when (is_name name) (record { name = name; value = v }))
+given_in _ = None
 
 abbrev pub sign_in : ℕ → Option Bool
 sign_in b = if b == 43 then Some true else (if b == 45 then Some false else None)
@@ -130,7 +143,7 @@ count_in key (w ∷ ws) = if bytes_eq w key then count ws else None
 -- trees of it are still to come, and how many rows or steps
 pub record DraftOf : Type 0 where
   pub stage : Stage
-  pub interp : Bool
+  pub interp : Option (List GivenOf)
   pub retained : List (List ℕ)
   pub sections : List SectionOf
   pub implementation : ℕ
@@ -145,7 +158,7 @@ abbrev pub draft_of : Draft → DraftOf
 draft_of d =
     record {
       stage = d.stage;
-      interp = d.interp;
+      interp = option_map (λ gs. map given_of gs.items) d.interp;
       retained = map (λ name. name.now) d.retained.items;
       sections = map section_of d.sections.items;
       implementation = d.implementation;
@@ -165,7 +178,7 @@ abbrev pub start : DraftOf
 start =
     record {
       stage = at.Version;
-      interp = false;
+      interp = None;
       retained = [];
       sections = [];
       implementation = 0;
@@ -215,7 +228,10 @@ abbrev pub with_place : ℕ → ℕ → DraftOf → DraftOf
 with_place i k d = record d { stage = at.Table; implementation = i; place = k; trees = 1 }
 
 abbrev pub with_name : List ℕ → DraftOf → DraftOf
-with_name name d = record d { retained = d.retained ++ name ∷ [] }
+with_name name d = record d { stage = at.Retained; retained = d.retained ++ name ∷ [] }
+
+abbrev pub with_given : GivenOf → DraftOf → DraftOf
+with_given g d = record d { interp = option_map (λ gs. gs ++ g ∷ []) d.interp }
 
 abbrev pub or_else : {A : Type 0} → Option A → Option A → Option A
 or_else None other = other
@@ -242,20 +258,27 @@ on_retained [] d = None
 on_retained (key ∷ ws) d =
     if bytes_eq key (codes "retain") then then_ (name_in ws) (λ name. Some (with_name name d)) else on_section (key ∷ ws) d
 
+-- a line where a constant may stand
+abbrev pub on_given : List (List ℕ) → DraftOf → Option DraftOf
+on_given [] d = None
+on_given (key ∷ ws) d =
+    if bytes_eq key (codes "const") then then_ (given_in ws) (λ g. Some (with_given g d)) else on_retained (key ∷ ws) d
+
 abbrev pub on_version : List (List ℕ) → DraftOf → Option DraftOf
 on_version (key ∷ v ∷ []) d =
     when (bytes_eq key (codes "bg-cert") && bytes_eq v (codes "1")) (record d { stage = at.Interp })
 on_version _ d = None
 
 abbrev pub on_interp : List (List ℕ) → DraftOf → Option DraftOf
-on_interp (key ∷ []) d = when (bytes_eq key (codes "interp")) (record d { stage = at.Retained; interp = true })
+on_interp (key ∷ []) d = when (bytes_eq key (codes "interp")) (record d { stage = at.Givens; interp = Some [] })
 on_interp (first ∷ key ∷ []) d =
-    when (bytes_eq first (codes "no") && bytes_eq key (codes "interp")) (record d { stage = at.Retained; interp = false })
+    when (bytes_eq first (codes "no") && bytes_eq key (codes "interp")) (record d { stage = at.Retained; interp = None })
 on_interp _ d = None
 
 abbrev pub by_stage : Stage → List (List ℕ) → DraftOf → Option DraftOf
 by_stage at.Version ws d = on_version ws d
 by_stage at.Interp ws d = on_interp ws d
+by_stage at.Givens ws d = on_given ws d
 by_stage at.Retained ws d = on_retained ws d
 by_stage at.Table ws d = on_table ws d
 by_stage at.Rows ws d = then_ (row_in ws) (λ r. Some (with_row r d))

@@ -1,5 +1,5 @@
 -- Which certificates have a text.
-use Rattle.std.specs.Prelude.{◌≡◌, ℕ, zero, suc, ◌+◌, ◌^◌, Bool, true, false, not, ◌&&◌, ◌==◌, nat_lt, nat_le, List, [], ◌∷◌, length, ℤ, pos, negsuc, neg_ℤ, int_le}
+use Rattle.std.specs.Prelude.{◌≡◌, ℕ, zero, suc, ◌+◌, ◌^◌, Bool, true, false, not, ◌&&◌, ◌==◌, nat_lt, nat_le, List, [], ◌∷◌, length, ℤ, pos, negsuc, neg_ℤ, int_le, Option, Some, None}
 use Rattle.std.specs.List.{list_all}
 use Rattle.bg_base.specs.Exact.{fits}
 use Rattle.bg_rows.specs.declared.step.Step.{Step}
@@ -7,7 +7,9 @@ use Rattle.bg_rows.specs.declared.step.Step.TheVariants.{Path, Sum, Tight}
 use Rattle.bg_cert.specs.declared.cert.Named.{Named}
 use Rattle.bg_cert.specs.declared.cert.Named.TheVariants.{OfAtom, OfRow}
 use Rattle.bg_certtext.specs.declared.text.Term.{Term}
-use Rattle.bg_certtext.specs.Views.{RowOf, NodeOf, Splits, Bounds, Cuts, Learns, IsClause, IsUnit, IsKnown, Derives, SectionOf, CertOf}
+use Rattle.bg_certtext.specs.declared.text.Value.{Value}
+use Rattle.bg_certtext.specs.declared.text.Value.TheVariants.{Truth, Number}
+use Rattle.bg_certtext.specs.Views.{RowOf, NodeOf, Splits, Bounds, Cuts, Learns, IsClause, IsUnit, IsKnown, Derives, SectionOf, GivenOf, CertOf}
 
 -- a byte that stands in a word: no space, no newline
 unfoldable pub is_inside_word : ℕ → Bool
@@ -84,8 +86,20 @@ abbrev pub is_section : SectionOf → Bool
 is_section s =
     is_number s.implementation && (is_number s.place && (is_number (length s.table) && (list_all is_row s.table && (list_all is_node s.nodes && are_trees 1 s.nodes))))
 
+abbrev pub is_value : Value → Bool
+is_value (Truth b) = true
+is_value (Number k) = fits k
+
+abbrev pub is_given : GivenOf → Bool
+is_given g = is_name g.name && is_value g.value
+
+-- the constants have names, and their values numerals
+abbrev pub is_interp : Option (List GivenOf) → Bool
+is_interp None = true
+is_interp (Some gs) = list_all is_given gs
+
 abbrev pub is_spellable : CertOf → Bool
-is_spellable c = list_all is_name c.retained && list_all is_section c.sections
+is_spellable c = is_interp c.interp && (list_all is_name c.retained && list_all is_section c.sections)
 
 abbrev pub IsSpellable : CertOf → Type 0
 IsSpellable c = is_spellable c ≡ true

@@ -1,12 +1,14 @@
 -- The text of a certificate, as lines of words.
-use Rattle.std.specs.Prelude.{ℕ, Bool, true, false, List, [], ◌∷◌, ◌++◌, map, flat_map, length, codes}
+use Rattle.std.specs.Prelude.{ℕ, Bool, true, false, List, [], ◌∷◌, ◌++◌, map, flat_map, length, codes, Option, Some, None}
 use Rattle.std.specs.Fmt.{decimal, signed_decimal}
 use Rattle.bg_rows.specs.declared.step.Step.{Step}
 use Rattle.bg_rows.specs.declared.step.Step.TheVariants.{Path, Sum, Tight}
 use Rattle.bg_cert.specs.declared.cert.Named.{Named}
 use Rattle.bg_cert.specs.declared.cert.Named.TheVariants.{OfAtom, OfRow}
 use Rattle.bg_certtext.specs.declared.text.Term.{Term}
-use Rattle.bg_certtext.specs.Views.{RowOf, NodeOf, Splits, Bounds, Cuts, Learns, IsClause, IsUnit, IsKnown, Derives, SectionOf, CertOf}
+use Rattle.bg_certtext.specs.declared.text.Value.{Value}
+use Rattle.bg_certtext.specs.declared.text.Value.TheVariants.{Truth, Number}
+use Rattle.bg_certtext.specs.Views.{RowOf, NodeOf, Splits, Bounds, Cuts, Learns, IsClause, IsUnit, IsKnown, Derives, SectionOf, GivenOf, CertOf}
 use Rattle.bg_certtext.specs.Lines.{line}
 
 -- a sign in front of a literal
@@ -64,9 +66,19 @@ section_lines s =
 abbrev pub version_words : List (List ℕ)
 version_words = codes "bg-cert" ∷ codes "1" ∷ []
 
-abbrev pub interp_words : Bool → List (List ℕ)
-interp_words true = codes "interp" ∷ []
-interp_words false = codes "no" ∷ codes "interp" ∷ []
+-- the value of a constant
+abbrev pub value_word : Value → List ℕ
+value_word (Truth true) = codes "true"
+value_word (Truth false) = codes "false"
+value_word (Number k) = signed_decimal k
+
+abbrev pub given_words : GivenOf → List (List ℕ)
+given_words g = codes "const" ∷ g.name ∷ value_word g.value ∷ []
+
+-- an interpretation's lines, or the one that says there is none
+abbrev pub interp_lines : Option (List GivenOf) → List (List (List ℕ))
+interp_lines None = (codes "no" ∷ codes "interp" ∷ []) ∷ []
+interp_lines (Some gs) = (codes "interp" ∷ []) ∷ map given_words gs
 
 abbrev pub retain_words : List ℕ → List (List ℕ)
 retain_words name = codes "retain" ∷ name ∷ []
@@ -77,7 +89,7 @@ end_words = codes "end" ∷ []
 -- the lines of a certificate
 abbrev pub lines_of : CertOf → List (List (List ℕ))
 lines_of c =
-    version_words ∷ interp_words c.interp ∷ (map retain_words c.retained ++ flat_map section_lines c.sections ++ end_words ∷ [])
+    version_words ∷ (interp_lines c.interp ++ map retain_words c.retained ++ flat_map section_lines c.sections ++ end_words ∷ [])
 
 -- the text of a certificate
 abbrev pub text_of : CertOf → List ℕ

@@ -1,5 +1,5 @@
 -- Certificates of texts, without where they lie in memory.
-use Rattle.std.specs.Prelude.{ℕ, Bool, List, map, ℤ}
+use Rattle.std.specs.Prelude.{ℕ, List, map, ℤ, Option, option_map}
 use Rattle.bg_rows.specs.declared.step.Step.{Step}
 use Rattle.bg_cert.specs.declared.cert.Named.{Named}
 use Rattle.bg_certtext.specs.declared.text.Term.{Term}
@@ -7,6 +7,8 @@ use Rattle.bg_certtext.specs.declared.text.TextRow.{TextRow}
 use Rattle.bg_certtext.specs.declared.text.TextNode.{TextNode}
 use Rattle.bg_certtext.specs.declared.text.TextNode.TheVariants.{Split, Bound, Cut, Lemma, Clause, Unit, Known, Rows}
 use Rattle.bg_certtext.specs.declared.text.Section.{Section}
+use Rattle.bg_certtext.specs.declared.text.Value.{Value}
+use Rattle.bg_certtext.specs.declared.text.Given.{Given}
 use Rattle.bg_certtext.specs.declared.text.CertText.{CertText}
 
 -- a row: the sum of the terms is at most the bound
@@ -32,9 +34,14 @@ pub record SectionOf : Type 0 where
   pub table : List RowOf
   pub nodes : List NodeOf
 
+-- a constant's value in the interpretation
+pub record GivenOf : Type 0 where
+  pub name : List ℕ
+  pub value : Value
+
 -- the certificate of a program
 pub record CertOf : Type 0 where
-  pub interp : Bool
+  pub interp : Option (List GivenOf)
   pub retained : List (List ℕ)
   pub sections : List SectionOf
 
@@ -60,10 +67,13 @@ section_of s =
       nodes = map node_of s.nodes.items;
     }
 
+abbrev pub given_of : Given → GivenOf
+given_of g = record { name = g.name.now; value = g.value }
+
 abbrev pub cert_of : CertText → CertOf
 cert_of c =
     record {
-      interp = c.interp;
+      interp = option_map (λ gs. map given_of gs.items) c.interp;
       retained = map (λ name. name.now) c.retained.items;
       sections = map section_of c.sections.items;
     }

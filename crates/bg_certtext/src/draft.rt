@@ -1,10 +1,10 @@
 //! What is read so far.
 ghost use Rattle.std.specs.Prelude.{◌≡◌, OnOk};
-ghost use Rattle.bg_certtext.specs.Views.{row_of, node_of};
+ghost use Rattle.bg_certtext.specs.Views.{given_of, row_of, node_of};
 ghost use Rattle.bg_certtext.specs.Spellable.{children};
-ghost use Rattle.bg_certtext.specs.Machine.{draft_of, start, HasRoom, with_section, with_node, with_step, with_row};
+ghost use Rattle.bg_certtext.specs.Machine.{draft_of, start, HasRoom, with_given, with_section, with_node, with_step, with_row};
 
-use crate::text::{Section, TextNode, TextRow};
+use crate::text::{Given, Section, TextNode, TextRow};
 use bg_rows::Step;
 use std::alloc::{AllocError, Global};
 use std::mem::replace;
@@ -14,6 +14,8 @@ use std::mem::replace;
 pub(crate) enum Stage {
     Version,
     Interp,
+    /// A constant, a name, a place or the end.
+    Givens,
     /// A name, a place or the end.
     Retained,
     /// A table or a node.
@@ -31,7 +33,7 @@ pub(crate) enum Stage {
 #[derive(Drop)]
 pub(crate) struct Draft<'a> {
     pub(crate) stage: Stage,
-    pub(crate) interp: bool,
+    pub(crate) interp: Option<Vec<Given<'a>>>,
     pub(crate) retained: Vec<&'a [u8]>,
     pub(crate) sections: Vec<Section<'a>>,
     pub(crate) implementation: u128,
@@ -49,7 +51,7 @@ pub(crate) fn first_draft<'a>(alloc: Global) -> Draft<'a>
 {
     Draft {
         stage: Stage::Version,
-        interp: false,
+        interp: None,
         retained: Vec::new(alloc),
         sections: Vec::new(alloc),
         implementation: 0,
@@ -60,6 +62,16 @@ pub(crate) fn first_draft<'a>(alloc: Global) -> Draft<'a>
         trees: 0,
         left: 0,
     }
+}
+
+/// One more constant of the interpretation, where there is one.
+pub(crate) fn add_given<'a>(draft: &mut Draft<'a>, given: Given<'a>) -> Result<(), AllocError>
+    ensures { OnOk result (draft_of draft.new ≡ with_given (given_of given.entry) (draft_of draft.old)) }
+{
+    if let Some(givens) = &mut draft.interp {
+        givens.push(given)?;
+    }
+    Ok(())
 }
 
 /// Finishes the open place.

@@ -3,6 +3,7 @@
 
 mod draft;
 mod error;
+mod front;
 pub mod laws;
 mod nodes;
 mod numeral;
@@ -18,5 +19,5 @@ mod writer;
 pub use error::ReadError;
 pub use reader::read;
 pub use spells::is_spellable;
-pub use text::{CertText, Section, Term, TextNode, TextRow};
+pub use text::{CertText, Given, Section, Term, TextNode, TextRow, Value};
 pub use writer::write;

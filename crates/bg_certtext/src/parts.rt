@@ -1,11 +1,11 @@
 //! What the words of a line say.
 ghost use Rattle.std.specs.Prelude.{◌≡◌, ◌<◌, ◌^◌, ◌∷◌, [], ◌&&◌, nat_lt, int_le, pos, map, IfOk, IfSome, option_map};
 ghost use Rattle.bg_certtext.specs.Spellable.{is_factor};
-ghost use Rattle.bg_certtext.specs.Machine.{one, two, with_sign, name_in, literal_in, signed_in, literals_in, term_in, terms_in, row_in, sum_in, step_in, count_in};
-ghost use Rattle.bg_certtext.specs.Views.{row_of};
+ghost use Rattle.bg_certtext.specs.Machine.{one, two, with_sign, name_in, literal_in, signed_in, literals_in, value_in, given_in, term_in, terms_in, row_in, sum_in, step_in, count_in};
+ghost use Rattle.bg_certtext.specs.Views.{given_of, row_of};
 
 use crate::numeral::{integer, natural};
-use crate::text::{Term, TextRow};
+use crate::text::{Given, Term, TextRow, Value};
 use crate::words::{is_name, is_word};
 use bg_cert::Named;
 use bg_rows::Step;
@@ -63,6 +63,36 @@ pub(crate) fn name_in<'a>(words: &[&'a [u8]]) -> Option<&'a [u8]>
 {
     match words {
         [name] => { if is_name(name) { Some(name) } else { None } }
+        _ => None,
+    }
+}
+
+/// The value that a word is.
+fn value_in(word: &[u8]) -> Option<Value>
+    ensures { result ≡ value_in word.now }
+{
+    if is_word(word, b"true") {
+        Some(Value::Truth(true))
+    } else if is_word(word, b"false") {
+        Some(Value::Truth(false))
+    } else {
+        Some(Value::Number(integer(word)?))
+    }
+}
+
+/// A constant's name and value.
+pub(crate) fn given_in<'a>(words: &[&'a [u8]]) -> Option<Given<'a>>
+    ensures { option_map given_of result ≡ given_in (map (λ w. w.now) words.entry.now) }
+{
+    match words {
+        [name, word] => {
+            let value = value_in(word)?;
+            if is_name(name) {
+                Some(Given { name, value })
+            } else {
+                None
+            }
+        }
         _ => None,
     }
 }

@@ -1,13 +1,13 @@
 //! Whether a certificate has a text.
-ghost use Rattle.std.specs.Prelude.{◌≡◌, ◌&&◌, map};
+ghost use Rattle.std.specs.Prelude.{◌≡◌, ◌&&◌, map, option_map};
 ghost use Rattle.std.specs.List.{list_all};
 ghost use Rattle.bg_base.specs.Exact.{fits};
-ghost use Rattle.bg_certtext.specs.Views.{row_of, node_of, section_of, cert_of};
-ghost use Rattle.bg_certtext.specs.Spellable.{is_name, is_number, are_terms, is_row, is_literal, is_step, are_steps, is_node, are_trees, is_section, is_spellable};
+ghost use Rattle.bg_certtext.specs.Views.{given_of, row_of, node_of, section_of, cert_of};
+ghost use Rattle.bg_certtext.specs.Spellable.{is_name, is_number, are_terms, is_row, is_literal, is_step, are_steps, is_node, are_trees, is_section, is_value, is_given, is_interp, is_spellable};
 
 use crate::draft::children;
 use crate::parts::is_factor;
-use crate::text::{CertText, Section, Term, TextNode, TextRow};
+use crate::text::{CertText, Given, Section, Term, TextNode, TextRow, Value};
 use crate::words::is_name;
 use bg_cert::Named;
 use bg_rows::Step;
@@ -147,10 +147,41 @@ fn are_sections(sections: &[Section<'_>]) -> bool
     sections.iter().all(|s| is_section(s))
 }
 
+/// Whether a value has a word; each one does.
+fn is_value(value: Value) -> bool
+    ensures { result ≡ is_value value }
+{
+    match value {
+        Value::Truth(_) => true,
+        Value::Number(_) => true,
+    }
+}
+
+fn is_given(given: &Given<'_>) -> bool
+    ensures { result ≡ is_given (given_of given.now) }
+{
+    is_name(given.name) && is_value(given.value)
+}
+
+fn are_givens(givens: &[Given<'_>]) -> bool
+    ensures { result ≡ list_all is_given (map given_of givens.now) }
+{
+    givens.iter().all(|given| is_given(given))
+}
+
+fn is_interp(interp: &Option<Vec<Given<'_>>>) -> bool
+    ensures { result ≡ is_interp (option_map (λ gs. map given_of gs.items) interp.now) }
+{
+    match interp {
+        None => true,
+        Some(givens) => are_givens(givens),
+    }
+}
+
 /// Whether a certificate has a text: its names are words, its numbers have numerals, and the nodes of each place are one whole
-/// tree. Takes time for each name, row and node.
+/// tree. Takes time for each constant, name, row and node.
 pub fn is_spellable(cert: &CertText<'_>) -> bool
     ensures { result ≡ is_spellable (cert_of cert.now) }
 {
-    are_names(&cert.retained) && are_sections(&cert.sections)
+    is_interp(&cert.interp) && (are_names(&cert.retained) && are_sections(&cert.sections))
 }

@@ -1,11 +1,11 @@
 //! What the next line makes of what is read so far.
 ghost use Rattle.std.specs.Prelude.{◌≡◌, map, IfOk, OnOk};
 ghost use Rattle.bg_certtext.specs.declared.draft.Stage.TheVariants as at;
-ghost use Rattle.bg_certtext.specs.Machine.{draft_of, HasRoom, Takes, next, on_node, on_table, on_section, on_retained, on_version, on_interp, by_stage};
+ghost use Rattle.bg_certtext.specs.Machine.{draft_of, HasRoom, Takes, next, on_node, on_table, on_section, on_retained, on_given, on_version, on_interp, by_stage};
 
-use crate::draft::{Draft, Stage, add_node, add_row, add_step};
+use crate::draft::{Draft, Stage, add_given, add_node, add_row, add_step};
 use crate::nodes::node_in;
-use crate::parts::{count_in, name_in, row_in, step_in, two};
+use crate::parts::{count_in, given_in, name_in, row_in, step_in, two};
 use crate::words::is_word;
 use std::alloc::{AllocError, Global};
 
@@ -89,6 +89,26 @@ fn on_retained<'a>(draft: &mut Draft<'a>, words: &[&'a [u8]]) -> Result<bool, Al
         return Ok(false);
     };
     draft.retained.push(name)?;
+    draft.stage = Stage::Retained;
+    Ok(true)
+}
+
+/// A line where a constant may stand, a name, a place, or the end.
+fn on_given<'a>(draft: &mut Draft<'a>, words: &[&'a [u8]]) -> Result<bool, AllocError>
+    requires { HasRoom (draft_of draft.old) }
+    ensures made { IfOk result (λ yes. Takes (on_given (map (λ w. w.now) words.entry.now) (draft_of draft.old)) (draft_of draft.new) yes) }
+    ensures room { OnOk result (HasRoom (draft_of draft.new)) }
+{
+    let [key, rest @ ..] = words else {
+        return Ok(false);
+    };
+    if !is_word(key, b"const") {
+        return on_retained(draft, words);
+    }
+    let Some(given) = given_in(rest) else {
+        return Ok(false);
+    };
+    add_given(draft, given)?;
     Ok(true)
 }
 
@@ -111,15 +131,15 @@ fn on_version(draft: &mut Draft<'_>, words: &[&[u8]]) -> bool
 }
 
 /// The second line.
-fn on_interp(draft: &mut Draft<'_>, words: &[&[u8]]) -> bool
+fn on_interp(alloc: Global, draft: &mut Draft<'_>, words: &[&[u8]]) -> bool
     ensures made { Takes (on_interp (map (λ w. w.now) words.entry.now) (draft_of draft.old)) (draft_of draft.new) result }
     ensures room { HasRoom (draft_of draft.old) → HasRoom (draft_of draft.new) }
 {
     match words {
         [key] => {
             if is_word(key, b"interp") {
-                draft.stage = Stage::Retained;
-                draft.interp = true;
+                draft.stage = Stage::Givens;
+                draft.interp = Some(Vec::new(alloc));
                 true
             } else {
                 false
@@ -128,7 +148,7 @@ fn on_interp(draft: &mut Draft<'_>, words: &[&[u8]]) -> bool
         [first, key] => {
             if is_word(first, b"no") && is_word(key, b"interp") {
                 draft.stage = Stage::Retained;
-                draft.interp = false;
+                draft.interp = None;
                 true
             } else {
                 false
@@ -175,7 +195,8 @@ pub(crate) fn take_line<'a>(
 {
     match draft.stage {
         Stage::Version => Ok(on_version(draft, words)),
-        Stage::Interp => Ok(on_interp(draft, words)),
+        Stage::Interp => Ok(on_interp(alloc, draft, words)),
+        Stage::Givens => on_given(draft, words),
         Stage::Retained => on_retained(draft, words),
         Stage::Table => on_table(alloc, draft, words),
         Stage::Rows => on_row(alloc, draft, words),

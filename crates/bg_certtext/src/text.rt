@@ -40,11 +40,25 @@ pub struct Section<'a> {
     pub nodes: Vec<TextNode<'a>>,
 }
 
-/// The certificate of a program: whether it has an interpretation, the names of the retained
-/// candidates, and the certificates of places.
+/// The value of a constant.
+#[derive(Clone, Copy)]
+pub enum Value {
+    Truth(bool),
+    Number(i128),
+}
+
+/// A constant's name and the value that the interpretation gives it.
+#[derive(Clone, Copy)]
+pub struct Given<'a> {
+    pub name: &'a [u8],
+    pub value: Value,
+}
+
+/// The certificate of a program: the interpretation, by the values of constants, where it has one,
+/// the names of the retained candidates, and the certificates of places.
 #[derive(Drop)]
 pub struct CertText<'a> {
-    pub interp: bool,
+    pub interp: Option<Vec<Given<'a>>>,
     pub retained: Vec<&'a [u8]>,
     pub sections: Vec<Section<'a>>,
 }

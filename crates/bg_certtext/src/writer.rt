@@ -2,10 +2,11 @@
 ghost use Rattle.std.specs.Prelude.{◌≡◌, ◌++◌, ◌∷◌, [], OnOk, IfOk, map, flat_map, length, codes};
 ghost use Rattle.std.specs.Fmt.{decimal, signed_decimal};
 ghost use Rattle.bg_certtext.specs.Lines.{line, behind_space};
-ghost use Rattle.bg_certtext.specs.Texts.{version_words, literal_word, step_words, node_lines, term_words, row_words, table_lines, place_words, section_lines, interp_words, retain_words, text_of};
+ghost use Rattle.bg_certtext.specs.Texts.{literal_word, step_words, node_lines, term_words, row_words, table_lines, place_words, section_lines, text_of};
 ghost use Rattle.bg_rows.specs.declared.step.Step.TheVariants.{Sum};
 ghost use Rattle.bg_certtext.specs.Views.{Bounds, Derives, row_of, node_of, section_of, cert_of};
 
+use crate::front::{put_interp, put_retained};
 use crate::put::{put_integer, put_line, put_number, put_numbered, put_pair};
 use crate::text::{CertText, Section, Term, TextNode, TextRow};
 use bg_cert::Named;
@@ -164,27 +165,6 @@ fn put_section(out: &mut Vec<u8>, section: &Section<'_>) -> Result<(), AllocErro
     put_nodes(out, &section.nodes)
 }
 
-/// The first two lines.
-fn put_front(out: &mut Vec<u8>, interp: bool) -> Result<(), AllocError>
-    ensures { OnOk result (out.new.items ≡ out.old.items ++ line version_words ++ line (interp_words interp)) }
-{
-    put_pair(out, b"bg-cert", b"1")?;
-    if interp {
-        put_line(out, b"interp")
-    } else {
-        put_pair(out, b"no", b"interp")
-    }
-}
-
-fn put_retained(out: &mut Vec<u8>, names: &[&[u8]]) -> Result<(), AllocError>
-    ensures { OnOk result (out.new.items ≡ out.old.items ++ flat_map line (map retain_words (map (λ name. name.now) names.now))) }
-{
-    for name in names {
-        put_pair(out, b"retain", name)?;
-    }
-    Ok(())
-}
-
 fn put_sections(out: &mut Vec<u8>, sections: &[Section<'_>]) -> Result<(), AllocError>
     ensures { OnOk result (out.new.items ≡ out.old.items ++ flat_map line (flat_map section_lines (map section_of sections.now))) }
 {
@@ -199,7 +179,8 @@ pub fn write(alloc: Global, cert: &CertText<'_>) -> Result<Vec<u8>, AllocError>
     ensures { IfOk result (λ bytes. bytes.items ≡ text_of (cert_of cert.now)) }
 {
     let mut out = Vec::new(alloc);
-    put_front(&mut out, cert.interp)?;
+    put_pair(&mut out, b"bg-cert", b"1")?;
+    put_interp(&mut out, &cert.interp)?;
     put_retained(&mut out, &cert.retained)?;
     put_sections(&mut out, &cert.sections)?;
     put_line(&mut out, b"end")?;

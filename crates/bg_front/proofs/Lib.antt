@@ -1,5 +1,5 @@
 pub mod Firsts
-pub mod FirstOthers
+pub mod FirstBodiless
 pub mod Guessing
 pub mod Large
 pub mod Lengths

@@ -12,13 +12,13 @@ use Rattle.bg_kinds.specs.Faults as t
 use Rattle.bg_types.specs.Verdicts.{IsWellTyped, IsFault}
 use Rattle.bg_typed.specs.Rules.{KeepsTypes}
 use Rattle.bg_front.specs.Later.{outside, AreJudged}
-use Rattle.bg_front.specs.Others.{AreCandidates}
+use Rattle.bg_front.specs.Bodiless.{HaveBodies}
 use Rattle.bg_front.specs.Limits.{most_bytes}
-use Rattle.bg_front.specs.Refusals.{Refusal, TooLong, Bytes, Syntax, Nesting, Names, Types, Later, Implementations, Candidates, Places, Expanded}
+use Rattle.bg_front.specs.Refusals.{Refusal, TooLong, Bytes, Syntax, Nesting, Names, Types, Later, Implementations, Candidates, Places, Bodies, Expanded}
 use Rattle.bg_front.specs.Trees.{IsTreeOf, HasNoTree}
 use Rattle.bg_front.specs.Programs.{IsMeaningOf, IsProgramOf, IsLater, ExceedsLimit, IsRefusedBy, limit_of, with_guesses}
 use Rattle.bg_front.proofs.Firsts.{one_unjudged, judged_not_unjudged}
-use Rattle.bg_front.proofs.FirstOthers.{one_other, candidates_no_other}
+use Rattle.bg_front.proofs.FirstBodiless.{one_bodiless, bodies_no_bodiless}
 use Rattle.bg_front.proofs.Named.{AreNamed, are_named_in, is_named_in}
 use Rattle.bg_front.proofs.NameFaults.{named_no_fault}
 use Rattle.bg_front.proofs.Ones.{Known, one_tree, not_both, one_refusal}
@@ -29,7 +29,7 @@ data Rest (guess : Bool) (ts : List Tok) (ds : List Decl) (x : Refusal) : Type 0
   misnamed : (f : n.Fault) → IsToldFault ds f → x ≡ Names f → Rest guess ts ds x
   mistyped : (f : t.Fault) → AreNamed ds → IsFault (named ds) f → x ≡ Types (named ds).types f → Rest guess ts ds x
   unjudged : (p : Pos) (w : List ℕ) → AreNamed ds → IsWellTyped (named ds) → IsLater ts ds p w → x ≡ Later p w → Rest guess ts ds x
-  large : AreNamed ds → IsWellTyped (named ds) → AreJudged ts → AreCandidates ds → limit_of (with_guesses guess (named ds)) ≡ Some x → Rest guess ts ds x
+  large : AreNamed ds → IsWellTyped (named ds) → AreJudged ts → HaveBodies ds → limit_of (with_guesses guess (named ds)) ≡ Some x → Rest guess ts ds x
 
 data Why (guess : Bool) (bytes : List ℕ) (x : Refusal) : Type 0 where
   long : most_bytes < length bytes → x ≡ TooLong → Why guess bytes x
@@ -60,6 +60,7 @@ why guess fine bytes (Later q w) h =
 why guess fine bytes (Implementations c) h = exceeded guess fine bytes (Implementations c) h
 why guess fine bytes (Candidates c) h = exceeded guess fine bytes (Candidates c) h
 why guess fine bytes (Places c) h = exceeded guess fine bytes (Places c) h
+why guess fine bytes (Bodies c) h = exceeded guess fine bytes (Bodies c) h
 why guess fine bytes Expanded h = exceeded guess fine bytes Expanded h
 
 -- ---- programs
@@ -72,12 +73,12 @@ one_program k guess bytes p q a b =
 no_limit : (o : Option Refusal) (x : Refusal) → o ≡ None → o ≡ Some x → ⊥
 no_limit o x h k = absurd (let e : None ≡ Some x = sym h ∙ k in cc)
 
--- where all tokens are judged and all constants candidates, nothing is left for later
-none_later : (ts : List Tok) (ds : List Decl) (p : Pos) (w : List ℕ) → AreJudged ts → AreCandidates ds → IsLater ts ds p w → ⊥
+-- where all tokens are judged and all functions have bodies, nothing is left for later
+none_later : (ts : List Tok) (ds : List Decl) (p : Pos) (w : List ℕ) → AreJudged ts → HaveBodies ds → IsLater ts ds p w → ⊥
 none_later ts ds p w j c (inl h) = judged_not_unjudged outside ts p w j h
-none_later ts ds p w j c (inr h) = candidates_no_other ds p c h.1.0
+none_later ts ds p w j c (inr h) = bodies_no_bodiless ds p c h.1.0
 
-few_rest : (guess : Bool) (ts : List Tok) (ds : List Decl) (x : Refusal) → AreNamed ds → IsWellTyped (named ds) → AreJudged ts → AreCandidates ds → limit_of (with_guesses guess (named ds)) ≡ None → Rest guess ts ds x → ⊥
+few_rest : (guess : Bool) (ts : List Tok) (ds : List Decl) (x : Refusal) → AreNamed ds → IsWellTyped (named ds) → AreJudged ts → HaveBodies ds → limit_of (with_guesses guess (named ds)) ≡ None → Rest guess ts ds x → ⊥
 few_rest guess ts ds x a b c m d (misnamed f h e) = named_no_fault ds f a h
 few_rest guess ts ds x a b c m d (mistyped f n h e) = typed_no_fault (named ds) f b h
 few_rest guess ts ds x a b c m d (unjudged p w n t h e) = none_later ts ds p w c m h
@@ -93,7 +94,7 @@ no_reason k fine guess bytes p x a (some l ts ds tree h) =
     (subst (λ (d : List Decl). AreNamed d) (sym e.1) (are_named_in bytes a.tokens a.written a.spelled))
     (fine (named ds) (subst (λ (q : r.Program). KeepsTypes q) meant a.typed))
     (subst (λ (t : List Tok). AreJudged t) (sym e.0) a.judged)
-    (subst (λ (d : List Decl). AreCandidates d) (sym e.1) a.candidates)
+    (subst (λ (d : List Decl). HaveBodies d) (sym e.1) a.bodies)
     (subst (λ (q : r.Program). limit_of q ≡ None) (a.is ∙ ap (with_guesses guess) meant) a.within)
     h
 
@@ -108,7 +109,7 @@ one_later : (ts : List Tok) (ds : List Decl) (p q : Pos) (v w : List ℕ) → Is
 one_later ts ds p q v w (inl a) (inl b) = one_unjudged outside ts p q v w a b
 one_later ts ds p q v w (inl a) (inr b) = absurd (judged_not_unjudged outside ts p v b.0 a)
 one_later ts ds p q v w (inr a) (inl b) = absurd (judged_not_unjudged outside ts q w a.0 b)
-one_later ts ds p q v w (inr a) (inr b) = (one_other ds p q a.1.0 b.1.0, a.1.1 ∙ sym b.1.1)
+one_later ts ds p q v w (inr a) (inr b) = (one_bodiless ds p q a.1.0 b.1.0, a.1.1 ∙ sym b.1.1)
 
 one_limit : (o : Option Refusal) (x y : Refusal) → o ≡ Some x → o ≡ Some y → x ≡ y
 one_limit o x y h k = let e : Some x ≡ Some y = sym h ∙ k in cc

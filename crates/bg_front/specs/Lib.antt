@@ -1,5 +1,5 @@
 pub mod Later
-pub mod Others
+pub mod Bodiless
 pub mod Limits
 pub mod Refusals
 pub mod Lines

@@ -9,7 +9,7 @@ use Rattle.bg_names.specs.declared.error.FaultKind.TheVariants as kinds
 use Rattle.bg_kinds.specs.Faults as types
 use Rattle.bg_kinds.specs.Texts.{type_text}
 use Rattle.bg_front.specs.Limits.{most_bytes}
-use Rattle.bg_front.specs.Refusals.{Refusal, TooLong, Bytes, Syntax, Nesting, Names, Types, Later, Implementations, Candidates, Places, Expanded}
+use Rattle.bg_front.specs.Refusals.{Refusal, TooLong, Bytes, Syntax, Nesting, Names, Types, Later, Implementations, Candidates, Places, Bodies, Expanded}
 use Rattle.bg_places.specs.Counts.{most_expanded}
 
 -- line and column
@@ -71,4 +71,5 @@ line_of (Later p word) = fault_line p (codes "unsupported " ++ word)
 line_of (Implementations n) = limit_line (codes "implementations") n
 line_of (Candidates n) = limit_line (codes "candidates") n
 line_of (Places n) = limit_line (codes "places") n
+line_of (Bodies n) = limit_line (codes "bodies") n
 line_of Expanded = limit_line (codes "expanded") (most_expanded + 1)

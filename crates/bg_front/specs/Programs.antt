@@ -5,13 +5,15 @@ use Rattle.bg_text.specs.Tokens.{Tok}
 use Rattle.bg_text.specs.Trees.{Decl}
 use Rattle.bg_ast.specs.Resolved as r
 use Rattle.bg_resolve.specs.Resolves.{IsToldFault}
-use Rattle.bg_places.specs.Counts.{most_places, most_expanded, place_counts, expanded_counts, first_above, is_any_above}
+use Rattle.bg_places.specs.Counts.{most_places, most_expanded, place_counts, first_above, is_any_above}
+use Rattle.bg_expanded.specs.Chains.{most_bodies, longest_chain}
+use Rattle.bg_expanded.specs.Counts.{opened_counts}
 use Rattle.bg_meant.specs.Declared.{MeansProgram}
 use Rattle.bg_types.specs.Verdicts.{IsFault}
 use Rattle.bg_typed.specs.Rules.{KeepsTypes}
 use Rattle.bg_guess.specs.Guessed.{guessed}
 use Rattle.bg_front.specs.Later.{AreJudged, IsUnjudged}
-use Rattle.bg_front.specs.Others.{AreCandidates, IsFirstOther}
+use Rattle.bg_front.specs.Bodiless.{HaveBodies, IsFirstBodiless}
 use Rattle.bg_front.specs.Limits.{most_bytes, most_implementations, most_candidates}
 use Rattle.bg_front.specs.Refusals as f
 use Rattle.bg_front.specs.Refusals.{refusal_of}
@@ -30,15 +32,17 @@ pub record IsMeaningOf (bytes : List ℕ) (ts : List Tok) (program : r.Program) 
 abbrev pub IsMeaningFrom : List ℕ → List Tok → List Decl → r.Program → Type 0
 IsMeaningFrom bytes ts decls program = (m : IsMeaningOf bytes ts program) × (m.decls ≡ decls)
 
--- too many places of the first implementation that has too many, or too many nodes of one
-abbrev pub size_limit : Option ℕ → Bool → Option f.Refusal
-size_limit (Some places) large = Some (f.Places places)
-size_limit None true = Some f.Expanded
-size_limit None false = None
+-- too many places of the first implementation that has too many, too many bodies in one chain, or too many nodes
+abbrev pub size_limit : Option ℕ → (chain : ℕ) → Bool → Option f.Refusal
+size_limit (Some places) chain large = Some (f.Places places)
+size_limit None chain large =
+    if nat_lt most_bodies chain then Some (f.Bodies chain) else if large then Some f.Expanded else None
 
--- the places and the expression nodes of the implementations of a program
+-- the places of the implementations of a program, the longest chain of its bodies, and the expression nodes of its axioms and of its
+-- implementations, with bodies in the place of applications
 abbrev pub too_large : r.Program → Option f.Refusal
-too_large p = size_limit (first_above most_places (place_counts p)) (is_any_above most_expanded (expanded_counts p))
+too_large p =
+    size_limit (first_above most_places (place_counts p)) (longest_chain p) (is_any_above most_expanded (opened_counts most_bodies p))
 
 -- too many implementations, or too many candidates
 abbrev pub count_limit : (implementations candidates : ℕ) → Option f.Refusal
@@ -57,8 +61,8 @@ abbrev pub or_else : Option f.Refusal → Option f.Refusal → Option f.Refusal
 or_else None y = y
 or_else (Some x) y = Some x
 
--- the first limit that the program exceeds: of implementations, of candidates, of the places of an implementation, of the expression nodes
--- of one
+-- the first limit that the program exceeds: of implementations, of candidates, of the places of an implementation, of bodies in a chain, of
+-- expression nodes
 abbrev pub limit_of : r.Program → Option f.Refusal
 limit_of p = or_else (too_many p) (too_large p)
 
@@ -67,7 +71,7 @@ abbrev pub with_guesses : Bool → r.Program → r.Program
 with_guesses false p = p
 with_guesses true p = guessed p
 
--- the bytes spell a program that keeps the rules of types, each of its tokens is judged, and its constants are candidates; this is the
+-- the bytes spell a program that keeps the rules of types, each of its tokens is judged, and its functions have bodies; this is the
 -- program, with its guesses where these are asked for, and it exceeds no limit
 pub record IsProgramOf (guess : Bool) (bytes : List ℕ) (program : r.Program) : Type 0 where
   pub tokens : List Tok
@@ -75,7 +79,7 @@ pub record IsProgramOf (guess : Bool) (bytes : List ℕ) (program : r.Program) :
   pub spelled : IsMeaningOf bytes tokens written
   pub typed : KeepsTypes written
   pub judged : AreJudged tokens
-  pub candidates : AreCandidates spelled.decls
+  pub bodies : HaveBodies spelled.decls
   pub is : program ≡ with_guesses guess written
   pub within : limit_of program ≡ None
 
@@ -83,16 +87,16 @@ pub record IsProgramOf (guess : Bool) (bytes : List ℕ) (program : r.Program) :
 abbrev pub IsProgramFrom : Bool → List ℕ → List Decl → r.Program → Type 0
 IsProgramFrom guess bytes decls program = (p : IsProgramOf guess bytes program) × (p.spelled.decls ≡ decls)
 
--- what isn't judged yet: the first token that isn't, at this position and written so; or, where all tokens are, the word `const` of the
--- first declaration of constants that are no candidates
+-- what isn't judged yet: the first token that isn't, at this position and written so; or, where all tokens are, the word `function` of the
+-- first function without a body
 abbrev pub IsLater : List Tok → List Decl → Pos → List ℕ → Type 0
 IsLater ts ds pos word =
-    IsUnjudged ts pos word ⊎ (AreJudged ts × (IsFirstOther ds pos × (word ≡ codes "const")))
+    IsUnjudged ts pos word ⊎ (AreJudged ts × (IsFirstBodiless ds pos × (word ≡ codes "function")))
 
 -- the bytes spell a program that is typed and judged, and exceeds this limit first, with its guesses where these are asked for
 abbrev pub ExceedsLimit : Bool → List ℕ → f.Refusal → Type 0
 ExceedsLimit guess bytes limit =
-    (ts : List Tok) × (p : r.Program) × (m : IsMeaningOf bytes ts p) × KeepsTypes p × AreJudged ts × AreCandidates m.decls × (limit_of (with_guesses guess p) ≡ Some limit)
+    (ts : List Tok) × (p : r.Program) × (m : IsMeaningOf bytes ts p) × KeepsTypes p × AreJudged ts × HaveBodies m.decls × (limit_of (with_guesses guess p) ≡ Some limit)
 
 -- why a text has no program; each reason stands only where none before it does, and limits alone look at guesses
 abbrev pub IsRefusedBy : Bool → List ℕ → f.Refusal → Type 0
@@ -103,6 +107,7 @@ IsRefusedBy guess bytes (f.Later pos word) = (ts : List Tok) × (p : r.Program) 
 IsRefusedBy guess bytes (f.Implementations n) = ExceedsLimit guess bytes (f.Implementations n)
 IsRefusedBy guess bytes (f.Candidates n) = ExceedsLimit guess bytes (f.Candidates n)
 IsRefusedBy guess bytes (f.Places n) = ExceedsLimit guess bytes (f.Places n)
+IsRefusedBy guess bytes (f.Bodies n) = ExceedsLimit guess bytes (f.Bodies n)
 IsRefusedBy guess bytes f.Expanded = ExceedsLimit guess bytes f.Expanded
 IsRefusedBy guess bytes reason = (length bytes ≤ most_bytes) × HasNoTree bytes reason
 

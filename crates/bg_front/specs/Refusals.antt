@@ -24,6 +24,7 @@ pub data Refusal : Type 0 where
   Implementations : ℕ → Refusal
   Candidates : ℕ → Refusal
   Places : ℕ → Refusal
+  Bodies : ℕ → Refusal
   Expanded : Refusal
 
 -- whether a limit is exceeded
@@ -33,6 +34,7 @@ is_limit Nesting = true
 is_limit (Implementations n) = true
 is_limit (Candidates n) = true
 is_limit (Places n) = true
+is_limit (Bodies n) = true
 is_limit Expanded = true
 is_limit _ = false
 
@@ -48,4 +50,5 @@ refusal_of (codes_.Later p word) = Later p word.now
 refusal_of (codes_.Implementations n) = Implementations n
 refusal_of (codes_.Candidates n) = Candidates n
 refusal_of (codes_.Places n) = Places n
+refusal_of (codes_.Bodies n) = Bodies n
 refusal_of codes_.Expanded = Expanded

@@ -18,10 +18,10 @@ fn is_unjudged(kind: Kind) -> bool
     ensures { result ≡ is_unjudged kind }
 {
     match kind {
-        // functions and axioms
+        // declared types
         Kind::Type => true,
-        Kind::Function => true,
-        Kind::Axiom => true,
+        // constants that differ
+        Kind::Unique => true,
         // maps
         Kind::OpenBracket => true,
         _ => false,

@@ -1,20 +1,20 @@
 //! From the bytes of a text to its program, or to the one line that refuses it.
 #![tactic(auto)]
 
+mod bodiless;
 mod faults;
 mod later;
 pub mod laws;
 mod limits;
 mod lines;
-mod others;
 mod refusal;
 mod sizes;
 mod text;
 mod tree;
 
+pub use bodiless::first_bodiless;
 pub use later::first_unjudged;
 pub use limits::{MOST_BYTES, MOST_CANDIDATES, MOST_IMPLEMENTATIONS};
-pub use others::first_other;
 pub use refusal::{ReadError, Refusal};
 pub use text::{Written, read_program, read_text};
 pub use tree::{Read, tree_of};

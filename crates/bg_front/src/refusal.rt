@@ -36,7 +36,10 @@ pub enum Refusal<'a> {
     Candidates(usize),
     /// The first implementation that has more places than `MOST_PLACES` has so many, as far as 64 bits tell it.
     Places(usize),
-    /// An implementation has more expression nodes than `MOST_EXPANDED`, with the clauses of what it calls.
+    /// The longest chain of functions, each applied in the body of the next, has so many, more than `MOST_BODIES`.
+    Bodies(usize),
+    /// With bodies in the place of applications, the axioms together have more expression nodes than `MOST_EXPANDED`, or an
+    /// implementation has with the clauses of what it calls.
     Expanded,
 }
 
@@ -60,6 +63,7 @@ impl<'a> Refusal<'a> {
             Refusal::Implementations(_) => true,
             Refusal::Candidates(_) => true,
             Refusal::Places(_) => true,
+            Refusal::Bodies(_) => true,
             Refusal::Expanded => true,
             _ => false,
         }
@@ -79,6 +83,7 @@ impl<'a> Refusal<'a> {
             Refusal::Implementations(count) => put_limit(out, b"implementations", *count),
             Refusal::Candidates(count) => put_limit(out, b"candidates", *count),
             Refusal::Places(count) => put_limit(out, b"places", *count),
+            Refusal::Bodies(count) => put_limit(out, b"bodies", *count),
             Refusal::Expanded => put_limit(out, b"expanded", MOST_EXPANDED as usize + 1),
         }
     }

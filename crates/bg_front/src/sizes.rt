@@ -4,11 +4,12 @@ ghost use Rattle.bg_ast.specs.Views.{program_of};
 ghost use Rattle.bg_front.specs.Programs.{candidate_count, too_many, too_large, limit_of, with_guesses, IsLimitOf};
 ghost use Rattle.bg_front.specs.Refusals.{refusal_of};
 
-use crate::limits::{MOST_CANDIDATES, MOST_IMPLEMENTATIONS};
+use crate::limits::{MOST_BODIES, MOST_CANDIDATES, MOST_IMPLEMENTATIONS};
 use crate::refusal::{ReadError, Refusal};
 use bg_ast::resolved::Resolved;
+use bg_expanded::{is_any_too_large, longest_chain};
 use bg_guess::count;
-use bg_places::{first_crowded, is_any_too_large};
+use bg_places::first_crowded;
 use std::alloc::{AllocError, Global};
 
 /// How many candidates a program has, with its guesses where these are asked for, as far as 64 bits tell it. None is made.
@@ -41,12 +42,17 @@ fn too_many<'a>(
     Ok(None)
 }
 
-/// Whether an implementation has too many places, or else one too many expression nodes.
+/// Whether an implementation has too many places, or else a chain too many bodies, or else the axioms or an implementation too many
+/// expression nodes.
 fn too_large<'a>(alloc: Global, program: &Resolved) -> Result<Option<Refusal<'a>>, AllocError>
     ensures { IfOk result (λ found. option_map refusal_of found ≡ too_large (program_of program.now)) }
 {
     if let Some(places) = first_crowded(alloc, program)? {
         return Ok(Some(Refusal::Places(places)));
+    }
+    let chain = longest_chain(alloc, program)?;
+    if chain > MOST_BODIES {
+        return Ok(Some(Refusal::Bodies(chain)));
     }
     if is_any_too_large(alloc, program)? {
         return Ok(Some(Refusal::Expanded));

@@ -6,13 +6,13 @@ ghost use Rattle.bg_ast.specs.Views.{program_of};
 ghost use Rattle.bg_typed.specs.Rules.{KeepsTypes};
 ghost use Rattle.bg_front.specs.Later.{AreJudged};
 ghost use Rattle.bg_front.specs.Limits.{most_bytes};
-ghost use Rattle.bg_front.specs.Others.{AreCandidates};
+ghost use Rattle.bg_front.specs.Bodiless.{HaveBodies};
 ghost use Rattle.bg_front.specs.Programs.{IsMeaningFrom, IsProgramFrom, IsProgramOf, IsRefused};
 ghost use Rattle.bg_front.specs.Trees.{IsTreeOf};
 
+use crate::bodiless::first_bodiless;
 use crate::later::first_unjudged;
 use crate::limits::MOST_BYTES;
-use crate::others::first_other;
 use crate::refusal::{ReadError, Refusal};
 use crate::sizes::within_limits;
 use crate::tree::{Read, tree_of};
@@ -92,7 +92,7 @@ fn counted<'a>(
     requires meant { IsMeaningFrom bytes.now (views tokens.now) (decls_of decls.now) (program_of typed.program) }
     requires typed { KeepsTypes (program_of typed.program) }
     requires judged { AreJudged (views tokens.now) }
-    requires candidates { AreCandidates (decls_of decls.now) }
+    requires bodies { HaveBodies (decls_of decls.now) }
     ensures program { IfOk result (λ t. IsProgramFrom guess bytes.now (decls_of decls.now) (program_of t.program)) }
     ensures refused { IfErr result (λ e. IsRefused guess bytes.now e) }
 {
@@ -100,7 +100,7 @@ fn counted<'a>(
     Ok(Typed { program })
 }
 
-/// The same, where each token is judged, and each constant a candidate.
+/// The same, where each token is judged, and each function has a body.
 fn judged<'a>(
     alloc: Global,
     bytes: &'a [u8],
@@ -117,8 +117,8 @@ fn judged<'a>(
     if let Some((pos, word)) = first_unjudged(tokens) {
         return Err(ReadError::Refused(Refusal::Later(pos, word)));
     }
-    match first_other(decls) {
-        Some(pos) => Err(ReadError::Refused(Refusal::Later(pos, b"const"))),
+    match first_bodiless(decls) {
+        Some(pos) => Err(ReadError::Refused(Refusal::Later(pos, b"function"))),
         None => counted(alloc, bytes, tokens, decls, typed, guess),
     }
 }
@@ -135,10 +135,12 @@ pub struct Written {
 /// # Errors
 /// `Refused` with the first of these that holds: there are too many bytes (`TooLong`); the bytes hold no tokens (`Bytes`);
 /// the tokens spell no program (`Syntax`) or open a 201st bracket (`Nesting`), whichever comes first; a rule of names
-/// (`Names`) or of types (`Types`) is broken; a token isn't judged yet (`Later`), or else constants are no candidates (`Later` at
-/// their word `const`); there are too many implementations (`Implementations`) or candidates (`Candidates`), the guesses that
-/// are asked for among them and counted before they are made, or an implementation has with them too many places (`Places`)
-/// or too many expression nodes (`Expanded`). `Memory` where memory ran out. Positions are lines and byte columns from 1.
+/// (`Names`) or of types (`Types`) is broken; a token isn't judged yet (`Later`), or else a function has no body (`Later` at its
+/// word `function`); there are too many implementations (`Implementations`) or candidates (`Candidates`), the guesses that are
+/// asked for among them and counted before they are made; an implementation has with them too many places (`Places`), a chain
+/// of functions too many bodies (`Bodies`), or the axioms together or an implementation, with bodies in the place of
+/// applications, too many expression nodes (`Expanded`). `Memory` where memory ran out. Positions are lines and byte columns
+/// from 1.
 pub fn read_text<'a>(alloc: Global, bytes: &'a [u8], guess: bool) -> Result<Written, ReadError<'a>>
     ensures program { IfOk result (λ w. IsProgramFrom guess bytes.now (decls_of w.tree.decls.items) (program_of w.typed.program)) }
     ensures refused { IfErr result (λ e. IsRefused guess bytes.now e) }

@@ -1,5 +1,5 @@
 -- Types, attributes and groups of names: what their tokens allow.
-use Rattle.std.proofs.Common.{◌≡◌, ℕ, Bool, true, false, List, [], ◌∷◌, ◌++◌, refl, subst}
+use Rattle.std.proofs.Common.{◌≡◌, ℕ, true, false, List, [], ◌∷◌, ◌++◌, refl, subst}
 use Rattle.bg_text.specs.declared.token.Kind.TheVariants as kinds
 use Rattle.bg_text.specs.Trees as t
 use Rattle.bg_text.specs.Marks.{Mark, sign, id_mark, each}
@@ -11,51 +11,50 @@ use Rattle.bg_names.specs.Spaces.{use_faults}
 use Rattle.bg_names.specs.Exprs.{ty_faults, named_ty}
 use Rattle.bg_fits.specs.Scalars.{is_scalar_type}
 use Rattle.bg_judged.proofs.Marks.{flat, Judged, assoc, never, Reads, on_each, on_commas}
-use Rattle.bg_judged.proofs.Exprs.{on_ex, may}
+use Rattle.bg_judged.proofs.Exprs.{on_ex}
 
 -- where no type is declared, a type without faults of names is one that may stand
-abbrev pub TypeGood : Bool → t.Ty → Type 0
-TypeGood w e = (types : List (List ℕ)) → types ≡ [] → (named : ℕ → v.Ty) → ty_faults types e ≡ [] → is_scalar_type w (m.type_in named (named_ty types e)) ≡ true
+abbrev pub TypeGood : t.Ty → Type 0
+TypeGood e = (types : List (List ℕ)) → types ≡ [] → (named : ℕ → v.Ty) → ty_faults types e ≡ [] → is_scalar_type true (m.type_in named (named_ty types e)) ≡ true
 
-abbrev pub GroupGood : Bool → t.Group → Type 0
-GroupGood w g = TypeGood w g.ty
+abbrev pub GroupGood : t.Group → Type 0
+GroupGood g = TypeGood g.ty
 
 some_fault : {A : Type 0} (f : Fault) → f ∷ [] ≡ [] → A
 some_fault f h = absurd (let bad : ⊥ = cc in bad)
 
-module _ (w : Bool) where
-  pub on_ty : Reads w false type_marks (TypeGood w)
-  on_ty (t.IntType p) rest h = (λ types none named ok. may w (h.0 refl), h.1)
-  on_ty (t.BoolType p) rest h = (λ types none named ok. refl, h.1)
-  on_ty (t.NamedType p x) rest h =
-      (λ types none named ok. some_fault _ (subst (λ l. use_faults l (record { pos = p; text = x }) ≡ []) none ok), h.1)
-  on_ty (t.InParens p e) rest h =
-      let a = on_ty e (sign kinds.Close ∷ rest) (assoc w (flat false) (type_marks e) (sign kinds.Close ∷ []) rest h.1) in
-      (λ types none named ok. a.0 types none named ok, a.1.1)
-  on_ty (t.MapType t.NoIndex e) rest h =
-      let a = on_ty e rest h in (λ types none named ok. a.0 types none named ok, a.1)
-  on_ty (t.MapType (t.Index p ts is) e) rest h = never (h.0 refl)
+pub on_ty : Reads false type_marks TypeGood
+on_ty (t.IntType p) rest h = (λ types none named ok. refl, h.1)
+on_ty (t.BoolType p) rest h = (λ types none named ok. refl, h.1)
+on_ty (t.NamedType p x) rest h =
+    (λ types none named ok. some_fault _ (subst (λ l. use_faults l (record { pos = p; text = x }) ≡ []) none ok), h.1)
+on_ty (t.InParens p e) rest h =
+    let a = on_ty e (sign kinds.Close ∷ rest) (assoc (flat false) (type_marks e) (sign kinds.Close ∷ []) rest h.1) in
+    (λ types none named ok. a.0 types none named ok, a.1.1)
+on_ty (t.MapType t.NoIndex e) rest h =
+    let a = on_ty e rest h in (λ types none named ok. a.0 types none named ok, a.1)
+on_ty (t.MapType (t.Index p ts is) e) rest h = never (h.0 refl)
 
-  on_arg : Reads w true arg_marks (λ a. Unit {0})
-  on_arg (t.Formula e) rest h = (tt, (on_ex w true e rest h).1)
-  on_arg (t.Quoted text) rest h = (tt, h.1)
+on_arg : Reads true arg_marks (λ a. Unit {0})
+on_arg (t.Formula e) rest h = (tt, (on_ex true e rest h).1)
+on_arg (t.Quoted text) rest h = (tt, h.1)
 
-  on_attr : Reads w false attr_marks (λ a. Unit {0})
-  on_attr a rest h =
-      let b = on_commas w true arg_marks (λ x. Unit {0}) on_arg a.args (sign kinds.CloseBrace ∷ rest) (assoc w (flat true) _ (sign kinds.CloseBrace ∷ []) rest h.1.1.1) in
-      (tt, b.1.1)
+on_attr : Reads false attr_marks (λ a. Unit {0})
+on_attr a rest h =
+    let b = on_commas true arg_marks (λ x. Unit {0}) on_arg a.args (sign kinds.CloseBrace ∷ rest) (assoc (flat true) _ (sign kinds.CloseBrace ∷ []) rest h.1.1.1) in
+    (tt, b.1.1)
 
-  pub on_attrs : (ys : List t.Attr) (rest : List Mark) → Judged w (flat false) (each attr_marks ys ++ rest) → Judged w (flat false) rest
-  on_attrs ys rest h = (on_each w false attr_marks (λ a. Unit {0}) on_attr ys rest h).1
+pub on_attrs : (ys : List t.Attr) (rest : List Mark) → Judged (flat false) (each attr_marks ys ++ rest) → Judged (flat false) rest
+on_attrs ys rest h = (on_each false attr_marks (λ a. Unit {0}) on_attr ys rest h).1
 
-  pub on_ids : (xs : List t.Id) (rest : List Mark) → Judged w (flat false) (ids_marks xs ++ rest) → Judged w (flat false) rest
-  on_ids xs rest h =
-      (on_commas w false (λ x. id_mark x ∷ []) (λ x. Unit {0}) (λ x more k. (tt, k.1)) xs rest h).1
+pub on_ids : (xs : List t.Id) (rest : List Mark) → Judged (flat false) (ids_marks xs ++ rest) → Judged (flat false) rest
+on_ids xs rest h =
+    (on_commas false (λ x. id_mark x ∷ []) (λ x. Unit {0}) (λ x more k. (tt, k.1)) xs rest h).1
 
-  pub on_group : Reads w false group_marks (GroupGood w)
-  on_group g rest h =
-      let last = sign kinds.Colon ∷ type_marks g.ty in
-      let a = assoc w (flat false) (each attr_marks g.attrs ++ ids_marks g.names) last rest h in
-      let b = assoc w (flat false) (each attr_marks g.attrs) (ids_marks g.names) (last ++ rest) a in
-      let c = on_ids g.names (last ++ rest) (on_attrs g.attrs (ids_marks g.names ++ (last ++ rest)) b) in
-      on_ty g.ty rest c.1
+pub on_group : Reads false group_marks GroupGood
+on_group g rest h =
+    let last = sign kinds.Colon ∷ type_marks g.ty in
+    let a = assoc (flat false) (each attr_marks g.attrs ++ ids_marks g.names) last rest h in
+    let b = assoc (flat false) (each attr_marks g.attrs) (ids_marks g.names) (last ++ rest) a in
+    let c = on_ids g.names (last ++ rest) (on_attrs g.attrs (ids_marks g.names ++ (last ++ rest)) b) in
+    on_ty g.ty rest c.1

@@ -1,103 +1,64 @@
 -- From tokens to what is judged.
-use Rattle.std.proofs.Common.{◌≡◌, ℕ, Bool, true, false, List, refl, sym, subst}
-use Rattle.std.specs.Prelude.{◌&&◌, not}
-use Rattle.bg_text.specs.declared.token.Kind.{Kind}
-use Rattle.bg_text.specs.declared.token.Kind.TheVariants as kinds
+use Rattle.std.proofs.Common.{◌≡◌, ◌≤◌, ℕ, nat_lt, Bool, true, false, List, Option, Some, None, if◌then◌else◌, refl, sym, subst}
+use Rattle.std.proofs.lemmas.Bool.{ltb-false}
 use Rattle.bg_text.specs.Tokens.{Tok}
 use Rattle.bg_ast.specs.Resolved as r
 use Rattle.bg_ast.specs.Meaning.{meaning_of}
 use Rattle.bg_sense.specs.Resolved.{IsResolved}
-use Rattle.bg_typed.specs.Rules.{KeepsTypes}
-use Rattle.bg_front.specs.Later.{is_unjudged, outside, spot_from}
-use Rattle.bg_front.specs.Others.{AreCandidates}
-use Rattle.bg_front.specs.Programs.{IsMeaningOf, IsProgramOf, with_guesses}
+use Rattle.bg_sense.specs.Typed.{IsTyped}
+use Rattle.bg_sense.specs.Recursion.{HasNoRecursion}
+use Rattle.bg_opened.specs.Judged.{is_judged}
+use Rattle.bg_opened.specs.Openable.{IsOpenable}
+use Rattle.bg_places.specs.Counts.{most_places, most_expanded, place_counts, first_above, is_any_above}
+use Rattle.bg_expanded.specs.Chains.{most_bodies, longest_chain}
+use Rattle.bg_expanded.specs.Counts.{opened_counts}
+use Rattle.bg_front.specs.Later.{AreJudged}
+use Rattle.bg_front.specs.Bodiless.{HaveBodies}
+use Rattle.bg_front.specs.Refusals.{Refusal, Places, Bodies, Expanded}
+use Rattle.bg_front.specs.Programs.{IsMeaningOf, IsProgramOf, size_limit, or_else, too_many, too_large, limit_of, with_guesses}
 use Rattle.bg_front.proofs.Named.{are_named_in, is_named_in}
 use Rattle.bg_front.proofs.TypedPrograms.{AreResolved, written_resolved}
-use Rattle.bg_guess.specs.Guessed.{guessed}
-use Rattle.bg_fits.specs.Scalars.{passes, is_scalar_type, is_scalar, is_over_scalars}
-use Rattle.bg_judged.specs.Within.{is_beyond, AreWithin}
-use Rattle.bg_judged.proofs.Marks.{never}
-use Rattle.bg_judged.proofs.Exprs.{few}
 use Rattle.bg_judged.proofs.Programs.{tokens_good}
-use Rattle.bg_judged.proofs.Typed.{scalar_turn}
-use Rattle.bg_judged.proofs.Turns.{program_turn}
+use Rattle.bg_judged.proofs.Guesses.{guesses_judged}
 
--- a token that is beyond isn't judged
-beyond_unjudged : (k : Kind) → is_unjudged k ≡ false → is_beyond true k ≡ false
-beyond_unjudged kinds.Name h = refl
-beyond_unjudged kinds.Quoted h = refl
-beyond_unjudged kinds.Assert h = refl
-beyond_unjudged kinds.Assume h = refl
-beyond_unjudged kinds.Axiom h = never h
-beyond_unjudged kinds.Bool h = refl
-beyond_unjudged kinds.Break h = refl
-beyond_unjudged kinds.Call h = refl
-beyond_unjudged kinds.Const h = refl
-beyond_unjudged kinds.Else h = refl
-beyond_unjudged kinds.Ensures h = refl
-beyond_unjudged kinds.False h = refl
-beyond_unjudged kinds.Free h = refl
-beyond_unjudged kinds.Function h = never h
-beyond_unjudged kinds.Goto h = refl
-beyond_unjudged kinds.Havoc h = refl
-beyond_unjudged kinds.If h = refl
-beyond_unjudged kinds.Implementation h = refl
-beyond_unjudged kinds.Int h = refl
-beyond_unjudged kinds.Invariant h = refl
-beyond_unjudged kinds.Modifies h = refl
-beyond_unjudged kinds.Old h = refl
-beyond_unjudged kinds.Procedure h = refl
-beyond_unjudged kinds.Requires h = refl
-beyond_unjudged kinds.Return h = refl
-beyond_unjudged kinds.Returns h = refl
-beyond_unjudged kinds.True h = refl
-beyond_unjudged kinds.Type h = never h
-beyond_unjudged kinds.Unique h = refl
-beyond_unjudged kinds.Var h = refl
-beyond_unjudged kinds.While h = refl
-beyond_unjudged kinds.Open h = refl
-beyond_unjudged kinds.Close h = refl
-beyond_unjudged kinds.OpenBracket h = never h
-beyond_unjudged kinds.CloseBracket h = refl
-beyond_unjudged kinds.OpenBrace h = refl
-beyond_unjudged kinds.CloseBrace h = refl
-beyond_unjudged kinds.Comma h = refl
-beyond_unjudged kinds.Semicolon h = refl
-beyond_unjudged kinds.Colon h = refl
-beyond_unjudged kinds.Becomes h = refl
-beyond_unjudged kinds.Sets h = refl
-beyond_unjudged kinds.Less h = refl
-beyond_unjudged kinds.AtMost h = refl
-beyond_unjudged kinds.Greater h = refl
-beyond_unjudged kinds.AtLeast h = refl
-beyond_unjudged kinds.Equal h = refl
-beyond_unjudged kinds.Unequal h = refl
-beyond_unjudged kinds.Implies h = refl
-beyond_unjudged kinds.Explies h = refl
-beyond_unjudged kinds.Iff h = refl
-beyond_unjudged kinds.And h = refl
-beyond_unjudged kinds.Or h = refl
-beyond_unjudged kinds.Not h = refl
-beyond_unjudged kinds.Plus h = refl
-beyond_unjudged kinds.Minus h = refl
-beyond_unjudged kinds.Times h = refl
-beyond_unjudged (kinds.Number z) h = refl
+pub tokens_judged : (bytes : List ℕ) (ts : List Tok) (p : r.Program) → (h : IsMeaningOf bytes ts p) → AreJudged ts → HaveBodies h.decls → is_judged (meaning_of p) ≡ true
+tokens_judged bytes ts p h judged have =
+    subst (λ q. is_judged (meaning_of q) ≡ true) (sym (is_named_in bytes ts p h)) (tokens_good ts h.decls judged have h.tree.1.spells.1 (are_named_in bytes ts p h).0)
 
-judged_here : (inside : Bool) (k : Kind) → inside ≡ false → (not inside && is_unjudged k) ≡ false → is_unjudged k ≡ false
-judged_here true k out h = never out
-judged_here false k out h = h
+judged_with : (guess : Bool) (p : r.Program) → IsResolved (meaning_of p) → is_judged (meaning_of p) ≡ true → is_judged (meaning_of (with_guesses guess p)) ≡ true
+judged_with false p h s = s
+judged_with true p h s = guesses_judged p h s
 
-pub within_scalars : (numbers : Bool) (bytes : List ℕ) (ts : List Tok) (p : r.Program) → (h : IsMeaningOf bytes ts p) → KeepsTypes p → AreWithin numbers ts → AreCandidates h.decls → is_over_scalars numbers (meaning_of p) ≡ true
-within_scalars numbers bytes ts p h typed within are =
-    let good = subst (λ q. passes (is_scalar_type numbers) (few numbers) (meaning_of q) ≡ true) (sym (is_named_in bytes ts p h)) (tokens_good numbers ts h.decls within are h.tree.1.spells.1 (are_named_in bytes ts p h).0) in
-    program_turn numbers (few numbers) (is_scalar numbers) (scalar_turn numbers) (meaning_of p) typed.typed good
+program_judged : AreResolved → (guess : Bool) (bytes : List ℕ) (p : r.Program) → IsProgramOf guess bytes p → is_judged (meaning_of p) ≡ true
+program_judged are_resolved guess bytes p h =
+    let written = tokens_judged bytes h.tokens h.written h.spelled h.judged h.bodies in
+    subst (λ q. is_judged (meaning_of q) ≡ true) (sym h.is) (judged_with guess h.written (written_resolved are_resolved guess bytes p h) written)
 
-scalars_with : ((p : r.Program) → IsResolved (meaning_of p) → is_over_scalars true (meaning_of p) ≡ true → is_over_scalars true (meaning_of (guessed p)) ≡ true) → (guess : Bool) (p : r.Program) → IsResolved (meaning_of p) → is_over_scalars true (meaning_of p) ≡ true → is_over_scalars true (meaning_of (with_guesses guess p)) ≡ true
-scalars_with stay false p h s = s
-scalars_with stay true p h s = stay p h s
+-- ---- chains
+some_none : {A : Type 0} (x : Refusal) → Some x ≡ None → A
+some_none x h = absurd (let bad : Some x ≡ None = h in cc)
 
-pub judged_scalars : AreResolved → ((p : r.Program) → IsResolved (meaning_of p) → is_over_scalars true (meaning_of p) ≡ true → is_over_scalars true (meaning_of (guessed p)) ≡ true) → (guess : Bool) (bytes : List ℕ) (p : r.Program) → IsProgramOf guess bytes p → is_over_scalars true (meaning_of p) ≡ true
-judged_scalars are_resolved stay guess bytes p h =
-    let within : AreWithin true h.tokens = λ front t rest cut out. beyond_unjudged t.kind (judged_here (spot_from outside front).inside t.kind out (h.judged front t rest cut)) in
-    let written = within_scalars true bytes h.tokens h.written h.spelled h.typed within h.candidates in
-    subst (λ q. is_over_scalars true (meaning_of q) ≡ true) (sym h.is) (scalars_with stay guess h.written (written_resolved are_resolved guess bytes p h) written)
+none_behind : (o u : Option Refusal) → or_else o u ≡ None → u ≡ None
+none_behind None u h = h
+none_behind (Some x) u h = some_none x h
+
+by_test : (n : ℕ) (large c : Bool) → nat_lt most_bodies n ≡ c → (if c then Some (Bodies n) else if large then Some Expanded else None) ≡ None → n ≤ most_bodies
+by_test n large true e h = some_none (Bodies n) h
+by_test n large false e h = ltb-false most_bodies n e
+
+within_bodies : (o : Option ℕ) (n : ℕ) (large : Bool) → size_limit o n large ≡ None → n ≤ most_bodies
+within_bodies (Some k) n large h = some_none (Places k) h
+within_bodies None n large h = by_test n large (nat_lt most_bodies n) refl h
+
+short : (p : r.Program) → limit_of p ≡ None → longest_chain p ≤ most_bodies
+short p h =
+    within_bodies (first_above most_places (place_counts p)) (longest_chain p) (is_any_above most_expanded (opened_counts most_bodies p)) (none_behind (too_many p) (too_large p) h)
+
+-- what is known of programs
+abbrev Opens : Type 0
+Opens = (depth : ℕ) (p : r.Program) → IsTyped (meaning_of p) → IsResolved (meaning_of p) → HasNoRecursion (meaning_of p) → is_judged (meaning_of p) ≡ true → longest_chain p ≤ depth → IsOpenable depth (meaning_of p)
+
+pub program_opens : AreResolved → ((guess : Bool) (bytes : List ℕ) (p : r.Program) → IsProgramOf guess bytes p → IsTyped (meaning_of p) × HasNoRecursion (meaning_of p)) → ((guess : Bool) (bytes : List ℕ) (p : r.Program) → IsProgramOf guess bytes p → IsResolved (meaning_of p)) → Opens → (guess : Bool) (bytes : List ℕ) (p : r.Program) → IsProgramOf guess bytes p → IsOpenable most_bodies (meaning_of p)
+program_opens are_resolved typed resolved opens guess bytes p h =
+    let t = typed guess bytes p h in
+    opens most_bodies p t.0 (resolved guess bytes p h) t.1 (program_judged are_resolved guess bytes p h) (short p h.within)

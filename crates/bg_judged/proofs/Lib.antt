@@ -6,6 +6,5 @@ pub mod Stmts
 pub mod Decls
 pub mod Spaces
 pub mod Programs
-pub mod Typed
-pub mod Turns
+pub mod Guesses
 pub mod Judging

@@ -1,114 +1,190 @@
 -- What the tokens of a program allow its meaning to hold.
 use Rattle.std.proofs.Common.{◌≡◌, ℕ, ◌+◌, Bool, true, false, List, [], ◌∷◌, ◌++◌, map, flat_map, length, Option, Some, None, refl, sym, ap, subst, append-nil, if◌then◌else◌}
 use Rattle.std.specs.List.{list_all}
+use Rattle.std.specs.Prelude.{◌&&◌, ◌||◌, not, is_some}
 use Rattle.bg_base.specs.declared.pos.Pos.{Pos}
 use Rattle.bg_text.specs.Tokens.{Tok}
 use Rattle.bg_text.specs.Trees as t
+use Rattle.bg_text.specs.Views.{option_of}
 use Rattle.bg_text.specs.Marks.{Words, each}
 use Rattle.bg_text.specs.Types.{All as Each, IfThere}
 use Rattle.bg_text.specs.Declarations.{decl_marks}
 use Rattle.bg_ast.specs.Values as v
 use Rattle.bg_ast.specs.Resolved as r
 use Rattle.bg_ast.specs.Meaning as m
+use Rattle.bg_names.specs.declared.error.FaultKind.TheVariants as kinds
+use Rattle.bg_names.specs.Faults.{fault, unless}
 use Rattle.bg_names.specs.Spaces.{Scope, names_of, use_faults, repeats}
-use Rattle.bg_names.specs.Exprs.{ty_faults}
+use Rattle.bg_names.specs.Exprs.{ty_faults, named_ty, named_ex}
 use Rattle.bg_names.specs.Clauses.{named_clause}
 use Rattle.bg_bodies.specs.Bodies.{sts_faults, sts_labels, named_sts}
-use Rattle.bg_spaces.specs.Declarations.{Spaces, spaces_of, param_ids, result_ids, result_groups, group_faults, sig_faults, repeated, scope_in, declared_as, named_group, named_groups, named_requires, named_ensures, specs_count}
-use Rattle.bg_resolve.specs.Program.{decl_faults, plain_faults, spec_faults, vars_faults, option_faults, code_faults, frame_ids, inside, requires_scope, ensures_scope, named_vars, named_globals, constant_as, named_constants, named_functions, named_axioms, named_procedures, named_code, named_option, named_implementations, in_turn, named}
+use Rattle.bg_spaces.specs.Declarations.{Spaces, spaces_of, are_candidates, param_ids, result_ids, result_groups, group_faults, sig_faults, repeated, scope_in, declared_as, named_group, named_groups, named_requires, named_ensures, specs_count}
+use Rattle.bg_resolve.specs.Program.{has_body as is_there}
+use Rattle.bg_resolve.specs.Program.{type_pos, candidate_faults, arg_ids, has_arg_name, arg_faults, result_type, function_scope, body_faults, function_faults, arg_type, named_function, axiom_scope, decl_faults, plain_faults, spec_faults, vars_faults, option_faults, code_faults, frame_ids, inside, requires_scope, ensures_scope, named_vars, named_globals, constant_as, named_constants, named_functions, named_axioms, named_procedures, named_code, named_option, named_implementations, in_turn, named}
 use Rattle.bg_named.proofs.ExprsBits.{split_nil}
 use Rattle.bg_named.proofs.SpacesEntries.{each_append}
 use Rattle.bg_named.proofs.ProgramsEach.{gathered, gathered_in_turn}
 use Rattle.bg_meant.proofs.Bodies.{NamesCandidates}
 use Rattle.bg_meant.proofs.Programs.{names_candidates}
-use Rattle.bg_front.specs.Others.{AreCandidates}
+use Rattle.bg_front.specs.Later.{AreJudged}
+use Rattle.bg_front.specs.Bodiless.{HaveBodies}
 use Rattle.bg_sense.proofs.Bools.{both}
-use Rattle.bg_fits.specs.Scalars.{is_empty, clause_passes, st_passes, decl_passes, decls_pass, proc_passes, impl_passes, passes, is_scalar_type}
-use Rattle.bg_judged.specs.Within.{AreWithin}
+use Rattle.bg_fits.specs.Scalars.{clause_passes, st_passes, decl_passes, decls_pass, proc_passes, impl_passes, is_scalar_type}
+use Rattle.bg_opened.specs.Judged.{is_judged_ex, const_judged, body_judged, fun_judged, is_judged}
 use Rattle.bg_judged.proofs.Marks.{flat, Judged, of_tokens, on_each}
-use Rattle.bg_judged.proofs.Exprs.{few}
 use Rattle.bg_judged.proofs.Groups.{GroupGood, TypeGood}
-use Rattle.bg_judged.proofs.Clauses.{clause_good}
-use Rattle.bg_judged.proofs.Decls.{SpecGood, VarsGood, BodyGood, DeclGood, DeclaresCandidates, DeclRead, on_decl}
-use Rattle.bg_judged.proofs.Spaces.{none_of, types_none}
+use Rattle.bg_judged.proofs.Clauses.{Says, clause_good}
+use Rattle.bg_judged.proofs.Decls.{SpecGood, VarsGood, BodyGood, ArgGood, DeclGood, IsBodied, DeclRead, on_decl}
+use Rattle.bg_judged.proofs.Spaces.{types_none}
 
 pass_map : {A B : Type 0} (p : B → Bool) (f : A → B) (xs : List A) → Each (λ y. p (f y) ≡ true) xs → list_all p (map f xs) ≡ true
 pass_map p f [] h = refl
 pass_map p f (y ∷ ys) h = both (p (f y)) (list_all p (map f ys)) h.0 (pass_map p f ys h.1)
 
-module _ (w : Bool) (g : Spaces) (none : g.types ≡ []) (many : ℕ) (names_fit : (frame : List (List ℕ)) (sees old : Bool) → NamesCandidates many (scope_in g frame sees old)) (types : ℕ → v.Ty) where
+module _ (g : Spaces) (none : g.types ≡ []) (many : ℕ) (names_fit : (frame : List (List ℕ)) (sees old : Bool) → NamesCandidates many (scope_in g frame sees old)) (types : ℕ → v.Ty) where
   abbrev pub DeclaredGood : r.Declared → Type 0
-  DeclaredGood d = decl_passes (is_scalar_type w) (few w) (m.decl_of types d) ≡ true
+  DeclaredGood d = decl_passes (is_scalar_type true) is_judged_ex (m.decl_of types d) ≡ true
 
-  names_good : (e : t.Ty) → TypeGood w e → ty_faults g.types e ≡ [] → (xs : List t.Id) → Each DeclaredGood (map (declared_as g e) xs)
+  names_good : (e : t.Ty) → TypeGood e → ty_faults g.types e ≡ [] → (xs : List t.Id) → Each DeclaredGood (map (declared_as g e) xs)
   names_good e good ok [] = tt
   names_good e good ok (y ∷ ys) =
-      (both (is_scalar_type w (m.type_in types (declared_as g e y).ty)) true (good g.types none types ok) refl, names_good e good ok ys)
+      (both (is_scalar_type true (m.type_in types (declared_as g e y).ty)) true (good g.types none types ok) refl, names_good e good ok ys)
 
-  groups_good : (gs : List t.Group) → Each (GroupGood w) gs → flat_map (group_faults g) gs ≡ [] → Each DeclaredGood (named_groups g gs)
+  groups_good : (gs : List t.Group) → Each GroupGood gs → flat_map (group_faults g) gs ≡ [] → Each DeclaredGood (named_groups g gs)
   groups_good [] good ok = tt
   groups_good (x ∷ xs) good ok =
       let parts = split_nil (group_faults g x) (flat_map (group_faults g) xs) ok in
       each_append DeclaredGood (named_group g x) (named_groups g xs) (names_good x.ty good.0 parts.0 x.names) (groups_good xs good.1 parts.1)
 
-  vars_good : (vs : List t.Vars) → Each (VarsGood w) vs → flat_map (vars_faults g) vs ≡ [] → Each DeclaredGood (flat_map (named_vars g) vs)
+  vars_good : (vs : List t.Vars) → Each VarsGood vs → flat_map (vars_faults g) vs ≡ [] → Each DeclaredGood (flat_map (named_vars g) vs)
   vars_good [] good ok = tt
   vars_good (x ∷ xs) good ok =
       let parts = split_nil (vars_faults g x) (flat_map (vars_faults g) xs) ok in
       each_append DeclaredGood (named_vars g x) (flat_map (named_vars g) xs) (groups_good x.groups good.0 parts.0) (vars_good xs good.1 parts.1)
 
-  requires_good : (s : Scope) → NamesCandidates many s → (n : ℕ) (specs : List t.Spec) → Each (SpecGood w) specs → list_all (clause_passes many (few w)) (map m.clause_of (named_requires s n specs)) ≡ true
+  requires_good : (s : Scope) → NamesCandidates many s → (n : ℕ) (specs : List t.Spec) → Each SpecGood specs → list_all (clause_passes many is_judged_ex) (map m.clause_of (named_requires s n specs)) ≡ true
   requires_good s p n [] good = refl
   requires_good s p n (t.Requires k ∷ specs) good =
-      both (clause_passes many (few w) (m.clause_of (named_clause s n k))) _ (clause_good w s many p n k good.0) (requires_good s p (n + 1) specs good.1)
+      both (clause_passes many is_judged_ex (m.clause_of (named_clause s n k))) _ (clause_good s many p n k good.0) (requires_good s p (n + 1) specs good.1)
   requires_good s p n (t.Ensures k ∷ specs) good = requires_good s p (n + 1) specs good.1
   requires_good s p n (t.Modifies q xs ∷ specs) good = requires_good s p n specs good.1
 
-  ensures_good : (s : Scope) → NamesCandidates many s → (n : ℕ) (specs : List t.Spec) → Each (SpecGood w) specs → list_all (clause_passes many (few w)) (map m.clause_of (named_ensures s n specs)) ≡ true
+  ensures_good : (s : Scope) → NamesCandidates many s → (n : ℕ) (specs : List t.Spec) → Each SpecGood specs → list_all (clause_passes many is_judged_ex) (map m.clause_of (named_ensures s n specs)) ≡ true
   ensures_good s p n [] good = refl
   ensures_good s p n (t.Requires k ∷ specs) good = ensures_good s p (n + 1) specs good.1
   ensures_good s p n (t.Ensures k ∷ specs) good =
-      both (clause_passes many (few w) (m.clause_of (named_clause s n k))) _ (clause_good w s many p n k good.0) (ensures_good s p (n + 1) specs good.1)
+      both (clause_passes many is_judged_ex (m.clause_of (named_clause s n k))) _ (clause_good s many p n k good.0) (ensures_good s p (n + 1) specs good.1)
   ensures_good s p n (t.Modifies q xs ∷ specs) good = ensures_good s p n specs good.1
 
   abbrev pub ProcGood : r.Proc → Type 0
-  ProcGood q = proc_passes many (is_scalar_type w) (few w) (m.proc_of types q) ≡ true
+  ProcGood q = proc_passes many (is_scalar_type true) is_judged_ex (m.proc_of types q) ≡ true
 
   abbrev pub ImplGood : r.Impl → Type 0
-  ImplGood q = impl_passes many (is_scalar_type w) (few w) (m.impl_of types q) ≡ true
+  ImplGood q = impl_passes many (is_scalar_type true) is_judged_ex (m.impl_of types q) ≡ true
 
-  declared_pass : (ds : List r.Declared) → Each DeclaredGood ds → decls_pass (is_scalar_type w) (few w) (map (m.decl_of types) ds) ≡ true
-  declared_pass ds good = pass_map (decl_passes (is_scalar_type w) (few w)) (m.decl_of types) ds good
+  declared_pass : (ds : List r.Declared) → Each DeclaredGood ds → decls_pass (is_scalar_type true) is_judged_ex (map (m.decl_of types) ds) ≡ true
+  declared_pass ds good = pass_map (decl_passes (is_scalar_type true) is_judged_ex) (m.decl_of types) ds good
 
-  code_good : (n : ℕ) (p : Pos) (q : t.Id) (s : t.Sig) (b : t.Body) → BodyGood w b → code_faults g q s b ≡ [] → ImplGood (named_code g n p q s b)
+  code_good : (n : ℕ) (p : Pos) (q : t.Id) (s : t.Sig) (b : t.Body) → BodyGood b → code_faults g q s b ≡ [] → ImplGood (named_code g n p q s b)
   code_good n p q s b good ok =
       let all = split_nil ((repeats [] (frame_ids s b) ++ flat_map (vars_faults g) b.locals) ++ repeats [] (sts_labels b.stmts)) (sts_faults (inside g q s b) [] false [] [] b.stmts) ok in
       let front = split_nil (repeats [] (frame_ids s b) ++ flat_map (vars_faults g) b.locals) (repeats [] (sts_labels b.stmts)) all.0 in
       let vars = split_nil (repeats [] (frame_ids s b)) (flat_map (vars_faults g) b.locals) front.0 in
-      both (decls_pass (is_scalar_type w) (few w) (map (m.decl_of types) (flat_map (named_vars g) b.locals))) (st_passes many (few w) (m.sts_of (named_sts (inside g q s b) n 0 [] [] b.stmts))) (declared_pass (flat_map (named_vars g) b.locals) (vars_good b.locals good.0 vars.1)) (good.1 (inside g q s b) many (names_fit (names_of (frame_ids s b)) true true) n 0 [] [])
+      both (decls_pass (is_scalar_type true) is_judged_ex (map (m.decl_of types) (flat_map (named_vars g) b.locals))) (st_passes many is_judged_ex (m.sts_of (named_sts (inside g q s b) n 0 [] [] b.stmts))) (declared_pass (flat_map (named_vars g) b.locals) (vars_good b.locals good.0 vars.1)) (good.1 (inside g q s b) many (names_fit (names_of (frame_ids s b)) true true) n 0 [] [])
 
-  option_good : (n : ℕ) (p : Pos) (q : t.Id) (s : t.Sig) (o : Option t.Body) → IfThere (BodyGood w) o → option_faults g q s o ≡ [] → Each ImplGood (named_option g n p q s o)
+  option_good : (n : ℕ) (p : Pos) (q : t.Id) (s : t.Sig) (o : Option t.Body) → IfThere BodyGood o → option_faults g q s o ≡ [] → Each ImplGood (named_option g n p q s o)
   option_good n p q s None good ok = tt
   option_good n p q s (Some b) good ok = (code_good n p q s b good ok, tt)
 
   -- a declaration made of what may stand, without faults of names
   abbrev pub Kept : t.Decl → Type 0
-  Kept d = DeclGood w d × (decl_faults g d ≡ [])
+  Kept d = DeclGood d × (decl_faults g d ≡ [])
+
+  abbrev pub ConstGood : r.Const → Type 0
+  ConstGood c = const_judged (m.const_of types c) ≡ true
+
+  abbrev pub FunGood : r.Fun → Type 0
+  FunGood f = fun_judged (m.fun_of types f) ≡ true
+
+  abbrev pub AxiomGood : r.Ex → Type 0
+  AxiomGood e = is_judged_ex (m.ex_of e) ≡ true
+
+  constants_good : (c : t.Consts) → TypeGood c.group.ty → c.is_unique ≡ false → ty_faults g.types c.group.ty ≡ [] → (xs : List t.Id) → Each ConstGood (map (constant_as g c) xs)
+  constants_good c good plain ok [] = tt
+  constants_good c good plain ok (y ∷ ys) =
+      (both (is_scalar_type true (m.type_in types (named_ty g.types c.group.ty))) (not c.is_unique) (good g.types none types ok) (ap not plain), constants_good c good plain ok ys)
+
+  unless_candidates : (c : t.Consts) → Each ConstGood (map (constant_as g c) c.group.names) → (b : Bool) → Each ConstGood (if b then [] else map (constant_as g c) c.group.names)
+  unless_candidates c good true = tt
+  unless_candidates c good false = good
+
+  args_good : (named_all : Bool) (xs : List t.FunArg) → Each ArgGood xs → flat_map (arg_faults g named_all) xs ≡ [] → list_all (is_scalar_type true) (map (m.type_in types) (map (arg_type g) xs)) ≡ true
+  args_good b [] good ok = refl
+  args_good b (x ∷ xs) good ok =
+      let parts = split_nil (arg_faults g b x) (flat_map (arg_faults g b) xs) ok in
+      let own = split_nil (unless (not b || has_arg_name x) (fault kinds.UnnamedArgument (type_pos x.ty) [])) (ty_faults g.types x.ty) parts.0 in
+      both (is_scalar_type true (m.type_in types (arg_type g x))) _ (good.0 g.types none types own.1) (args_good b xs good.1 parts.1)
+
+  body_good : (s : Scope) (o : Option t.Ex) → IfThere Says o → is_some o ≡ true → body_judged (m.body_of (option_of (named_ex s) o)) ≡ true
+  body_good s None good there = absurd (let bad : false ≡ true = there in cc)
+  body_good s (Some e) good there = good s
+
+  function_good : (f : t.Fun) → DeclGood (t.Function f) → function_faults g f ≡ [] → FunGood (named_function g f)
+  function_good f good ok =
+      let names = repeats [] (flat_map arg_ids f.args) in
+      let args = flat_map (arg_faults g (is_there f.body)) f.args in
+      let result = ty_faults g.types (result_type f.result) in
+      let front = (split_nil ((names ++ args) ++ result) (body_faults (function_scope g f) f.body) ok).0 in
+      let types_ok = split_nil (names ++ args) result front in
+      let ty = is_scalar_type true in
+      let ending = m.type_in types (named_ty g.types (result_type f.result)) in
+      let body = m.body_of (option_of (named_ex (function_scope g f)) f.body) in
+      both (list_all ty (map (m.type_in types) (map (arg_type g) f.args))) (ty ending && body_judged body) (args_good (is_there f.body) f.args good.0 (split_nil names args types_ok.0).1)
+      (both (ty ending) (body_judged body) (good.1 g.types none types types_ok.1) (body_good (function_scope g f) f.body good.2 good.3))
+
+  constants_kept : (d : t.Decl) → Kept d → Each ConstGood (named_constants g d)
+  constants_kept (t.Types p attrs ds) k = tt
+  constants_kept (t.Constants c) k =
+      let ok = split_nil (group_faults g c.group) (flat_map (candidate_faults c) c.group.names) k.1 in
+      unless_candidates c (constants_good c k.0.0 k.0.1 ok.0 c.group.names) (are_candidates c)
+  constants_kept (t.Function f) k = tt
+  constants_kept (t.Axiom p attrs e) k = tt
+  constants_kept (t.Globals x) k = tt
+  constants_kept (t.Procedure q) k = tt
+  constants_kept (t.Implementation q) k = tt
+
+  functions_kept : (d : t.Decl) → Kept d → Each FunGood (named_functions g d)
+  functions_kept (t.Types p attrs ds) k = tt
+  functions_kept (t.Constants c) k = tt
+  functions_kept (t.Function f) k = (function_good f k.0 k.1, tt)
+  functions_kept (t.Axiom p attrs e) k = tt
+  functions_kept (t.Globals x) k = tt
+  functions_kept (t.Procedure q) k = tt
+  functions_kept (t.Implementation q) k = tt
+
+  axioms_kept : (d : t.Decl) → Kept d → Each AxiomGood (named_axioms g d)
+  axioms_kept (t.Types p attrs ds) k = tt
+  axioms_kept (t.Constants c) k = tt
+  axioms_kept (t.Function f) k = tt
+  axioms_kept (t.Axiom p attrs e) k = (k.0 (axiom_scope g), tt)
+  axioms_kept (t.Globals x) k = tt
+  axioms_kept (t.Procedure q) k = tt
+  axioms_kept (t.Implementation q) k = tt
 
   globals_kept : (d : t.Decl) → Kept d → Each DeclaredGood (named_globals g d)
-  globals_kept (t.Types p attrs ds) k = absurd k.0
+  globals_kept (t.Types p attrs ds) k = tt
   globals_kept (t.Constants c) k = tt
-  globals_kept (t.Function f) k = absurd k.0
-  globals_kept (t.Axiom p attrs e) k = absurd k.0
+  globals_kept (t.Function f) k = tt
+  globals_kept (t.Axiom p attrs e) k = tt
   globals_kept (t.Globals x) k = groups_good x.groups k.0 k.1
   globals_kept (t.Procedure q) k = tt
   globals_kept (t.Implementation q) k = tt
 
   procedures_kept : (n : ℕ) (d : t.Decl) → Kept d → Each ProcGood (named_procedures g n d)
-  procedures_kept n (t.Types p attrs ds) k = absurd k.0
+  procedures_kept n (t.Types p attrs ds) k = tt
   procedures_kept n (t.Constants c) k = tt
-  procedures_kept n (t.Function f) k = absurd k.0
-  procedures_kept n (t.Axiom p attrs e) k = absurd k.0
+  procedures_kept n (t.Function f) k = tt
+  procedures_kept n (t.Axiom p attrs e) k = tt
   procedures_kept n (t.Globals x) k = tt
   procedures_kept n (t.Procedure q) k =
       let all = split_nil (sig_faults g q.sig ++ flat_map (spec_faults g q.sig) q.specs) (option_faults g q.name q.sig q.body) k.1 in
@@ -122,10 +198,10 @@ module _ (w : Bool) (g : Spaces) (none : g.types ≡ []) (many : ℕ) (names_fit
   procedures_kept n (t.Implementation q) k = tt
 
   implementations_kept : (n : ℕ) (d : t.Decl) → Kept d → Each ImplGood (named_implementations g n d)
-  implementations_kept n (t.Types p attrs ds) k = absurd k.0
+  implementations_kept n (t.Types p attrs ds) k = tt
   implementations_kept n (t.Constants c) k = tt
-  implementations_kept n (t.Function f) k = absurd k.0
-  implementations_kept n (t.Axiom p attrs e) k = absurd k.0
+  implementations_kept n (t.Function f) k = tt
+  implementations_kept n (t.Axiom p attrs e) k = tt
   implementations_kept n (t.Globals x) k = tt
   implementations_kept n (t.Procedure q) k =
       let all = split_nil (sig_faults g q.sig ++ flat_map (spec_faults g q.sig) q.specs) (option_faults g q.name q.sig q.body) k.1 in
@@ -134,86 +210,64 @@ module _ (w : Bool) (g : Spaces) (none : g.types ≡ []) (many : ℕ) (names_fit
       let all = split_nil (use_faults g.procedures q.name ++ sig_faults g q.sig) (code_faults g q.name q.sig q.body) k.1 in
       (code_good n q.pos q.name q.sig q.body k.0.1 all.1, tt)
 
-  kept_all : (ds : List t.Decl) → Each (DeclGood w) ds → flat_map (decl_faults g) ds ≡ [] → Each Kept ds
+  kept_all : (ds : List t.Decl) → Each DeclGood ds → flat_map (decl_faults g) ds ≡ [] → Each Kept ds
   kept_all [] good ok = tt
   kept_all (d ∷ ds) good ok =
       let parts = split_nil (decl_faults g d) (flat_map (decl_faults g) ds) ok in
       ((good.0, parts.0), kept_all ds good.1 parts.1)
 
-  pub globals_pass : (ds : List t.Decl) → Each Kept ds → decls_pass (is_scalar_type w) (few w) (map (m.decl_of types) (flat_map (named_globals g) ds)) ≡ true
+  pub globals_pass : (ds : List t.Decl) → Each Kept ds → decls_pass (is_scalar_type true) is_judged_ex (map (m.decl_of types) (flat_map (named_globals g) ds)) ≡ true
   globals_pass ds kept =
       declared_pass (flat_map (named_globals g) ds) (gathered DeclaredGood Kept (named_globals g) globals_kept ds kept)
 
-  pub procedures_pass : (ds : List t.Decl) → Each Kept ds → list_all (proc_passes many (is_scalar_type w) (few w)) (map (m.proc_of types) (in_turn (named_procedures g) 0 ds)) ≡ true
+  pub constants_pass : (ds : List t.Decl) → Each Kept ds → list_all const_judged (map (m.const_of types) (flat_map (named_constants g) ds)) ≡ true
+  constants_pass ds kept =
+      pass_map const_judged (m.const_of types) (flat_map (named_constants g) ds) (gathered ConstGood Kept (named_constants g) constants_kept ds kept)
+
+  pub functions_pass : (ds : List t.Decl) → Each Kept ds → list_all fun_judged (map (m.fun_of types) (flat_map (named_functions g) ds)) ≡ true
+  functions_pass ds kept =
+      pass_map fun_judged (m.fun_of types) (flat_map (named_functions g) ds) (gathered FunGood Kept (named_functions g) functions_kept ds kept)
+
+  pub axioms_pass : (ds : List t.Decl) → Each Kept ds → list_all is_judged_ex (map m.ex_of (flat_map (named_axioms g) ds)) ≡ true
+  axioms_pass ds kept =
+      pass_map is_judged_ex m.ex_of (flat_map (named_axioms g) ds) (gathered AxiomGood Kept (named_axioms g) axioms_kept ds kept)
+
+  pub procedures_pass : (ds : List t.Decl) → Each Kept ds → list_all (proc_passes many (is_scalar_type true) is_judged_ex) (map (m.proc_of types) (in_turn (named_procedures g) 0 ds)) ≡ true
   procedures_pass ds kept =
-      pass_map (proc_passes many (is_scalar_type w) (few w)) (m.proc_of types) (in_turn (named_procedures g) 0 ds) (gathered_in_turn ProcGood Kept (named_procedures g) procedures_kept 0 ds kept)
+      pass_map (proc_passes many (is_scalar_type true) is_judged_ex) (m.proc_of types) (in_turn (named_procedures g) 0 ds) (gathered_in_turn ProcGood Kept (named_procedures g) procedures_kept 0 ds kept)
 
-  pub implementations_pass : (ds : List t.Decl) → Each Kept ds → list_all (impl_passes many (is_scalar_type w) (few w)) (map (m.impl_of types) (in_turn (named_implementations g) 0 ds)) ≡ true
+  pub implementations_pass : (ds : List t.Decl) → Each Kept ds → list_all (impl_passes many (is_scalar_type true) is_judged_ex) (map (m.impl_of types) (in_turn (named_implementations g) 0 ds)) ≡ true
   implementations_pass ds kept =
-      pass_map (impl_passes many (is_scalar_type w) (few w)) (m.impl_of types) (in_turn (named_implementations g) 0 ds) (gathered_in_turn ImplGood Kept (named_implementations g) implementations_kept 0 ds kept)
+      pass_map (impl_passes many (is_scalar_type true) is_judged_ex) (m.impl_of types) (in_turn (named_implementations g) 0 ds) (gathered_in_turn ImplGood Kept (named_implementations g) implementations_kept 0 ds kept)
 
-module _ (w : Bool) where
-  no_constants : (g : Spaces) (d : t.Decl) → DeclGood w d → named_constants g d ≡ []
-  no_constants g (t.Types p attrs ds) good = refl
-  no_constants g (t.Constants c) good =
-      ap (λ b. if b then [] else map (constant_as g c) c.group.names) good
-  no_constants g (t.Function f) good = refl
-  no_constants g (t.Axiom p attrs e) good = refl
-  no_constants g (t.Globals x) good = refl
-  no_constants g (t.Procedure q) good = refl
-  no_constants g (t.Implementation q) good = refl
+program_good : (ds : List t.Decl) → Each DeclGood ds → plain_faults ds ≡ [] → is_judged (m.meaning_of (named ds)) ≡ true
+program_good ds good ok =
+    let g = spaces_of ds in
+    let none = types_none ds good in
+    let many = length (named ds).candidates in
+    let fit = names_candidates ds ok in
+    let types = m.named_of (named ds).types in
+    let kept = kept_all g none many fit types ds good (split_nil (repeated ds) (flat_map (decl_faults g) ds) ok).1 in
+    both _ _ (globals_pass g none many fit types ds kept) (both _ _ (constants_pass g none many fit types ds kept) (both _ _ (functions_pass g none many fit types ds kept) (both _ _ (axioms_pass g none many fit types ds kept) (both _ _ (procedures_pass g none many fit types ds kept) (implementations_pass g none many fit types ds kept)))))
 
-  no_functions : (g : Spaces) (d : t.Decl) → DeclGood w d → named_functions g d ≡ []
-  no_functions g (t.Types p attrs ds) good = refl
-  no_functions g (t.Constants c) good = refl
-  no_functions g (t.Function f) good = absurd good
-  no_functions g (t.Axiom p attrs e) good = refl
-  no_functions g (t.Globals x) good = refl
-  no_functions g (t.Procedure q) good = refl
-  no_functions g (t.Implementation q) good = refl
+-- where functions have bodies, what is read is good
+all_good : (ds : List t.Decl) → Each DeclRead ds → HaveBodies ds → Each DeclGood ds
+all_good [] read have = tt
+all_good (d ∷ ds) read have =
+    (read.0 (here d have), all_good ds read.1 (λ front f rest cut. have (d ∷ front) f rest (ap (λ l. d ∷ l) cut)))
+  where
+    here : (d : t.Decl) → HaveBodies (d ∷ ds) → IsBodied d
+    here (t.Function f) h = h [] f ds refl
+    here (t.Constants c) h = tt
+    here (t.Types p attrs es) h = tt
+    here (t.Axiom p attrs e) h = tt
+    here (t.Globals x) h = tt
+    here (t.Procedure q) h = tt
+    here (t.Implementation q) h = tt
 
-  no_axioms : (g : Spaces) (d : t.Decl) → DeclGood w d → named_axioms g d ≡ []
-  no_axioms g (t.Types p attrs ds) good = refl
-  no_axioms g (t.Constants c) good = refl
-  no_axioms g (t.Function f) good = refl
-  no_axioms g (t.Axiom p attrs e) good = absurd good
-  no_axioms g (t.Globals x) good = refl
-  no_axioms g (t.Procedure q) good = refl
-  no_axioms g (t.Implementation q) good = refl
-
-  empty_map : {A B : Type 0} (f : A → B) (xs : List A) → xs ≡ [] → is_empty (map f xs) ≡ true
-  empty_map f xs h = subst (λ l. is_empty (map f l) ≡ true) (sym h) refl
-
-  program_good : (ds : List t.Decl) → Each (DeclGood w) ds → plain_faults ds ≡ [] → passes (is_scalar_type w) (few w) (m.meaning_of (named ds)) ≡ true
-  program_good ds good ok =
-      let g = spaces_of ds in
-      let none = types_none w ds good in
-      let many = length (named ds).candidates in
-      let fit = names_candidates ds ok in
-      let types = m.named_of (named ds).types in
-      let kept = kept_all w g none many fit types ds good (split_nil (repeated ds) (flat_map (decl_faults g) ds) ok).1 in
-      let constants = empty_map (m.const_of types) (flat_map (named_constants g) ds) (none_of w (named_constants g) (no_constants g) ds good) in
-      let functions = empty_map (m.fun_of types) (flat_map (named_functions g) ds) (none_of w (named_functions g) (no_functions g) ds good) in
-      let axioms = empty_map m.ex_of (flat_map (named_axioms g) ds) (none_of w (named_axioms g) (no_axioms g) ds good) in
-      both _ _ (globals_pass w g none many fit types ds kept) (both _ _ constants (both _ _ functions (both _ _ axioms (both _ _ (procedures_pass w g none many fit types ds kept) (implementations_pass w g none many fit types ds kept)))))
-
-  -- where constants are candidates, what is read is good
-  all_good : (ds : List t.Decl) → Each (DeclRead w) ds → AreCandidates ds → Each (DeclGood w) ds
-  all_good [] read are = tt
-  all_good (d ∷ ds) read are = (read.0 (here d are), all_good ds read.1 (λ front c rest cut. are (d ∷ front) c rest (ap (λ l. d ∷ l) cut)))
-    where
-      here : (d : t.Decl) → AreCandidates (d ∷ ds) → DeclaresCandidates d
-      here (t.Constants c) h = h [] c ds refl
-      here (t.Types p attrs es) h = tt
-      here (t.Function f) h = tt
-      here (t.Axiom p attrs e) h = tt
-      here (t.Globals x) h = tt
-      here (t.Procedure q) h = tt
-      here (t.Implementation q) h = tt
-
-  -- where no token outside attributes is beyond, and constants are candidates, the meaning is made of what may stand
-  pub tokens_good : (ts : List Tok) (ds : List t.Decl) → AreWithin w ts → AreCandidates ds → Words ts (each decl_marks ds) → plain_faults ds ≡ [] → passes (is_scalar_type w) (few w) (m.meaning_of (named ds)) ≡ true
-  tokens_good ts ds within are words ok =
-      let h = of_tokens w (flat false) ts (each decl_marks ds) within words in
-      let read = on_each w false decl_marks (DeclRead w) (on_decl w) ds [] (subst (λ l. Judged w (flat false) l) (sym (append-nil (each decl_marks ds))) h) in
-      program_good ds (all_good ds read.0 are) ok
+-- where each token is judged, and functions have bodies, the meaning is made of judged parts
+pub tokens_good : (ts : List Tok) (ds : List t.Decl) → AreJudged ts → HaveBodies ds → Words ts (each decl_marks ds) → plain_faults ds ≡ [] → is_judged (m.meaning_of (named ds)) ≡ true
+tokens_good ts ds judged have words ok =
+    let h = of_tokens (flat false) ts (each decl_marks ds) judged words in
+    let read = on_each false decl_marks DeclRead on_decl ds [] (subst (λ l. Judged (flat false) l) (sym (append-nil (each decl_marks ds))) h) in
+    program_good ds (all_good ds read.0 have) ok

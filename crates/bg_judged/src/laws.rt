@@ -3,23 +3,25 @@ ghost use Rattle.std.specs.Prelude.{◌≡◌, ℕ, Bool, true, List};
 ghost use Rattle.bg_text.specs.Tokens.{Tok};
 ghost use Rattle.bg_ast.specs.Resolved.{Program};
 ghost use Rattle.bg_ast.specs.Meaning.{meaning_of};
-ghost use Rattle.bg_typed.specs.Rules.{KeepsTypes};
-ghost use Rattle.bg_front.specs.Others.{AreCandidates};
+ghost use Rattle.bg_opened.specs.Judged.{is_judged};
+ghost use Rattle.bg_opened.specs.Openable.{IsOpenable};
+ghost use Rattle.bg_expanded.specs.Chains.{most_bodies};
+ghost use Rattle.bg_front.specs.Later.{AreJudged};
+ghost use Rattle.bg_front.specs.Bodiless.{HaveBodies};
 ghost use Rattle.bg_front.specs.Programs.{IsMeaningOf, IsProgramOf};
-ghost use Rattle.bg_fits.specs.Scalars.{is_over_scalars};
-ghost use Rattle.bg_judged.specs.Within.{AreWithin};
 
-/// A program that keeps the rules of types, without a token of types, functions, axioms or maps, attributes apart, and of whose
-/// constants each is a candidate, is one over truth values and whole numbers; without a token of whole numbers either, no number
-/// stands in it and no variable is one.
-pub fn tokens_of_scalars_spell_programs_over_scalars()
-    ensures { (numbers : Bool) (bytes : List ℕ) (ts : List Tok) (p : Program) → (m : IsMeaningOf bytes ts p) → KeepsTypes p → AreWithin numbers ts → AreCandidates m.decls → is_over_scalars numbers (meaning_of p) ≡ true }
+/// A program of which each token is judged, and each function has a body, is one of judged parts: its variables, constants, parameters and
+/// results are truth values and whole numbers, no constant is unique, and no map is read or changed.
+pub fn judged_tokens_spell_judged_programs()
+    ensures { (bytes : List ℕ) (ts : List Tok) (p : Program) → (m : IsMeaningOf bytes ts p) → AreJudged ts → HaveBodies m.decls → is_judged (meaning_of p) ≡ true }
 {}
 
-/// What the reader lets through, with guesses and without, is a program over truth values and whole numbers.
-pub fn judged_programs_are_over_scalars()
-    ensures { (guess : Bool) (bytes : List ℕ) (p : Program) → IsProgramOf guess bytes p → is_over_scalars true (meaning_of p) ≡ true }
+/// What the reader lets through, with guesses and without, can be opened as deep as the longest chain of bodies may be.
+pub fn judged_programs_are_openable()
+    ensures { (guess : Bool) (bytes : List ℕ) (p : Program) → IsProgramOf guess bytes p → IsOpenable most_bodies (meaning_of p) }
 {
     bg_meant::laws::programs_are_resolved();
-    bg_guess::laws::guesses_are_over_scalars();
+    bg_front::laws::programs_are_typed();
+    bg_front::laws::programs_are_resolved();
+    bg_expanded::laws::programs_of_short_chains_are_openable();
 }

@@ -1,13 +1,14 @@
 -- What is answered of a program and a certificate is answered of their texts; and how a refusal's line is written.
-use Rattle.std.proofs.Common.{◌≡◌, ◌⊎◌, inl, inr, ℕ, List, Option, codes, false, true, refl, sym, ap, ◌∙◌, subst}
+use Rattle.std.proofs.Common.{◌≡◌, ◌⊎◌, inl, inr, ℕ, List, Option, codes, false, refl, sym, ap, ◌∙◌, subst}
 use Rattle.std.proofs.lemmas.Bool.{false≢true}
 use Rattle.std.specs.Fmt.{digits}
 use Rattle.std.specs.Prelude.{IsTrue, ◌≢◌}
 use Rattle.bg_io.specs.Causes.{joined}
 use Rattle.bg_ast.specs.Resolved.{Program}
 use Rattle.bg_front.specs.Programs.{IsProgramOf}
-use Rattle.bg_accept.specs.Accepted.{retained_by, IsAccepted}
-use Rattle.bg_accept.specs.Answers.{AnswerOf, Accepted, NoInterp, NotRetained, NotShown, NotRequired, IsAnswer}
+use Rattle.bg_accept.specs.Accepted.{retained_by}
+use Rattle.bg_confirm.specs.Accepted.{IsAccepted, IsAnswer}
+use Rattle.bg_accept.specs.Answers.{AnswerOf, Accepted, NoInterp, NotRetained, NotShown, NotRequired}
 use Rattle.bg_certtext.specs.Views.{CertOf}
 use Rattle.bg_ends.specs.declared.status.Status.{Status}
 use Rattle.bg_ends.specs.declared.status.Status.TheVariants as status

@@ -13,8 +13,8 @@ use Rattle.bg_certtext.specs.Views.{CertOf}
 use Rattle.bg_certtext.specs.Texts.{text_of}
 use Rattle.bg_certtext.specs.Spellable.{IsSpellable}
 use Rattle.bg_certtext.specs.Reading.{Reads, GivesBack}
-use Rattle.bg_accept.specs.Accepted.{IsAccepted}
-use Rattle.bg_accept.specs.Answers.{AnswerOf, Accepted, NoInterp, NotRetained, NotShown, NotRequired, IsAnswer}
+use Rattle.bg_confirm.specs.Accepted.{IsAccepted, IsAnswer}
+use Rattle.bg_accept.specs.Answers.{AnswerOf, Accepted, NoInterp, NotRetained, NotShown, NotRequired}
 use Rattle.bg_ends.specs.declared.status.Status.{Status}
 use Rattle.bg_ends.specs.declared.status.Status.TheVariants as status
 use Rattle.bg_ends.specs.Statuses.{is_report, is_refused}

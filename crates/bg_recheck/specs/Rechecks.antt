@@ -3,21 +3,26 @@ use Rattle.std.specs.Prelude.{◌≡◌, ◌⊎◌, ◌<◌, ◌≤◌, ℕ, Boo
 use Rattle.bg_io.specs.Causes.{joined, joined_text, IsTextOf}
 use Rattle.bg_ast.specs.Resolved.{Program}
 use Rattle.bg_ast.specs.Meaning.{meaning_of}
-use Rattle.bg_sense.specs.Claims.{IsSetOf, Inductive, Safe}
+use Rattle.bg_ast.specs.Execution.{Interp}
+use Rattle.bg_sense.specs.Claims.{Meets, IsSetOf, Inductive, Safe}
 use Rattle.bg_front.specs.Programs.{IsProgramOf}
 use Rattle.bg_certtext.specs.Views.{CertOf}
 use Rattle.bg_certtext.specs.Texts.{text_of}
 use Rattle.bg_certtext.specs.Spellable.{IsSpellable}
-use Rattle.bg_accept.specs.Accepted.{retained_by, IsAccepted}
-use Rattle.bg_accept.specs.Answers.{AnswerOf, Accepted, IsAnswer}
+use Rattle.bg_accept.specs.Accepted.{retained_by}
+use Rattle.bg_accept.specs.Answers.{AnswerOf, Accepted}
+use Rattle.bg_confirm.specs.Accepted.{IsAccepted, IsAnswer}
 use Rattle.bg_accept.specs.Texts.{answer_text}
 use Rattle.bg_ends.specs.declared.status.Status.{Status}
 use Rattle.bg_ends.specs.declared.status.Status.TheVariants as status
 use Rattle.bg_ends.specs.Refused.{RefusedFor, Refuses}
 use Rattle.bg_recheck.specs.Refusals.{CertRefusal, TooLong, OtherVersion, BadLine, IsCertRefusedBy, cert_line, cert_status, most_bytes}
 
--- the retained candidates are mutually inductive, and no execution of any implementation fails, of any number of steps
+-- some interpretation meets the program, the retained candidates are mutually inductive, and no execution of any implementation fails, of
+-- any number of steps
 pub record AreSafe (p : Program) (set : ℕ → Bool) : Type 0 where
+  pub interp : Interp
+  pub meets : Meets (meaning_of p) interp
   pub candidates : IsSetOf (meaning_of p) set
   pub inductive : Inductive (meaning_of p) set
   pub safe : (k : ℕ) → k < length p.implementations → Safe (meaning_of p) set k

@@ -1,22 +1,22 @@
 //! From the bytes of a program and of a certificate to an answer.
-ghost use Rattle.std.specs.Prelude.{◌≡◌, true, Err, IfOk, IfErr};
+ghost use Rattle.std.specs.Prelude.{◌≡◌, Err, IfOk, IfErr};
 ghost use Rattle.bg_ast.specs.Meaning.{meaning_of};
 ghost use Rattle.bg_ast.specs.Views.{program_of};
-ghost use Rattle.bg_sense.specs.Typed.{IsTyped};
-ghost use Rattle.bg_fits.specs.Scalars.{is_over_scalars};
+ghost use Rattle.bg_expanded.specs.Chains.{most_bodies};
+ghost use Rattle.bg_opened.specs.Openable.{IsOpenable};
 ghost use Rattle.bg_certtext.specs.Reading.{Reads};
 ghost use Rattle.bg_accept.specs.Views.{answer_of};
 ghost use Rattle.bg_recheck.specs.Rechecks.{status_for, IsTold, IsChecked};
 ghost use Rattle.bg_recheck.specs.Views.{IsWhy};
 
-use bg_accept::laws::accepted_programs_are_safe;
-use bg_accept::{Answer, answer_text, check};
+use bg_accept::Answer;
 use bg_ast::resolved::Resolved;
 use bg_certtext::{ReadError as CertError, read};
+use bg_confirm::laws::accepted_programs_are_safe;
+use bg_confirm::{answer_text, check};
 use bg_ends::Status;
-use bg_front::laws::programs_are_typed;
 use bg_front::{ReadError as TextError, Refusal, read_program};
-use bg_judged::laws::judged_programs_are_over_scalars;
+use bg_judged::laws::judged_programs_are_openable;
 use std::alloc::Global;
 
 /// Why nothing is answered.
@@ -45,18 +45,17 @@ fn status_of(answer: Answer<'_>) -> Status
 /// What a program answers of a certificate's text, and the status.
 fn told(
     alloc: Global,
-    program: &Resolved,
+    program: Resolved,
     certificate: &[u8],
 ) -> Result<(Status, Vec<u8>), CertError>
-    requires typed { IsTyped (meaning_of (program_of program.now)) }
-    requires scalars { is_over_scalars true (meaning_of (program_of program.now)) ≡ true }
-    ensures told { IfOk result (λ r. IsTold (program_of program.now) certificate.now r.0 r.1.items) }
+    requires openable { IsOpenable most_bodies (meaning_of (program_of program)) }
+    ensures told { IfOk result (λ r. IsTold (program_of program) certificate.now r.0 r.1.items) }
     ensures refused { IfErr result (λ e. Reads certificate.now (Err e)) }
 {
     let cert = read(alloc, certificate)?;
-    let answer = check(alloc, program, &cert)?;
-    let text = answer_text(alloc, program, answer)?;
-    Ok((status_of(answer), text))
+    let checked = check(alloc, program, &cert)?;
+    let text = answer_text(alloc, &checked.opened, checked.answer)?;
+    Ok((status_of(checked.answer), text))
 }
 
 /// What the program of these bytes answers of a certificate's text, and the status.
@@ -73,10 +72,9 @@ pub(crate) fn answer_on<'t>(
         Err(TextError::Memory) => return Err(Why::Memory),
         Err(TextError::Refused(refusal)) => return Err(Why::Program(refusal)),
     };
-    programs_are_typed();
-    judged_programs_are_over_scalars();
+    judged_programs_are_openable();
     accepted_programs_are_safe();
-    match told(alloc, &typed.program, certificate) {
+    match told(alloc, typed.program, certificate) {
         Ok((ends, text)) => Ok((ends, text)),
         Err(CertError::Memory) => Err(Why::Memory),
         Err(CertError::Version) => Err(Why::Version),

@@ -8,8 +8,8 @@ ghost use Rattle.bg_recheck.specs.Views.{IsWhy};
 
 use crate::answer::{Why, answer_on};
 use crate::lines::bad_line;
-use bg_accept::laws::accepted_certificates_are_answered_so;
 use bg_certtext::laws::{no_text_is_in_front_of_another, written_certificates_are_read};
+use bg_confirm::laws::accepted_certificates_are_answered_so;
 use bg_ends::{Status, refuse, refuse_file, refuse_text};
 use bg_front::laws::a_text_has_one_program_or_one_refusal;
 use bg_front::{MOST_BYTES, Refusal};

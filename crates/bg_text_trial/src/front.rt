@@ -4,18 +4,18 @@ use std::alloc::{AllocError, Global};
 use std::test::Fail;
 
 /// Texts of which no verdicts are given yet, and the lines that refuse them.
-const LATER: [(&[u8], &[u8]); 11] = [
+const LATER: [(&[u8], &[u8]); 8] = [
     (
         b"procedure {:n 1} P(x: [int]int) { }",
         b"error: 1:23 unsupported [\n",
     ),
     (
-        b"procedure P() { assert 12 == 13; } const c: int;",
-        b"error: 1:36 unsupported const\n",
+        b"procedure P() { assert 12 == 13; } const unique c: int;",
+        b"error: 1:42 unsupported unique\n",
     ),
     (
-        b"procedure P() { } const c: bool;",
-        b"error: 1:19 unsupported const\n",
+        b"function f(x: bool): bool; const unique c: bool;",
+        b"error: 1:34 unsupported unique\n",
     ),
     (
         b"var g: bool; function f(x: bool): bool;",
@@ -27,26 +27,17 @@ const LATER: [(&[u8], &[u8]); 11] = [
         b"error: 1:16 unsupported [\n",
     ),
     (
-        b"procedure P() { } procedure Q(); requires true; axiom true;",
-        b"error: 1:49 unsupported axiom\n",
+        b"axiom true; function f(): bool { true } function g(): int; function h(): int;",
+        b"error: 1:41 unsupported function\n",
     ),
     (
-        b"const {:existential true} b: bool; const c: bool;",
-        b"error: 1:36 unsupported const\n",
+        b"function f(m: [int]int): bool; axiom true;",
+        b"error: 1:15 unsupported [\n",
     ),
-    (
-        b"const {:existential false} b: bool; axiom true;",
-        b"error: 1:37 unsupported axiom\n",
-    ),
-    (
-        b"const {:existential false} b: bool;",
-        b"error: 1:1 unsupported const\n",
-    ),
-    (b"axiom true;", b"error: 1:1 unsupported axiom\n"),
 ];
 
 /// Texts of which verdicts are given.
-const JUDGED: [&[u8]; 9] = [
+const JUDGED: [&[u8]; 13] = [
     b"const {:existential true} b, c: bool; procedure P(a: bool); requires b ==> a ==> !a; ensures (c) ==> a;",
     b"procedure {:n 1} P(x: int) { }",
     b"procedure P() { assert 12 == 13; }",
@@ -56,6 +47,10 @@ const JUDGED: [&[u8]; 9] = [
     b"procedure P(a: bool) returns (b: bool); requires a; free ensures b == old(a);",
     b"var g: bool; procedure P(); modifies g; procedure Q() modifies g; { call P(); }",
     b"procedure P(); implementation P() { } implementation P() { assert true; }",
+    b"procedure P() { } procedure Q(); requires true; axiom true;",
+    b"const {:existential true} b: bool; const c: bool;",
+    b"const {:existential false} b: bool; axiom b;",
+    b"function f(x: int): int { x + 1 } const c: int; axiom f(c) == 1 && 0 < f(f(c));",
 ];
 
 #[test]
@@ -192,6 +187,85 @@ const EXPANDED: [Large; 3] = [
     ),
 ];
 
+/// 1,000 and 998 applications with 1,001 nodes each, in an axiom and in none.
+const OPENED: [Large; 4] = [
+    (
+        &[
+            (b"function f(x: int): int { x", 1),
+            (b" + x", 999),
+            (b" } function g(x: int): int { f(x)", 1),
+            (b" + f(x)", 999),
+            (b" }", 1),
+        ],
+        b"",
+    ),
+    (
+        &[
+            (b"function f(x: int): int { x", 1),
+            (b" + x", 999),
+            (b" } function g(x: int): int { f(x)", 1),
+            (b" + f(x)", 999),
+            (b" } axiom g(1) == 1;", 1),
+        ],
+        b"error: limit expanded 1000001\n",
+    ),
+    (
+        &[
+            (b"function f(x: int): int { x", 1),
+            (b" + x", 999),
+            (b" } axiom f(1)", 1),
+            (b" + f(1)", 997),
+            (b" == 1;", 1),
+        ],
+        b"",
+    ),
+    (
+        &[
+            (b"function f(x: int): int { x", 1),
+            (b" + x", 999),
+            (b" } procedure P() { assert f(1)", 1),
+            (b" + f(1)", 999),
+            (b" == 1; }", 1),
+        ],
+        b"error: limit expanded 1000001\n",
+    ),
+];
+
+/// Adds the function with this number, with this body.
+fn put_function(
+    alloc: Global,
+    text: &mut Vec<u8>,
+    number: u32,
+    body: &[u8],
+) -> Result<(), AllocError> {
+    let head = format!(in alloc; "function f{number}(x: int): int ")?;
+    text.extend_from_slice(head.as_bytes())?;
+    text.extend_from_slice(b"{ ")?;
+    text.extend_from_slice(body)?;
+    text.extend_from_slice(b" }\n")
+}
+
+/// A text with a function that applies none, and before it so many, each of which applies the next.
+fn chain(alloc: Global, others: u32) -> Result<Vec<u8>, AllocError> {
+    let mut text = Vec::new(alloc);
+    for i in 0..others {
+        let next = i + 1;
+        let body = format!(in alloc; "f{next}(x)")?;
+        put_function(alloc, &mut text, i, body.as_bytes())?;
+    }
+    put_function(alloc, &mut text, others, b"x")?;
+    Ok(text)
+}
+
+#[test]
+fn at_most_16_bodies_stand_in_a_chain(rt: HostRuntime) -> Result<(), Fail> {
+    let most = chain(rt.alloc(), 15)?;
+    assert!(rt; say(rt.alloc(), &[(&most, 1)], b"")?);
+    let more = chain(rt.alloc(), 16)?;
+    assert!(rt; say(rt.alloc(), &[(&more, 1)], b"error: limit bodies 17\n")?);
+    Ok(())
+}
+
 /// A text with one candidate more than so many.
 fn candidates(alloc: Global, others: u32) -> Result<Vec<u8>, AllocError> {
     let mut text = Vec::new(alloc);
@@ -215,7 +289,13 @@ fn at_most_4096_candidates_are_declared(rt: HostRuntime) -> Result<(), Fail> {
 
 #[test]
 fn each_limit_is_that_of_its_line(rt: HostRuntime) -> Result<(), Fail> {
-    for table in [&NESTED[..], &LONG[..], &PLACES[..], &EXPANDED[..]] {
+    for table in [
+        &NESTED[..],
+        &LONG[..],
+        &PLACES[..],
+        &EXPANDED[..],
+        &OPENED[..],
+    ] {
         for (pieces, line) in table {
             assert!(rt; say(rt.alloc(), pieces, line)?);
         }

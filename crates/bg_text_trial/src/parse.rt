@@ -36,17 +36,14 @@ const TEXTS: [(&[u8], &[u8]); 29] = [
         b"procedure n() { n := true; var n: int; }",
         b"error: 1:28 syntax\n",
     ),
-    (
-        b"axiom true; axiom {:n}{:n true, n} true;",
-        b"error: 1:1 unsupported axiom\n",
-    ),
+    (b"axiom true; axiom {:n}{:n true, n} true;", b""),
     (
         b"type a; type b, c = int, d;",
         b"error: 1:1 unsupported type\n",
     ),
     (
         b"const unique a, b: bool; const {:a true} c: [int, int][int](bool);",
-        b"error: 1:45 unsupported [\n",
+        b"error: 1:7 unsupported unique\n",
     ),
     (b"var {:n} n, m: int, o: bool;", b""),
     (

@@ -7,7 +7,7 @@ use Rattle.bg_sound.specs.Told.{Why, Verdict, Proved, Refuted, Unknown, Judged}
 use Rattle.bg_told.specs.Kept.{why_text, kept_text}
 use Rattle.bg_told.specs.Lines.{texts, value_text}
 use Rattle.bg_lines.specs.Lines.{line}
-use Rattle.bg_told.specs.Places.{variable_text, chosen_text, choice_text, refuted_text, unknown_text, verdict_text, judged_text}
+use Rattle.bg_told.specs.Places.{Names, constant_text, variable_text, chosen_text, choice_text, refuted_text, unknown_text, verdict_text, judged_text}
 use Rattle.bg_lines.specs.Places.{place_text}
 use Rattle.bg_told.proofs.Cuts.{IsFlat, append_is_flat, word_is_flat, cut, place_is_flat, value_is_flat, chosen_is_flat, why_is_flat, kept_is_flat}
 
@@ -23,8 +23,13 @@ abbrev pub fifth : List ℕ → ℕ
 fifth (a ∷ b ∷ c ∷ d ∷ e ∷ rest) = e
 fifth _ = 0
 
--- the text begins with no value's line, and no choice's
+abbrev pub sixth : List ℕ → ℕ
+sixth (a ∷ b ∷ c ∷ d ∷ e ∷ f ∷ rest) = f
+sixth _ = 0
+
+-- the text begins with no constant's line, no value's, and no choice's
 pub record IsPast (text : List ℕ) : Type 0 where
+  pub no_constant : sixth text ≢ 111
   pub no_value : fifth text ≢ 118
   pub no_choice : third text ≢ 32
 
@@ -51,6 +56,24 @@ values_apart (n ∷ ns) (v ∷ vs) (w ∷ ws) x y hx hy h =
     values_apart ns vs ws x y hx hy
     (value_apart n v w _ _ (sym (append_assoc (variable_text n v) (texts variable_text ns vs) x) ∙ h ∙ append_assoc (variable_text n w) (texts variable_text ns ws) y))
 
+constant_cells : (name : List ℕ) (v : Val) (x : List ℕ) → constant_text name v ++ x ≡ (codes "    const " ++ name ++ codes " = ") ++ (value_text v ++ (10 ∷ x))
+constant_cells name v x = simp append_assoc
+
+constant_apart : (name : List ℕ) (v w : Val) (x y : List ℕ) → constant_text name v ++ x ≡ constant_text name w ++ y → x ≡ y
+constant_apart name v w x y h =
+    cut (value_text v) (value_text w) x y (value_is_flat v) (value_is_flat w)
+    (append_cancel_left (codes "    const " ++ name ++ codes " = ") _ _ (sym (constant_cells name v x) ∙ h ∙ constant_cells name w y))
+
+-- and those of constants where no constant's line follows
+constants_apart : (names : List (List ℕ)) (vs ws : List Val) (x y : List ℕ) → sixth x ≢ 111 → sixth y ≢ 111 → texts constant_text names vs ++ x ≡ texts constant_text names ws ++ y → x ≡ y
+constants_apart [] vs ws x y hx hy h = h
+constants_apart (n ∷ ns) [] [] x y hx hy h = h
+constants_apart (n ∷ ns) (v ∷ vs) [] x y hx hy h = absurd (hy (sym (ap sixth h)))
+constants_apart (n ∷ ns) [] (w ∷ ws) x y hx hy h = absurd (hx (ap sixth h))
+constants_apart (n ∷ ns) (v ∷ vs) (w ∷ ws) x y hx hy h =
+    constants_apart ns vs ws x y hx hy
+    (constant_apart n v w _ _ (sym (append_assoc (constant_text n v) (texts constant_text ns vs) x) ∙ h ∙ append_assoc (constant_text n w) (texts constant_text ns ws) y))
+
 choice_cells : (c : Choice) (x : List ℕ) → choice_text c ++ x ≡ codes "    choice " ++ (chosen_text c ++ (10 ∷ x))
 choice_cells c x = append_assoc (codes "    choice " ++ chosen_text c) (10 ∷ []) x
 
@@ -73,8 +96,19 @@ no_value_behind : (cs : List Choice) (x : List ℕ) → IsPast x → fifth (flat
 no_value_behind [] x h = h.no_value
 no_value_behind (c ∷ cs) x h = λ e. let f : 99 ≡ 118 = e in omega (arith, f)
 
-refuted_cells : (a t u x : List ℕ) → (line (codes "  refuted " ++ a) ++ (t ++ u)) ++ x ≡ codes "  refuted " ++ (a ++ (10 ∷ (t ++ (u ++ x))))
-refuted_cells a t u x = append_assoc (line (codes "  refuted " ++ a)) (t ++ u) x ∙ append_assoc (codes "  refuted " ++ a) (10 ∷ []) ((t ++ u) ++ x) ∙ ap (λ z. codes "  refuted " ++ (a ++ (10 ∷ z))) (append_assoc t u x)
+-- behind the constants' values
+no_constant_behind : (ns : List (List ℕ)) (vs : List Val) (cs : List Choice) (x : List ℕ) → IsPast x → sixth (texts variable_text ns vs ++ (flat_map choice_text cs ++ x)) ≢ 111
+no_constant_behind [] vs [] x h = h.no_constant
+no_constant_behind [] vs (c ∷ cs) x h = λ e. let f : 104 ≡ 111 = e in omega (arith, f)
+no_constant_behind (n ∷ ns) [] [] x h = h.no_constant
+no_constant_behind (n ∷ ns) [] (c ∷ cs) x h = λ e. let f : 104 ≡ 111 = e in omega (arith, f)
+no_constant_behind (n ∷ ns) (v ∷ vs) cs x h = λ e. let f : 97 ≡ 111 = e in omega (arith, f)
+
+refuted_cells : (a k t u x : List ℕ) → (line (codes "  refuted " ++ a) ++ (k ++ (t ++ u))) ++ x ≡ codes "  refuted " ++ (a ++ (10 ∷ (k ++ (t ++ (u ++ x)))))
+refuted_cells a k t u x = by (codes "  refuted ")
+  where
+    by : (c : List ℕ) → (line (c ++ a) ++ (k ++ (t ++ u))) ++ x ≡ c ++ (a ++ (10 ∷ (k ++ (t ++ (u ++ x)))))
+    by c = simp append_assoc
 
 unknown_cells : (a w d x : List ℕ) → ((codes "  unknown " ++ a) ++ (line (codes " " ++ w) ++ line (codes "    kept " ++ d))) ++ x ≡ codes "  unknown " ++ ((a ++ (codes " " ++ w)) ++ (10 ∷ (codes "    kept " ++ (d ++ (10 ∷ x)))))
 unknown_cells a w d x = two_lines (codes "  unknown ") a (codes " " ++ w) (codes "    kept ") d x
@@ -82,12 +116,13 @@ unknown_cells a w d x = two_lines (codes "  unknown ") a (codes " " ++ w) (codes
     two_lines : (c a m k d x : List ℕ) → ((c ++ a) ++ (line m ++ line (k ++ d))) ++ x ≡ c ++ ((a ++ m) ++ (10 ∷ (k ++ (d ++ (10 ∷ x)))))
     two_lines c a m k d x = simp append_assoc
 
-refuted_apart : (names : List (List ℕ)) (p q : Placed) (vs ws : List Val) (cs ds : List Choice) (x y : List ℕ) → IsPast x → IsPast y → refuted_text names p vs cs ++ x ≡ refuted_text names q ws ds ++ y → x ≡ y
-refuted_apart names p q vs ws cs ds x y hx hy h =
+refuted_apart : (names : Names) (p q : Placed) (us xs vs ws : List Val) (cs ds : List Choice) (x y : List ℕ) → IsPast x → IsPast y → refuted_text names p us vs cs ++ x ≡ refuted_text names q xs ws ds ++ y → x ≡ y
+refuted_apart names p q us xs vs ws cs ds x y hx hy h =
     choices_apart cs ds x y hx.no_choice hy.no_choice
-    (values_apart names vs ws (flat_map choice_text cs ++ x) (flat_map choice_text ds ++ y) (no_value_behind cs x hx) (no_value_behind ds y hy)
+    (values_apart names.variables vs ws (flat_map choice_text cs ++ x) (flat_map choice_text ds ++ y) (no_value_behind cs x hx) (no_value_behind ds y hy)
+    (constants_apart names.constants us xs _ _ (no_constant_behind names.variables vs cs x hx) (no_constant_behind names.variables ws ds y hy)
     (cut (place_text p) (place_text q) _ _ (place_is_flat p) (place_is_flat q)
-    (append_cancel_left (codes "  refuted ") _ _ (sym (refuted_cells (place_text p) (texts variable_text names vs) (flat_map choice_text cs) x) ∙ h ∙ refuted_cells (place_text q) (texts variable_text names ws) (flat_map choice_text ds) y))))
+    (append_cancel_left (codes "  refuted ") _ _ (sym (refuted_cells (place_text p) (texts constant_text names.constants us) (texts variable_text names.variables vs) (flat_map choice_text cs) x) ∙ h ∙ refuted_cells (place_text q) (texts constant_text names.constants xs) (texts variable_text names.variables ws) (flat_map choice_text ds) y)))))
 
 unknown_apart : (p q : Placed) (v w : Why) (x y : List ℕ) → unknown_text p v ++ x ≡ unknown_text q w ++ y → x ≡ y
 unknown_apart p q v w x y h =
@@ -104,79 +139,79 @@ unknown_apart p q v w x y h =
 -- a place's part of a report: nothing, or that of a refuted or an unknown place
 data Shape : Type 0 where
   Nothing : Shape
-  Shown : Placed → List Val → List Choice → Shape
+  Shown : Placed → List Val → List Val → List Choice → Shape
   Spent : Placed → Why → Shape
 
-abbrev shape_text : List (List ℕ) → Shape → List ℕ
+abbrev shape_text : Names → Shape → List ℕ
 shape_text names Nothing = []
-shape_text names (Shown p vs cs) = refuted_text names p vs cs
+shape_text names (Shown p us vs cs) = refuted_text names p us vs cs
 shape_text names (Spent p ns) = unknown_text p ns
 
 abbrev shape_by : Placed → Verdict → Shape
 shape_by p Proved = Nothing
-shape_by p (Refuted i s choices) = Shown p (s.globals ++ s.frame) choices
+shape_by p (Refuted i s choices) = Shown p i.constants (s.globals ++ s.frame) choices
 shape_by p (Unknown why) = Spent p why
 
 abbrev shape_of : Judged → Shape
 shape_of j = shape_by j.placed j.verdict
 
-shaped : (names : List (List ℕ)) (p : Placed) (v : Verdict) → verdict_text names p v ≡ shape_text names (shape_by p v)
+shaped : (names : Names) (p : Placed) (v : Verdict) → verdict_text names p v ≡ shape_text names (shape_by p v)
 shaped names p Proved = refl
 shaped names p (Refuted i s choices) = refl
 shaped names p (Unknown why) = refl
 
-abbrev shapes_text : List (List ℕ) → List Shape → List ℕ
+abbrev shapes_text : Names → List Shape → List ℕ
 shapes_text names = flat_map (shape_text names)
 
-all_shaped : (names : List (List ℕ)) (js : List Judged) → flat_map (judged_text names) js ≡ shapes_text names (map shape_of js)
+all_shaped : (names : Names) (js : List Judged) → flat_map (judged_text names) js ≡ shapes_text names (map shape_of js)
 all_shaped names [] = refl
 all_shaped names (j ∷ js) =
     ap (λ (t : List ℕ). t ++ flat_map (judged_text names) js) (shaped names j.placed j.verdict)
     ∙ ap (λ (t : List ℕ). shape_text names (shape_of j) ++ t) (all_shaped names js)
 
-past_shapes : (names : List (List ℕ)) (ss : List Shape) (x : List ℕ) → IsPast x → IsPast (shapes_text names ss ++ x)
+past_shapes : (names : Names) (ss : List Shape) (x : List ℕ) → IsPast x → IsPast (shapes_text names ss ++ x)
 past_shapes names [] x hx = hx
 past_shapes names (Nothing ∷ ss) x hx = past_shapes names ss x hx
-past_shapes names (Shown p vs cs ∷ ss) x hx = record { no_value = λ e. omega (arith, e); no_choice = λ e. omega (arith, e) }
-past_shapes names (Spent p ns ∷ ss) x hx = record { no_value = λ e. omega (arith, e); no_choice = λ e. omega (arith, e) }
+past_shapes names (Shown p us vs cs ∷ ss) x hx = record { no_constant = λ e. omega (arith, e); no_value = λ e. omega (arith, e); no_choice = λ e. omega (arith, e) }
+past_shapes names (Spent p ns ∷ ss) x hx = record { no_constant = λ e. omega (arith, e); no_value = λ e. omega (arith, e); no_choice = λ e. omega (arith, e) }
 
 -- where no place is told, none is on the other side
-none_apart : (names : List (List ℕ)) (ss : List Shape) (x y : List ℕ) → IsHead x → x ≡ shapes_text names ss ++ y → x ≡ y
+none_apart : (names : Names) (ss : List Shape) (x y : List ℕ) → IsHead x → x ≡ shapes_text names ss ++ y → x ≡ y
 none_apart names [] x y hx h = h
 none_apart names (Nothing ∷ ss) x y hx h = none_apart names ss x y hx h
-none_apart names (Shown p vs cs ∷ ss) x y hx h = absurd (hx.no_place (ap first h))
+none_apart names (Shown p us vs cs ∷ ss) x y hx h = absurd (hx.no_place (ap first h))
 none_apart names (Spent p ns ∷ ss) x y hx h = absurd (hx.no_place (ap first h))
 
 -- a refuted place, and then a text t that is read in one way
-refuted_first : (names : List (List ℕ)) (q : Placed) (ws : List Val) (ds : List Choice) (ss : List Shape) (t x y : List ℕ) → IsPast t → IsHead y → ((rest : List Shape) → t ≡ shapes_text names rest ++ y → x ≡ y) → refuted_text names q ws ds ++ t ≡ shapes_text names ss ++ y → x ≡ y
-refuted_first names q ws ds [] t x y ht hy ih h = absurd (hy.no_place (sym (ap first h)))
-refuted_first names q ws ds (Nothing ∷ ss) t x y ht hy ih h = refuted_first names q ws ds ss t x y ht hy ih h
-refuted_first names q ws ds (Shown p vs cs ∷ ss) t x y ht hy ih h =
-    ih ss (refuted_apart names q p ws vs ds cs t _ ht (past_shapes names ss y hy.past) (h ∙ append_assoc (refuted_text names p vs cs) (shapes_text names ss) y))
-refuted_first names q ws ds (Spent p ns ∷ ss) t x y ht hy ih h = let e : 114 ≡ 117 = ap third h in absurd (omega (arith, e))
+refuted_first : (names : Names) (q : Placed) (xs ws : List Val) (ds : List Choice) (ss : List Shape) (t x y : List ℕ) → IsPast t → IsHead y → ((rest : List Shape) → t ≡ shapes_text names rest ++ y → x ≡ y) → refuted_text names q xs ws ds ++ t ≡ shapes_text names ss ++ y → x ≡ y
+refuted_first names q xs ws ds [] t x y ht hy ih h = absurd (hy.no_place (sym (ap first h)))
+refuted_first names q xs ws ds (Nothing ∷ ss) t x y ht hy ih h = refuted_first names q xs ws ds ss t x y ht hy ih h
+refuted_first names q xs ws ds (Shown p us vs cs ∷ ss) t x y ht hy ih h =
+    ih ss (refuted_apart names q p xs us ws vs ds cs t _ ht (past_shapes names ss y hy.past) (h ∙ append_assoc (refuted_text names p us vs cs) (shapes_text names ss) y))
+refuted_first names q xs ws ds (Spent p ns ∷ ss) t x y ht hy ih h = let e : 114 ≡ 117 = ap third h in absurd (omega (arith, e))
 
 -- an unknown place, and then a text t that is read in one way
-unknown_first : (names : List (List ℕ)) (q : Placed) (ms : Why) (ss : List Shape) (t x y : List ℕ) → IsHead y → ((rest : List Shape) → t ≡ shapes_text names rest ++ y → x ≡ y) → unknown_text q ms ++ t ≡ shapes_text names ss ++ y → x ≡ y
+unknown_first : (names : Names) (q : Placed) (ms : Why) (ss : List Shape) (t x y : List ℕ) → IsHead y → ((rest : List Shape) → t ≡ shapes_text names rest ++ y → x ≡ y) → unknown_text q ms ++ t ≡ shapes_text names ss ++ y → x ≡ y
 unknown_first names q ms [] t x y hy ih h = absurd (hy.no_place (sym (ap first h)))
 unknown_first names q ms (Nothing ∷ ss) t x y hy ih h = unknown_first names q ms ss t x y hy ih h
-unknown_first names q ms (Shown p vs cs ∷ ss) t x y hy ih h = let e : 117 ≡ 114 = ap third h in absurd (omega (arith, e))
+unknown_first names q ms (Shown p us vs cs ∷ ss) t x y hy ih h = let e : 117 ≡ 114 = ap third h in absurd (omega (arith, e))
 unknown_first names q ms (Spent p ns ∷ ss) t x y hy ih h =
     ih ss (unknown_apart q p ms ns t _ (h ∙ append_assoc (unknown_text p ns) (shapes_text names ss) y))
 
-shapes_apart : (names : List (List ℕ)) (ss rs : List Shape) (x y : List ℕ) → IsHead x → IsHead y → shapes_text names ss ++ x ≡ shapes_text names rs ++ y → x ≡ y
+shapes_apart : (names : Names) (ss rs : List Shape) (x y : List ℕ) → IsHead x → IsHead y → shapes_text names ss ++ x ≡ shapes_text names rs ++ y → x ≡ y
 shapes_apart names [] rs x y hx hy h = none_apart names rs x y hx h
 shapes_apart names (Nothing ∷ ss) rs x y hx hy h = shapes_apart names ss rs x y hx hy h
-shapes_apart names (Shown p vs cs ∷ ss) rs x y hx hy h =
-    refuted_first names p vs cs rs (shapes_text names ss ++ x) x y (past_shapes names ss x hx.past) hy
+shapes_apart names (Shown p us vs cs ∷ ss) rs x y hx hy h =
+    refuted_first names p us vs cs rs (shapes_text names ss ++ x) x y (past_shapes names ss x hx.past) hy
     (λ (rest : List Shape). shapes_apart names ss rest x y hx hy)
-    (sym (append_assoc (refuted_text names p vs cs) (shapes_text names ss) x) ∙ h)
+    (sym (append_assoc (refuted_text names p us vs cs) (shapes_text names ss) x) ∙ h)
 shapes_apart names (Spent p ns ∷ ss) rs x y hx hy h =
     unknown_first names p ns rs (shapes_text names ss ++ x) x y hy
     (λ (rest : List Shape). shapes_apart names ss rest x y hx hy)
     (sym (append_assoc (unknown_text p ns) (shapes_text names ss) x) ∙ h)
 
 -- what follows the places of one implementation
-pub places_apart : (names : List (List ℕ)) (js ks : List Judged) (x y : List ℕ) → IsHead x → IsHead y → flat_map (judged_text names) js ++ x ≡ flat_map (judged_text names) ks ++ y → x ≡ y
+pub places_apart : (names : Names) (js ks : List Judged) (x y : List ℕ) → IsHead x → IsHead y → flat_map (judged_text names) js ++ x ≡ flat_map (judged_text names) ks ++ y → x ≡ y
 places_apart names js ks x y hx hy h =
     shapes_apart names (map shape_of js) (map shape_of ks) x y hx hy
     (ap (λ (t : List ℕ). t ++ x) (sym (all_shaped names js)) ∙ h ∙ ap (λ (t : List ℕ). t ++ y) (all_shaped names ks))

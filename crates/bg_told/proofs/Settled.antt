@@ -1,5 +1,5 @@
 -- What is told of two true outcomes in which nothing is unknown is the same, but for counterexamples.
-use Rattle.std.proofs.Common.{◌≡◌, ℕ, suc, Bool, true, false, not, if◌then◌else◌, nat_lt, ◌==◌, List, [], ◌∷◌, map, Option, Some, None, refl, sym, ap, ◌∙◌, subst, All, length}
+use Rattle.std.proofs.Common.{◌≡◌, ℕ, suc, Bool, true, false, not, ◌&&◌, if◌then◌else◌, nat_lt, ◌==◌, List, [], ◌∷◌, map, Option, Some, None, refl, sym, ap, ◌∙◌, subst, All, length}
 use Rattle.std.specs.List.{list_all}
 use Rattle.std.proofs.lemmas.Bool.{and_parts}
 use Rattle.std.proofs.lemmas.List.Elements.{All-nil, All-cons, All-head, All-tail}
@@ -16,15 +16,16 @@ use Rattle.bg_rounds.specs.Removals.{RightRemoval}
 use Rattle.bg_rounds.specs.Outcomes.{NoneUnknown}
 use Rattle.bg_sound.specs.Told as t
 use Rattle.bg_sound.specs.Told.{Verdict, Proved, Refuted, Unknown, Judged, placed_at, is_unknown, are_settled}
-use Rattle.bg_sound.specs.Sound.{IsTrueAt, AreTrueAt, AreTrueFrom, IsSound}
+use Rattle.bg_sound.specs.Sound.{AreAxioms, IsTrueAt, AreTrueAt, AreTrueFrom, IsSound}
 use Rattle.bg_check.specs.declared.verdict.Cause.{Cause}
 use Rattle.bg_houdini.specs.declared.reason.Reason.{Reason}
 use Rattle.bg_houdini.specs.declared.reason.Reason.TheVariants as reason
-use Rattle.bg_houdini.specs.declared.outcome.Outcome.{Outcome}
+use Rattle.bg_inference.specs.declared.outcome.Outcome.{Outcome}
 use Rattle.bg_houdini.specs.Tasks.{tasks_of, candidate_of}
 use Rattle.bg_houdini.specs.Checks.{IsReason, TaskFinds}
-use Rattle.bg_houdini.specs.Outcomes.{IsTrueOutcome}
-use Rattle.bg_houdini.specs.Told.{is_checked, earlier, first_of, fate_for, fate_by, fate, each_below, are_known, outcome_of}
+use Rattle.bg_inference.specs.Outcomes.{judged_program, IsTrueOutcome}
+use Rattle.bg_inference.specs.Told.{outcome_of}
+use Rattle.bg_houdini.specs.Told.{is_checked, earlier, first_of, fate_for, fate_by, fate, each_below, are_known}
 use Rattle.bg_told.specs.Settled.{is_settled, bare_verdict, bare, without_counterexamples, verdict_lines}
 use Rattle.bg_told.specs.Report.{result_text}
 
@@ -122,43 +123,69 @@ module _ (budget : Budget) (p : Prog) (words : Cause → t.Why) where
       let here = reason_is (has d.snapshot) found.task d.unknown d.told (known d.unknown both.0) found.so in
       first_is (d.cand.0 == b) d (first_of b ds) here (dropped b ds both.1 (All-tail IsRight d ds h))
 
+-- ---- axioms
+
+-- an interpretation meets the program, or none does
+same_axioms : (p : Prog) (a b : t.Axioms) → AreAxioms p a → AreAxioms p b → not (t.is_undecided a) ≡ true → not (t.is_undecided b) ≡ true → a ≡ b
+same_axioms p t.Consistent t.Consistent f g m n = refl
+same_axioms p t.Contradictory t.Contradictory f g m n = refl
+same_axioms p t.Consistent t.Contradictory f g m n = absurd (g f.0 f.1)
+same_axioms p t.Contradictory t.Consistent f g m n = absurd (f g.0 g.1)
+same_axioms p (t.Undecided why) b f g m n = absurd (let bad : false ≡ true = m in cc)
+same_axioms p a (t.Undecided why) f g m n = absurd (let bad : false ≡ true = n in cc)
+
 -- ---- the whole
+
+-- what is settled, part by part
+pub record AreSettled (o : t.Outcome) : Type 0 where
+  pub axioms : not (t.is_undecided o.axioms) ≡ true
+  pub greatest : o.is_greatest ≡ true
+  pub places : are_settled o.implementations ≡ true
+
+pub parts : (o : t.Outcome) → is_settled o ≡ true → AreSettled o
+parts o h =
+    let a = and_parts (not (t.is_undecided o.axioms)) (o.is_greatest && are_settled o.implementations) h in
+    let b = and_parts o.is_greatest (are_settled o.implementations) a.1 in
+    record { axioms = a.0; greatest = b.0; places = b.1 }
 
 module _ (budget other : Budget) (p : r.Program) (o q : Outcome) (words : Cause → t.Why) where
   abbrev P : Prog
   P = meaning_of p
 
+  abbrev Q : Prog
+  Q = meaning_of (judged_program p)
+
   abbrev told : Outcome → t.Outcome
   told u = outcome_of words P u
 
-  fates_agree : IsTrueOutcome budget p o → IsTrueOutcome other p q → is_settled (told o) ≡ true → is_settled (told q) ≡ true → o.inferred.retained ≡ q.inferred.retained → (told o).fates ≡ (told q).fates
+  abbrev gone : Outcome → List (Removal Reason)
+  gone u = u.judged.inferred.removals.items
+
+  fates_agree : IsTrueOutcome budget p o → IsTrueOutcome other p q → AreSettled (told o) → AreSettled (told q) → o.judged.inferred.retained ≡ q.judged.inferred.retained → (told o).fates ≡ (told q).fates
   fates_agree x y m n same = ap (each_below P.candidates) (fun_ext each)
     where
-      at : (b : ℕ) → fate_by words (first_of b o.inferred.removals.items) ≡ fate_by words (first_of b q.inferred.removals.items)
+      at : (b : ℕ) → fate_by words (first_of b (gone o)) ≡ fate_by words (first_of b (gone q))
       at b =
-          dropped budget P words b o.inferred.removals.items (and_parts (told o).is_greatest (are_settled (told o).implementations) m).0 x.inferred.right
-          ∙ sym (dropped other P words b q.inferred.removals.items (and_parts (told q).is_greatest (are_settled (told q).implementations) n).0 y.inferred.right)
+          dropped budget Q words b (gone o) m.greatest x.judged.inferred.right
+          ∙ sym (dropped other Q words b (gone q) n.greatest y.judged.inferred.right)
 
-      each : (b : ℕ) → fate words P o b ≡ fate words P q b
+      each : (b : ℕ) → fate words P o.judged b ≡ fate words P q.judged b
       each b =
-          ap (λ (set : Numbers). if has set b then (if is_checked P b then t.Retained else t.Unchecked) else fate_by words (first_of b o.inferred.removals.items)) same
-          ∙ ap (λ (f : t.Fate). if has q.inferred.retained b then (if is_checked P b then t.Retained else t.Unchecked) else f) (at b)
+          ap (λ (set : Numbers). if has set b then (if is_checked P b then t.Retained else t.Unchecked) else fate_by words (first_of b (gone o))) same
+          ∙ ap (λ (f : t.Fate). if has q.judged.inferred.retained b then (if is_checked P b then t.Retained else t.Unchecked) else f) (at b)
 
-  told_agree : IsTrueOutcome budget p o → IsTrueOutcome other p q → IsSound p (told o) → IsSound p (told q) → is_settled (told o) ≡ true → is_settled (told q) ≡ true → o.inferred.retained ≡ q.inferred.retained → ((c : ℕ) → t.retained (told o) c ≡ t.retained (told q) c)
+  told_agree : IsTrueOutcome budget p o → IsTrueOutcome other p q → IsSound p (told o) → IsSound p (told q) → AreSettled (told o) → AreSettled (told q) → o.judged.inferred.retained ≡ q.judged.inferred.retained → ((c : ℕ) → t.retained (told o) c ≡ t.retained (told q) c)
       → without_counterexamples (told o) ≡ without_counterexamples (told q)
   told_agree x y f g m n same sets =
-      let a = and_parts (told o).is_greatest (are_settled (told o).implementations) m in
-      let b = and_parts (told q).is_greatest (are_settled (told q).implementations) n in
       let set : t.retained (told q) ≡ t.retained (told o) = sym (fun_ext sets) in
       let places = same_from p (t.retained (told o)) 0 p.implementations (told o).implementations (told q).implementations f.implementations
-      (subst (λ (s : ℕ → Bool). AreTrueFrom p s 0 p.implementations (told q).implementations) set g.implementations) a.1 b.1 in
-      ap (λ (fates : List t.Fate). record { axioms = t.Consistent; fates = fates; is_greatest = (told o).is_greatest; implementations = map (map bare) (told o).implementations }) (fates_agree x y m n same)
-      ∙ ap (λ (greatest : Bool). record { axioms = t.Consistent; fates = (told q).fates; is_greatest = greatest; implementations = map (map bare) (told o).implementations }) (a.0 ∙ sym b.0)
-      ∙ ap (λ (js : List (List Judged)). record { axioms = t.Consistent; fates = (told q).fates; is_greatest = (told q).is_greatest; implementations = js }) places
+      (subst (λ (s : ℕ → Bool). AreTrueFrom p s 0 p.implementations (told q).implementations) set g.implementations) m.places n.places in
+      ap (λ (a : t.Axioms). record { axioms = a; fates = (told o).fates; is_greatest = (told o).is_greatest; implementations = map (map bare) (told o).implementations }) (same_axioms P (told o).axioms (told q).axioms f.axioms g.axioms m.axioms n.axioms)
+      ∙ ap (λ (fates : List t.Fate). record { axioms = (told q).axioms; fates = fates; is_greatest = (told o).is_greatest; implementations = map (map bare) (told o).implementations }) (fates_agree x y m n same)
+      ∙ ap (λ (greatest : Bool). record { axioms = (told q).axioms; fates = (told q).fates; is_greatest = greatest; implementations = map (map bare) (told o).implementations }) (m.greatest ∙ sym n.greatest)
+      ∙ ap (λ (js : List (List Judged)). record { axioms = (told q).axioms; fates = (told q).fates; is_greatest = (told q).is_greatest; implementations = js }) places
 
-  pub lines_agree : IsTrueOutcome budget p o → IsTrueOutcome other p q → IsSound p (told o) → IsSound p (told q) → is_settled (told o) ≡ true → is_settled (told q) ≡ true → (NoneUnknown o.inferred → NoneUnknown q.inferred → o.inferred.retained ≡ q.inferred.retained)
+  pub lines_agree : IsTrueOutcome budget p o → IsTrueOutcome other p q → IsSound p (told o) → IsSound p (told q) → AreSettled (told o) → AreSettled (told q) → (NoneUnknown o.judged.inferred → NoneUnknown q.judged.inferred → o.judged.inferred.retained ≡ q.judged.inferred.retained)
       → ((told o).is_greatest ≡ true → (told q).is_greatest ≡ true → (c : ℕ) → t.retained (told o) c ≡ t.retained (told q) c) → verdict_lines p (told o) ≡ verdict_lines p (told q)
   lines_agree x y f g m n lists sets =
-      let a = (and_parts (told o).is_greatest (are_settled (told o).implementations) m).0 in
-      let b = (and_parts (told q).is_greatest (are_settled (told q).implementations) n).0 in
-      ap (result_text p) (told_agree x y f g m n (lists (none_unknown o.inferred.removals.items a) (none_unknown q.inferred.removals.items b)) (sets a b))
+      ap (result_text p) (told_agree x y f g m n (lists (none_unknown (gone o) m.greatest) (none_unknown (gone q) n.greatest)) (sets m.greatest n.greatest))

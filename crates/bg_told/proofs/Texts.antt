@@ -6,8 +6,8 @@ use Rattle.bg_ast.specs.declared.resolved.Declared.{Declared}
 use Rattle.bg_ast.specs.Views.{declared_of}
 use Rattle.bg_scalar.specs.declared.scalar.Scalar.{Scalar}
 use Rattle.bg_told.specs.Lines.{texts}
-use Rattle.bg_told.specs.Report.{name_in}
-use Rattle.bg_told.specs.Entries.{names_in, entry_text}
+use Rattle.bg_told.specs.Sheets.{name_in}
+use Rattle.bg_told.specs.Entries.{names_in, entry_text, constant_line}
 
 pub texts_nil : {A B : Type 0} (text : A → B → List ℕ) (xs : List A) → texts text xs [] ≡ []
 texts_nil text [] = refl

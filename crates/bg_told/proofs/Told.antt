@@ -1,10 +1,10 @@
 -- What the code finds is what is told.
-use Rattle.std.proofs.Common.{◌≡◌, ℕ, ◌+◌, Bool, true, false, ◌&&◌, ◌||◌, List, [], ◌∷◌, ◌++◌, map, filter, cond, fold, flat_map, count_by, if◌then◌else◌, Option, Some, None, is_none, refl, sym, ap, ◌∙◌}
+use Rattle.std.proofs.Common.{◌≡◌, ℕ, zero, suc, ◌+◌, Bool, true, false, ◌&&◌, ◌||◌, List, [], ◌∷◌, ◌++◌, map, take, drop, filter, cond, fold, flat_map, count_by, if◌then◌else◌, Option, Some, None, is_none, refl, sym, ap, ◌∙◌}
 use Rattle.std.specs.List.{list_any}
 use Rattle.std.proofs.lemmas.List.{map-append}
 use Rattle.bg_base.specs.declared.ids.CandId.{CandId}
 use Rattle.bg_text.specs.Views.{option_of}
-use Rattle.bg_ast.specs.Syntax.{Prog}
+use Rattle.bg_ast.specs.Values.{Val}
 use Rattle.bg_ast.specs.Views.{candidate_of}
 use Rattle.bg_scalar.specs.declared.scalar.Scalar.{Scalar}
 use Rattle.bg_scalar.specs.Values.{val_of}
@@ -15,16 +15,15 @@ use Rattle.bg_check.specs.declared.verdict.Judged.{Judged}
 use Rattle.bg_check.specs.Outcomes as c
 use Rattle.bg_check.specs.Outcomes.{verdict_of, told_one, told}
 use Rattle.bg_check.specs.Verdicts.{judged}
-use Rattle.bg_houdini.specs.declared.outcome.Outcome.{Outcome}
-use Rattle.bg_houdini.specs.Told.{outcome_of}
+use Rattle.bg_check.specs.declared.verdict.Cause.{Cause}
 use Rattle.bg_told.specs.declared.word.Word.{Word}
 use Rattle.bg_told.specs.declared.word.Word.TheVariants.{Verified, Refuted, Unknown}
 use Rattle.bg_told.specs.Lines.{texts}
-use Rattle.bg_told.specs.Places.{variable_text, judged_text}
+use Rattle.bg_told.specs.Places.{Names, constant_text, variable_text, judged_text}
 use Rattle.bg_told.specs.Report as r
 use Rattle.bg_told.specs.Views.{why_of, told_word, status_in}
-use Rattle.bg_told.specs.Words.{is_ordinary, word_in, is_word, has, word_of, word_for, count_of}
-use Rattle.bg_told.specs.Entries.{entry_text, shown_text}
+use Rattle.bg_told.specs.Words.{is_ordinary, word_in, is_word, has, word_of, word_for, with_axioms, count_of}
+use Rattle.bg_told.specs.Entries.{entry_text, constant_line, split_one, split_all, shown_text}
 
 same_none : (o : Option CandId) → is_none (option_of candidate_of o) ≡ is_none o
 same_none None = refl
@@ -106,36 +105,65 @@ status_by true b = refl
 status_by false true = refl
 status_by false false = refl
 
--- the program's word
-pub status_told : (p : Prog) (o : Outcome) → status_in (word_for (judged o.verdicts.items)) ≡ t.status_of (outcome_of why_of p o)
-status_told p o =
-    let os = judged o.verdicts.items in
+-- the word of a program's places
+pub places_told : (os : List (List Judged)) → status_in (word_for os) ≡ (if list_any t.has_refuted (map (told why_of) os) then 1 else if list_any t.has_unknown (map (told why_of) os) then 2 else 0)
+places_told os =
     let refuted = any_told (has Refuted) t.has_refuted has_refuted os in
     let unknown = any_told (has Unknown) t.has_unknown has_unknown os in
     status_by (list_any (has Refuted) os) (list_any (has Unknown) os)
     ∙ ap (λ (a : Bool). if a then 1 else if list_any (has Unknown) os then 2 else 0) refuted
     ∙ ap (λ (b : Bool). if list_any t.has_refuted (map (told why_of) os) then 1 else if b then 2 else 0) unknown
 
+-- where the axioms are unknown
+unknown_by : (cause : Cause) (a b : Bool) → status_in (with_axioms (verdict.Unknown cause) (if a then Refuted else (if b then Unknown else Verified))) ≡ (if a then 1 else 2)
+unknown_by cause true b = refl
+unknown_by cause false true = refl
+unknown_by cause false false = refl
+
+pub unknown_told : (cause : Cause) (os : List (List Judged)) → status_in (with_axioms (verdict.Unknown cause) (word_for os)) ≡ (if list_any t.has_refuted (map (told why_of) os) then 1 else 2)
+unknown_told cause os =
+    unknown_by cause (list_any (has Refuted) os) (list_any (has Unknown) os)
+    ∙ ap (λ (a : Bool). if a then 1 else 2) (any_told (has Refuted) t.has_refuted has_refuted os)
+
 -- ---- texts
 
-shown_in_front : (names : List (List ℕ)) (o : Bool) (j : Judged) (js : List Judged) → (if o then judged_text names (told_one why_of j) else []) ++ flat_map (judged_text names) (map (told_one why_of) js) ≡ flat_map (judged_text names) (map (told_one why_of) (cond o (j ∷ js) js))
-shown_in_front names true j js = refl
-shown_in_front names false j js = refl
+shown_in_front : (names : Names) (n : ℕ) (o : Bool) (j : Judged) (js : List Judged) → (if o then judged_text names (split_one n (told_one why_of j)) else []) ++ flat_map (judged_text names) (map (split_one n) (map (told_one why_of) js)) ≡ flat_map (judged_text names) (map (split_one n) (map (told_one why_of) (cond o (j ∷ js) js)))
+shown_in_front names n true j js = refl
+shown_in_front names n false j js = refl
 
 -- the lines of the ordinary places
-pub shown_is : (names : List (List ℕ)) (js : List Judged) → flat_map (shown_text names) js ≡ flat_map (judged_text names) (told why_of js)
-shown_is names [] = refl
-shown_is names (j ∷ js) =
-    ap (λ (x : List ℕ). shown_text names j ++ x) (shown_is names js)
-    ∙ ap (λ (o : Bool). (if o then judged_text names (told_one why_of j) else []) ++ flat_map (judged_text names) (told why_of js)) (sym (same_ordinary j))
-    ∙ shown_in_front names (c.is_ordinary j) j (filter c.is_ordinary js)
+pub shown_is : (names : Names) (n : ℕ) (js : List Judged) → flat_map (shown_text names n) js ≡ flat_map (judged_text names) (split_all n js)
+shown_is names n [] = refl
+shown_is names n (j ∷ js) =
+    ap (λ (x : List ℕ). shown_text names n j ++ x) (shown_is names n js)
+    ∙ ap (λ (o : Bool). (if o then judged_text names (split_one n (told_one why_of j)) else []) ++ flat_map (judged_text names) (split_all n js)) (sym (same_ordinary j))
+    ∙ shown_in_front names n (c.is_ordinary j) j (filter c.is_ordinary js)
 
-texts_map : {A B C : Type 0} (text : A → C → List ℕ) (f : B → C) (xs : List A) (ys : List B) → texts text xs (map f ys) ≡ texts (λ (x : A) (y : B). text x (f y)) xs ys
+map_front : (n : ℕ) (gs : List Scalar) → map val_of (take n gs) ≡ take n (map val_of gs)
+map_front zero gs = refl
+map_front (suc n) [] = refl
+map_front (suc n) (g ∷ gs) = ap (λ (vs : List Val). val_of g ∷ vs) (map_front n gs)
+
+map_behind : (n : ℕ) (gs : List Scalar) → map val_of (drop n gs) ≡ drop n (map val_of gs)
+map_behind zero gs = refl
+map_behind (suc n) [] = refl
+map_behind (suc n) (g ∷ gs) = map_behind n gs
+
+pub texts_map : {A B C : Type 0} (text : A → C → List ℕ) (f : B → C) (xs : List A) (ys : List B) → texts text xs (map f ys) ≡ texts (λ (x : A) (y : B). text x (f y)) xs ys
 texts_map text f [] ys = refl
 texts_map text f (x ∷ xs) [] = refl
 texts_map text f (x ∷ xs) (y ∷ ys) = ap (λ (z : List ℕ). text x (f y) ++ z) (texts_map text f xs ys)
 
 -- the lines of entry values
-pub values_told : (names : List (List ℕ)) (gs fs : List Scalar) → texts entry_text names (gs ++ fs) ≡ texts variable_text names (map val_of gs ++ map val_of fs)
-values_told names gs fs =
-    sym (texts_map variable_text val_of names (gs ++ fs)) ∙ ap (texts variable_text names) (map-append val_of gs fs)
+pub entries_told : (names : List (List ℕ)) (n : ℕ) (gs fs : List Scalar) → texts entry_text names (take n gs ++ fs) ≡ texts variable_text names (take n (map val_of gs) ++ map val_of fs)
+entries_told names n gs fs =
+    sym (texts_map variable_text val_of names (take n gs ++ fs))
+    ∙ ap (texts variable_text names) (map-append val_of (take n gs) fs ∙ ap (λ (vs : List Val). vs ++ map val_of fs) (map_front n gs))
+
+-- and those of constants
+pub constants_told : (names : List (List ℕ)) (n : ℕ) (gs : List Scalar) → texts constant_line names (drop n gs) ≡ texts constant_text names (drop n (map val_of gs))
+constants_told names n gs =
+    sym (texts_map constant_text val_of names (drop n gs)) ∙ ap (texts constant_text names) (map_behind n gs)
+
+pub constants_all : (names : List (List ℕ)) (gs : List Scalar) → texts constant_line names gs ≡ texts constant_text names (map val_of gs)
+constants_all names gs = sym (texts_map constant_text val_of names gs)

@@ -1,19 +1,24 @@
 -- How the code's entry values and places are read.
-use Rattle.std.specs.Prelude.{ℕ, List, [], ◌++◌, map, if◌then◌else◌}
+use Rattle.std.specs.Prelude.{◌≡◌, ℕ, List, [], ◌++◌, map, take, drop, length, slice_get, if◌then◌else◌}
 use Rattle.bg_ast.specs.declared.resolved.Declared.{Declared}
 use Rattle.std.specs.Borrow.{Bor}
 use Rattle.bg_ast.specs.Resolved.{Program}
-use Rattle.bg_ast.specs.Views.{declared_of}
+use Rattle.bg_ast.specs.Views.{declared_of, program_of}
 use Rattle.bg_rounds.specs.declared.keeper.Removal.{Removal}
 use Rattle.bg_houdini.specs.declared.reason.Reason.{Reason}
-use Rattle.bg_told.specs.History.{Gone, gone_of}
+use Rattle.bg_told.specs.History.{Gone, found_of}
+use Rattle.bg_places.specs.Placed.{Placed}
 use Rattle.bg_scalar.specs.declared.scalar.Scalar.{Scalar}
 use Rattle.bg_scalar.specs.Values.{val_of}
 use Rattle.bg_check.specs.declared.verdict.Judged.{Judged}
-use Rattle.bg_check.specs.Outcomes.{told_one}
+use Rattle.bg_check.specs.Outcomes.{told_one, told}
 use Rattle.bg_told.specs.declared.values.Values.{Values}
-use Rattle.bg_told.specs.Places.{variable_text, judged_text}
-use Rattle.bg_told.specs.Report.{name_in}
+use Rattle.bg_told.specs.declared.declared.Declarations.{Declarations}
+use Rattle.bg_inference.specs.declared.outcome.Outcome.{Outcome}
+use Rattle.bg_inference.specs.Outcomes.{judged_program}
+use Rattle.bg_sound.specs.Told as t
+use Rattle.bg_told.specs.Places.{Names, constant_text, variable_text, judged_text}
+use Rattle.bg_told.specs.Sheets.{Head, Sheet, head_of, name_in, names_of}
 use Rattle.bg_told.specs.Views.{why_of}
 use Rattle.bg_told.specs.Words.{is_ordinary}
 
@@ -28,10 +33,62 @@ names_in ds = map name_in (map declared_of ds)
 abbrev pub entry_text : List ℕ → Scalar → List ℕ
 entry_text name x = variable_text name (val_of x)
 
+-- the line of a constant with this scalar
+abbrev pub constant_line : List ℕ → Scalar → List ℕ
+constant_line name x = constant_text name (val_of x)
+
+-- the names of a counterexample
+abbrev pub names_for : Declarations → Head → Names
+names_for ds h = names_of (map declared_of ds.constants.now) (map declared_of ds.globals.now) h
+
+-- a verdict in which the values behind those of so many globals are the constants'
+abbrev pub split_verdict : ℕ → t.Verdict → t.Verdict
+split_verdict n t.Proved = t.Proved
+split_verdict n (t.Refuted i s choices) =
+    t.Refuted (record { constants = drop n s.globals; tables = [] }) (record { globals = take n s.globals; frame = s.frame }) choices
+split_verdict n (t.Unknown why) = t.Unknown why
+
+abbrev pub split_one : ℕ → t.Judged → t.Judged
+split_one n j = record { placed = j.placed; verdict = split_verdict n j.verdict }
+
+-- of the ordinary places
+abbrev pub split_all : ℕ → List Judged → List t.Judged
+split_all n js = map (split_one n) (told why_of js)
+
 -- the lines of a place: none where it isn't ordinary
-abbrev pub shown_text : List (List ℕ) → Judged → List ℕ
-shown_text names j = if is_ordinary j.place then judged_text names (told_one why_of j) else []
+abbrev pub shown_text : Names → ℕ → Judged → List ℕ
+shown_text names n j = if is_ordinary j.place then judged_text names (split_one n (told_one why_of j)) else []
+
+-- ---- by the opened program
+
+-- what is said of the program whose globals are the first so many of the opened one's
+abbrev pub sheet_told : ℕ → Program → Sheet
+sheet_told n q =
+    record {
+      candidates = q.candidates;
+      constants = drop n q.globals;
+      globals = take n q.globals;
+      implementations = map head_of q.implementations;
+    }
+
+abbrev pub sheet_in : Outcome → Sheet
+sheet_in o = sheet_told o.globals (program_of o.opened)
+
+-- the outcome is one of this program
+abbrev pub IsOf : Program → Outcome → Type 0
+IsOf p o = (program_of o.opened ≡ judged_program p) × (o.globals ≡ length p.globals)
+
+-- an entry by the places that have a candidate
+abbrev pub gone_by : List Placed → ℕ → Removal Reason → Gone
+gone_by guarded n d =
+    record {
+      number = d.number;
+      candidate = d.cand.0;
+      placed = slice_get guarded d.target.0;
+      snapshot = d.snapshot;
+      found = split_verdict n (found_of why_of d.told);
+    }
 
 -- the entry that is referred to
-abbrev pub told_gone : Program → Bor (Removal Reason) → Gone
-told_gone p d = gone_of why_of p d.now
+abbrev pub told_gone : List Placed → ℕ → Bor (Removal Reason) → Gone
+told_gone guarded n d = gone_by guarded n d.now

@@ -3,7 +3,8 @@ use Rattle.std.specs.Prelude.{◌≡◌, ℕ, Bool, if◌then◌else◌, List, [
 use Rattle.std.specs.List.Sorted.{IsPermutation, IsNonDecreasingBy}
 use Rattle.std.specs.Fmt.{decimal}
 use Rattle.bg_text.specs.Trees.{Id}
-use Rattle.bg_ast.specs.Resolved.{Impl, Program}
+use Rattle.bg_ast.specs.Resolved.{Declared, Program}
+use Rattle.bg_ast.specs.Meaning.{meaning_of}
 use Rattle.bg_places.specs.Placed.{Placed, placed}
 use Rattle.bg_rounds.specs.declared.keeper.Removal.{Removal}
 use Rattle.bg_sound.specs.Told.{Why, Verdict, Proved, Refuted, Unknown}
@@ -12,13 +13,15 @@ use Rattle.bg_check.specs.declared.verdict.Verdict.TheVariants as verdict
 use Rattle.bg_check.specs.Outcomes.{verdict_of}
 use Rattle.bg_houdini.specs.declared.reason.Reason.{Reason}
 use Rattle.bg_houdini.specs.declared.reason.Reason.TheVariants as reason
-use Rattle.bg_houdini.specs.declared.outcome.Outcome.{Outcome}
+use Rattle.bg_inference.specs.declared.outcome.Outcome.{Outcome}
+use Rattle.bg_opened.specs.Axioms.{of_axioms}
+use Rattle.bg_carried.specs.Carried.{carried_verdict}
 use Rattle.bg_told.specs.Kept.{why_text, kept_line}
 use Rattle.bg_told.specs.Lines.{texts}
 use Rattle.bg_lines.specs.Lines.{line, position_text}
-use Rattle.bg_told.specs.Places.{counterexample_text}
+use Rattle.bg_told.specs.Places.{Names, constant_text, counterexample_text}
 use Rattle.bg_lines.specs.Places.{place_text}
-use Rattle.bg_told.specs.Report.{names_of}
+use Rattle.bg_told.specs.Sheets.{Head, Sheet, sheet_of, name_in, names_of}
 
 -- an entry as it is told: its number, the candidate that went, the place that isn't proved, the candidates that its check had, and what
 -- was found there
@@ -52,7 +55,7 @@ gone_of words p d =
       candidate = d.cand.0;
       placed = slice_get (guarded p) d.target.0;
       snapshot = d.snapshot;
-      found = found_of words d.told;
+      found = carried_verdict (meaning_of p) (found_of words d.told);
     }
 
 -- ---- the text
@@ -73,44 +76,54 @@ found_text (Refuted i s choices) = codes "refuted"
 found_text (Unknown why) = codes "unknown " ++ why_text why
 
 -- how the place fails, or what is kept of the cause
-abbrev pub shown_text : List (List ℕ) → Verdict → List ℕ
+abbrev pub shown_text : Names → Verdict → List ℕ
 shown_text names Proved = []
-shown_text names (Refuted i s choices) = counterexample_text names (s.globals ++ s.frame) choices
+shown_text names (Refuted i s choices) = counterexample_text names i.constants (s.globals ++ s.frame) choices
 shown_text names (Unknown why) = kept_line why
 
 -- the number of an entry, its candidate, and the implementation
-abbrev pub front_text : List Id → Impl → ℕ → ℕ → List ℕ
+abbrev pub front_text : List Id → Head → ℕ → ℕ → List ℕ
 front_text names m number candidate =
     codes "drop " ++ decimal number ++ codes " " ++ name_text (slice_get names candidate) ++ codes " in " ++ m.name.text ++ codes " " ++ position_text m.pos
 
 -- the line of an entry at this place of this implementation
-abbrev pub gone_line : List Id → Impl → Placed → ℕ → ℕ → Verdict → List ℕ
+abbrev pub gone_line : List Id → Head → Placed → ℕ → ℕ → Verdict → List ℕ
 gone_line names m a number candidate found =
     line (front_text names m number candidate ++ codes " at " ++ place_text a ++ codes ": " ++ found_text found)
 
 abbrev pub snapshot_line : List Id → List Bool → List ℕ
 snapshot_line names snapshot = line (codes "  snapshot" ++ texts member_text names snapshot)
 
-abbrev pub gone_in : Program → Gone → Placed → Option Impl → List ℕ
-gone_in p g a None = []
-gone_in p g a (Some m) = gone_line p.candidates m a g.number g.candidate g.found ++ (snapshot_line p.candidates g.snapshot ++ shown_text (names_of p.globals m) g.found)
+abbrev pub gone_in : Sheet → Gone → Placed → Option Head → List ℕ
+gone_in s g a None = []
+gone_in s g a (Some h) = gone_line s.candidates h a g.number g.candidate g.found ++ (snapshot_line s.candidates g.snapshot ++ shown_text (names_of s.constants s.globals h) g.found)
 
-abbrev pub gone_at : Program → Gone → Option Placed → List ℕ
-gone_at p g None = []
-gone_at p g (Some a) = gone_in p g a (slice_get p.implementations a.place.implementation)
+abbrev pub gone_at : Sheet → Gone → Option Placed → List ℕ
+gone_at s g None = []
+gone_at s g (Some a) = gone_in s g a (slice_get s.implementations a.place.implementation)
 
 -- an entry: what went where and why, the candidates of its snapshot by declaration, and how the place fails or what is kept; nothing
 -- where there is no such place
-abbrev pub gone_text : Program → Gone → List ℕ
-gone_text p g = gone_at p g g.placed
+abbrev pub gone_text : Sheet → Gone → List ℕ
+gone_text s g = gone_at s g g.placed
 
--- the entries, in this order; there are no constants and functions that an interpretation has
-abbrev pub history_text : Program → List Gone → List ℕ
-history_text p gs = line (codes "history:") ++ (flat_map (gone_text p) gs ++ line (codes "interpretation:"))
+-- the values of the constants under an interpretation that meets the axioms, where one was found
+abbrev pub interpretation_text : List Declared → Verdict → List ℕ
+interpretation_text constants Proved = []
+interpretation_text constants (Refuted i s choices) = line (codes "interpretation:") ++ texts constant_text (map name_in constants) i.constants
+interpretation_text constants (Unknown why) = []
 
--- the text is that of the removals of the outcome, each once, by number
+-- the entries, in this order, and behind them the interpretation by the verdict on the axioms' own program
+abbrev pub history_text : Sheet → Verdict → List Gone → List ℕ
+history_text s axioms gs = line (codes "history:") ++ (flat_map (gone_text s) gs ++ interpretation_text s.constants axioms)
+
+-- what is known of the axioms' own program
+abbrev pub axioms_found : (Cause → Why) → Program → Outcome → Verdict
+axioms_found words p o = carried_verdict (of_axioms (meaning_of p)) (verdict_of words o.axioms)
+
+-- the text is that of the removals of the outcome, each once, by number, and of the interpretation
 pub record IsHistory (words : Cause → Why) (p : Program) (o : Outcome) (text : List ℕ) : Type 0 where
   pub entries : List Gone
-  pub same : IsPermutation (map (gone_of words p) o.inferred.removals.items) entries
+  pub same : IsPermutation (map (gone_of words p) o.judged.inferred.removals.items) entries
   pub rising : IsNonDecreasingBy number_of entries
-  pub is : text ≡ history_text p entries
+  pub is : text ≡ history_text (sheet_of p) (axioms_found words p o) entries

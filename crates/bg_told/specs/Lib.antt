@@ -1,6 +1,7 @@
 pub mod Lines
 pub mod Kept
 pub mod Places
+pub mod Sheets
 pub mod Report
 pub mod Settled
 pub mod Views

@@ -14,6 +14,10 @@ use Rattle.bg_lines.specs.Places.{place_text}
 abbrev pub told_text : Word → Placed → List ℕ
 told_text word a = codes "  " ++ word_text word ++ codes " " ++ place_text a
 
+-- the value of a constant
+abbrev pub constant_text : List ℕ → Val → List ℕ
+constant_text name value = line (codes "    const " ++ name ++ codes " = " ++ value_text value)
+
 -- the entry value of a variable
 abbrev pub variable_text : List ℕ → Val → List ℕ
 variable_text name value = line (codes "    var " ++ name ++ codes " = " ++ value_text value)
@@ -26,23 +30,30 @@ chosen_text (Chosen value) = value_text value
 abbrev pub choice_text : Choice → List ℕ
 choice_text c = line (codes "    choice " ++ chosen_text c)
 
--- the entry values of the variables with these names, and the choices in order
-abbrev pub counterexample_text : List (List ℕ) → List Val → List Choice → List ℕ
-counterexample_text names values choices = texts variable_text names values ++ flat_map choice_text choices
+-- the names of what has a value in a counterexample
+pub record Names : Type 0 where
+  pub constants : List (List ℕ)
+  pub variables : List (List ℕ)
+
+-- the values of the constants, the entry values of the variables, and the choices in order
+abbrev pub counterexample_text : Names → List Val → List Val → List Choice → List ℕ
+counterexample_text names constants values choices =
+    texts constant_text names.constants constants ++ (texts variable_text names.variables values ++ flat_map choice_text choices)
 
 -- a refuted place, and how it fails
-abbrev pub refuted_text : List (List ℕ) → Placed → List Val → List Choice → List ℕ
-refuted_text names a values choices = line (told_text SomeRefuted a) ++ counterexample_text names values choices
+abbrev pub refuted_text : Names → Placed → List Val → List Val → List Choice → List ℕ
+refuted_text names a constants values choices = line (told_text SomeRefuted a) ++ counterexample_text names constants values choices
 
 -- an unknown place, with its cause
 abbrev pub unknown_text : Placed → Why → List ℕ
 unknown_text a why = told_text SomeUnknown a ++ cause_text why
 
--- what is told of a place: nothing where it is proved; of a counterexample the values of the globals, then those of the frame
-abbrev pub verdict_text : List (List ℕ) → Placed → Verdict → List ℕ
+-- what is told of a place: nothing where it is proved; of a counterexample the values of the constants, those of the globals, then those
+-- of the frame
+abbrev pub verdict_text : Names → Placed → Verdict → List ℕ
 verdict_text names a Proved = []
-verdict_text names a (Refuted i s choices) = refuted_text names a (s.globals ++ s.frame) choices
+verdict_text names a (Refuted i s choices) = refuted_text names a i.constants (s.globals ++ s.frame) choices
 verdict_text names a (Unknown why) = unknown_text a why
 
-abbrev pub judged_text : List (List ℕ) → Judged → List ℕ
+abbrev pub judged_text : Names → Judged → List ℕ
 judged_text names j = verdict_text names j.placed j.verdict

@@ -2,12 +2,13 @@
 use Rattle.std.specs.Prelude.{ℕ, Bool, true, false, not, List, ◌++◌, codes, count_by, flat_map, map}
 use Rattle.std.specs.Fmt.{decimal}
 use Rattle.bg_text.specs.Trees.{Id}
-use Rattle.bg_ast.specs.Resolved.{Declared, Impl, Program}
+use Rattle.bg_ast.specs.Resolved.{Declared, Program}
 use Rattle.bg_sound.specs.Told.{Axioms, Consistent, Contradictory, Undecided, Fate, Retained, Unchecked, Dropped, DroppedFor, Judged, Outcome, is_kept_by, Word, AllProved, SomeRefuted, SomeUnknown, word_of}
 use Rattle.bg_told.specs.Kept.{why_text}
 use Rattle.bg_told.specs.Lines.{texts, word_text}
 use Rattle.bg_lines.specs.Lines.{line, position_text}
 use Rattle.bg_told.specs.Places.{judged_text}
+use Rattle.bg_told.specs.Sheets.{Head, Sheet, sheet_of, names_of}
 
 abbrev pub axioms_text : Axioms → List ℕ
 axioms_text Consistent = codes "consistent"
@@ -36,19 +37,12 @@ set_line is_greatest = line (codes "retained set: " ++ set_text is_greatest)
 
 -- ---- implementations
 
-abbrev pub name_in : Declared → List ℕ
-name_in d = d.name.text
-
--- the names of the variables that have entry values: globals, parameters, results and locals
-abbrev pub names_of : List Declared → Impl → List (List ℕ)
-names_of globals m = map name_in globals ++ (map name_in m.params ++ (map name_in m.results ++ map name_in m.locals))
-
-abbrev pub head_text : Impl → Word → List ℕ
-head_text m word = line (codes "implementation " ++ m.name.text ++ codes " " ++ position_text m.pos ++ codes " " ++ word_text word)
+abbrev pub head_text : Head → Word → List ℕ
+head_text h word = line (codes "implementation " ++ h.name.text ++ codes " " ++ position_text h.pos ++ codes " " ++ word_text word)
 
 -- an implementation, and its places that aren't proved
-abbrev pub implementation_text : List Declared → Impl → List Judged → List ℕ
-implementation_text globals m js = head_text m (word_of js) ++ flat_map (judged_text (names_of globals m)) js
+abbrev pub implementation_text : List Declared → List Declared → Head → List Judged → List ℕ
+implementation_text constants globals h js = head_text h (word_of js) ++ flat_map (judged_text (names_of constants globals h)) js
 
 -- ---- the whole
 
@@ -72,13 +66,16 @@ summary_text o =
     line (codes "summary: " ++ fates_text o.fates ++ count_text AllProved o.implementations ++ codes ", " ++ count_text SomeRefuted o.implementations ++ codes ", " ++ count_text SomeUnknown o.implementations)
 
 -- what is told of a program: its axioms, its candidates, its implementations, and how many there are of each word
-abbrev pub result_text : Program → Outcome → List ℕ
-result_text p o =
+abbrev pub report_text : Sheet → Outcome → List ℕ
+report_text s o =
     line (codes "axioms: " ++ axioms_text o.axioms)
-    ++ texts candidate_text p.candidates o.fates
+    ++ texts candidate_text s.candidates o.fates
     ++ set_line o.is_greatest
-    ++ texts (implementation_text p.globals) p.implementations o.implementations
+    ++ texts (implementation_text s.constants s.globals) s.implementations o.implementations
     ++ summary_text o
+
+abbrev pub result_text : Program → Outcome → List ℕ
+result_text p = report_text (sheet_of p)
 
 -- ---- a part of it, of a program that is made
 

@@ -1,12 +1,12 @@
 -- What reports in which nothing is unknown have in common.
-use Rattle.std.specs.Prelude.{ℕ, Bool, ◌&&◌, List, [], map}
+use Rattle.std.specs.Prelude.{ℕ, Bool, not, ◌&&◌, List, [], map}
 use Rattle.bg_ast.specs.Resolved.{Program}
-use Rattle.bg_sound.specs.Told.{Verdict, Proved, Refuted, Unknown, Judged, Outcome, are_settled}
+use Rattle.bg_sound.specs.Told.{Verdict, Proved, Refuted, Unknown, Judged, Outcome, is_undecided, are_settled}
 use Rattle.bg_told.specs.Report.{result_text}
 
--- nothing is unknown: no candidate was dropped for a cause, and each place is proved or refuted
+-- nothing is unknown: the axioms are consistent or contradictory, no candidate was dropped for a cause, and each place is proved or refuted
 abbrev pub is_settled : Outcome → Bool
-is_settled o = o.is_greatest && are_settled o.implementations
+is_settled o = not (is_undecided o.axioms) && (o.is_greatest && are_settled o.implementations)
 
 -- of a counterexample it is told only that there is one: no values and no choices
 abbrev pub bare_verdict : Verdict → Verdict

@@ -40,6 +40,13 @@ word_of js = if has Refuted js then Refuted else (if has Unknown js then Unknown
 abbrev pub word_for : List (List Judged) → Word
 word_for outcome = if list_any (has Refuted) outcome then Refuted else (if list_any (has Unknown) outcome then Unknown else Verified)
 
+-- the word of a program by the verdict on its axioms' own program, and the word of its places
+abbrev pub with_axioms : Verdict → Word → Word
+with_axioms (verdict.Proved nodes) w = Refuted
+with_axioms (verdict.Refuted cex) w = w
+with_axioms (verdict.Unknown why) Refuted = Refuted
+with_axioms (verdict.Unknown why) w = Unknown
+
 -- how many implementations have the word
 abbrev pub count_of : Word → List (List Judged) → ℕ
 count_of word outcome = count_by (λ js. is_word word (word_of js)) outcome

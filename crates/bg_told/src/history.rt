@@ -1,22 +1,28 @@
 //! The history: why each candidate went.
-ghost use Rattle.std.specs.Prelude.{◌≡◌, ◌++◌, ◌∷◌, [], Some, OnOk, IfOk, map, flat_map, filter, slice_get};
+ghost use Rattle.std.specs.Prelude.{◌≡◌, ◌++◌, ◌∷◌, [], List, Some, OnOk, IfOk, length, map, flat_map, filter, slice_get};
 ghost use Rattle.std.specs.List.Sorted.{IsPermutation, IsNonDecreasingBy};
 ghost use Rattle.bg_text.specs.Views.{id_of};
+ghost use Rattle.bg_ast.specs.Resolved.{Program};
 ghost use Rattle.bg_ast.specs.Views.{declared_of, impl_of, program_of};
+ghost use Rattle.bg_check.specs.Outcomes.{verdict_of};
+ghost use Rattle.bg_places.specs.Placed.{Placed};
 ghost use Rattle.bg_places.specs.Views.{placed_of, placed_in};
 ghost use Rattle.bg_told.specs.Lines.{texts};
-ghost use Rattle.bg_told.specs.Report.{names_of};
+ghost use Rattle.bg_told.specs.Sheets.{head_of};
 ghost use Rattle.bg_told.specs.Views.{why_of};
-ghost use Rattle.bg_told.specs.Entries.{told_gone};
+ghost use Rattle.bg_told.specs.Entries.{names_for, names_in, constant_line, split_verdict, gone_by, told_gone, sheet_in, IsOf};
 ghost use Rattle.bg_sound.specs.Told.{Unknown};
-ghost use Rattle.bg_told.specs.History.{has_candidate, guarded, found_of, gone_of, name_text, member_text, found_text, shown_text, front_text, gone_line, snapshot_line, gone_in, gone_at, gone_text, IsHistory};
+ghost use Rattle.bg_told.specs.History.{has_candidate, guarded, found_of, gone_of, name_text, member_text, found_text, shown_text, front_text, gone_line, snapshot_line, gone_in, gone_at, gone_text, interpretation_text, IsHistory};
 
+use crate::declared::{Declarations, declared_in};
 use crate::kept::{put_cause_word, put_kept_line};
 use crate::places::put_counterexample;
-use bg_ast::resolved::{Declared, Implementation, Resolved};
+use crate::values::put_constants;
+use bg_ast::resolved::{Implementation, Resolved};
 use bg_base::CandId;
-use bg_check::Cause;
-use bg_houdini::{Outcome, Reason};
+use bg_check::{Cause, Verdict};
+use bg_houdini::Reason;
+use bg_inference::Outcome;
 use bg_lines::{put_number, put_place, put_position};
 use bg_places::{Place, places};
 use bg_rounds::Removal;
@@ -111,14 +117,14 @@ fn put_found(out: &mut Vec<u8>, told: &Reason) -> Result<(), AllocError>
 /// How a place fails, or what is kept of the cause.
 fn put_shown(
     out: &mut Vec<u8>,
-    globals: &[Declared],
+    declared: Declarations<'_>,
     implementation: &Implementation,
     told: &Reason,
 ) -> Result<(), AllocError>
-    ensures { OnOk result (out.new.items ≡ out.old.items ++ shown_text (names_of (map declared_of globals.now) (impl_of implementation.now)) (found_of why_of told.now)) }
+    ensures { OnOk result (out.new.items ≡ out.old.items ++ shown_text (names_for declared.entry (head_of (impl_of implementation.now))) (split_verdict (length declared.entry.globals.now) (found_of why_of told.now))) }
 {
     match told {
-        Reason::Refuted(cex) => put_counterexample(out, globals, implementation, cex),
+        Reason::Refuted(cex) => put_counterexample(out, declared, implementation, cex),
         Reason::Unknown(cause) => put_kept_line(out, cause),
     }
 }
@@ -130,7 +136,7 @@ fn put_front(
     implementation: &Implementation,
     removal: &Removal<Reason>,
 ) -> Result<(), AllocError>
-    ensures { OnOk result (out.new.items ≡ out.old.items ++ front_text (map id_of names.now) (impl_of implementation.now) removal.now.number removal.now.cand.0) }
+    ensures { OnOk result (out.new.items ≡ out.old.items ++ front_text (map id_of names.now) (head_of (impl_of implementation.now)) removal.now.number removal.now.cand.0) }
 {
     out.extend_from_slice(b"drop ")?;
     put_number(out, removal.number as u128)?;
@@ -150,7 +156,7 @@ fn put_gone_line(
     place: &Place,
     removal: &Removal<Reason>,
 ) -> Result<(), AllocError>
-    ensures { OnOk result (out.new.items ≡ out.old.items ++ gone_line (map id_of names.now) (impl_of implementation.now) (placed_of place.now) removal.now.number removal.now.cand.0 (found_of why_of removal.now.told)) }
+    ensures { OnOk result (out.new.items ≡ out.old.items ++ gone_line (map id_of names.now) (head_of (impl_of implementation.now)) (placed_of place.now) removal.now.number removal.now.cand.0 (found_of why_of removal.now.told)) }
 {
     put_front(out, names, implementation, removal)?;
     out.extend_from_slice(b" at ")?;
@@ -196,82 +202,94 @@ fn put_snapshot(out: &mut Vec<u8>, names: &[Name], set: &CandSet) -> Result<(), 
 /// An entry at a place of this implementation.
 fn put_gone_of(
     out: &mut Vec<u8>,
-    program: &Resolved,
+    outcome: &Outcome,
     implementation: &Implementation,
     place: &Place,
     removal: &Removal<Reason>,
 ) -> Result<(), AllocError>
-    ensures { OnOk result (out.new.items ≡ out.old.items ++ gone_in (program_of program.now) (gone_of why_of (program_of program.now) removal.now) (placed_of place.now) (Some (impl_of implementation.now))) }
+    ensures { OnOk result ((guarded : List Placed) → out.new.items ≡ out.old.items ++ gone_in (sheet_in outcome.now) (gone_by guarded (length (sheet_in outcome.now).globals) removal.now) (placed_of place.now) (Some (head_of (impl_of implementation.now)))) }
 {
-    put_gone_line(out, &program.candidates, implementation, place, removal)?;
-    put_snapshot(out, &program.candidates, &removal.snapshot)?;
-    put_shown(out, &program.globals, implementation, &removal.told)?;
-    Ok(())
+    let names = outcome.opened.candidates.as_slice();
+    put_gone_line(out, names, implementation, place, removal)?;
+    put_snapshot(out, names, &removal.snapshot)?;
+    put_shown(out, declared_in(outcome), implementation, &removal.told)
 }
 
 /// An entry at a place.
 fn put_gone_at(
     out: &mut Vec<u8>,
-    program: &Resolved,
+    outcome: &Outcome,
     place: &Place,
     removal: &Removal<Reason>,
 ) -> Result<(), AllocError>
-    ensures { OnOk result (out.new.items ≡ out.old.items ++ gone_at (program_of program.now) (gone_of why_of (program_of program.now) removal.now) (Some (placed_of place.now))) }
+    ensures { OnOk result ((guarded : List Placed) → out.new.items ≡ out.old.items ++ gone_at (sheet_in outcome.now) (gone_by guarded (length (sheet_in outcome.now).globals) removal.now) (Some (placed_of place.now))) }
 {
-    match program.implementations.get(place.implementation) {
+    match outcome.opened.implementations.get(place.implementation) {
         None => Ok(()),
-        Some(implementation) => put_gone_of(out, program, implementation, place, removal),
+        Some(implementation) => put_gone_of(out, outcome, implementation, place, removal),
     }
 }
 
 /// An entry, where these are the places that have a candidate.
 fn put_gone(
     out: &mut Vec<u8>,
-    program: &Resolved,
+    outcome: &Outcome,
     tasks: &[Place],
     removal: &Removal<Reason>,
 ) -> Result<(), AllocError>
-    requires { placed_in tasks.now ≡ guarded (program_of program.now) }
-    ensures { OnOk result (out.new.items ≡ out.old.items ++ gone_text (program_of program.now) (gone_of why_of (program_of program.now) removal.now)) }
+    ensures { OnOk result (out.new.items ≡ out.old.items ++ gone_text (sheet_in outcome.now) (gone_by (placed_in tasks.now) (length (sheet_in outcome.now).globals) removal.now)) }
 {
     match tasks.get(removal.target.0 as usize) {
         None => Ok(()),
-        Some(place) => put_gone_at(out, program, place, removal),
+        Some(place) => put_gone_at(out, outcome, place, removal),
     }
 }
 
 /// The entries of these removals.
 fn put_all_gone(
     out: &mut Vec<u8>,
-    program: &Resolved,
+    outcome: &Outcome,
     tasks: &[Place],
     removals: &[&Removal<Reason>],
 ) -> Result<(), AllocError>
-    requires { placed_in tasks.now ≡ guarded (program_of program.now) }
-    ensures { OnOk result (out.new.items ≡ out.old.items ++ flat_map (gone_text (program_of program.now)) (map (told_gone (program_of program.now)) removals.now)) }
+    ensures { OnOk result (out.new.items ≡ out.old.items ++ flat_map (gone_text (sheet_in outcome.now)) (map (told_gone (placed_in tasks.now) (length (sheet_in outcome.now).globals)) removals.now)) }
 {
     for removal in removals {
-        put_gone(out, program, tasks, removal)?;
+        put_gone(out, outcome, tasks, removal)?;
     }
     Ok(())
 }
 
+/// The values of the constants under the interpretation that meets the axioms, where one was found.
+fn put_interpretation(
+    out: &mut Vec<u8>,
+    declared: Declarations<'_>,
+    axioms: &Verdict,
+) -> Result<(), AllocError>
+    ensures { OnOk result (out.new.items ≡ out.old.items ++ interpretation_text (map declared_of declared.entry.constants.now) (split_verdict 0 (verdict_of why_of axioms.now))) }
+{
+    match axioms {
+        Verdict::Refuted(cex) => {
+            out.extend_from_slice(b"interpretation:\n")?;
+            put_constants(out, declared.constants, &cex.globals)
+        }
+        _ => Ok(()),
+    }
+}
+
 /// The history of what an inference comes to: for each removal by number the candidate, the place, and what was found there; the
-/// candidates of its snapshot; and the entry values and choices with which the place fails, or what is kept of the cause.
+/// candidates of its snapshot; and the values and choices with which the place fails, or what is kept of the cause; last the values of
+/// constants under an interpretation that meets the axioms, where one was found.
 ///
 /// Only want of memory is an error.
-pub fn history_text(
-    alloc: Global,
-    program: &Resolved,
-    outcome: &Outcome,
-) -> Result<Vec<u8>, AllocError>
-    ensures { IfOk result (λ text. IsHistory why_of (program_of program.now) outcome.now text.items) }
+pub fn history_text(alloc: Global, outcome: &Outcome) -> Result<Vec<u8>, AllocError>
+    ensures { IfOk result (λ text. (p : Program) → IsOf p outcome.now → IsHistory why_of p outcome.now text.items) }
 {
-    let tasks = guarded(alloc, program)?;
-    let sorted = by_number(alloc, &outcome.inferred.removals)?;
+    let tasks = guarded(alloc, &outcome.opened)?;
+    let sorted = by_number(alloc, &outcome.judged.inferred.removals)?;
     let mut out = Vec::new(alloc);
     out.extend_from_slice(b"history:\n")?;
-    put_all_gone(&mut out, program, &tasks, &sorted)?;
-    out.extend_from_slice(b"interpretation:\n")?;
+    put_all_gone(&mut out, outcome, &tasks, &sorted)?;
+    put_interpretation(&mut out, declared_in(outcome), &outcome.axioms)?;
     Ok(out)
 }

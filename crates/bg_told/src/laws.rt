@@ -5,18 +5,19 @@ ghost use Rattle.std.specs.List.{list_all};
 ghost use Rattle.bg_ast.specs.Meaning.{meaning_of};
 ghost use Rattle.bg_ast.specs.Resolved.{Program};
 ghost use Rattle.bg_check.specs.declared.verdict.Cause.{Cause};
-ghost use Rattle.bg_fits.specs.Scalars.{is_over_scalars};
-ghost use Rattle.bg_houdini.specs.declared.outcome.Outcome as houdini;
-ghost use Rattle.bg_houdini.specs.Outcomes.{IsTrueOutcome};
-ghost use Rattle.bg_houdini.specs.Told.{outcome_of};
-ghost use Rattle.bg_sense.specs.Resolved.{IsResolved};
-ghost use Rattle.bg_sense.specs.Typed.{IsTyped};
+ghost use Rattle.bg_expanded.specs.Chains.{most_bodies};
+ghost use Rattle.bg_inference.specs.declared.outcome.Outcome as inference;
+ghost use Rattle.bg_inference.specs.Outcomes.{IsTrueOutcome};
+ghost use Rattle.bg_inference.specs.Told.{outcome_of};
+ghost use Rattle.bg_opened.specs.Openable.{IsOpenable};
 ghost use Rattle.bg_sound.specs.Told.{Why, Consistent, Judged, Outcome, retained, is_proved, word_of, AllProved, status_of};
 ghost use Rattle.bg_told.specs.Report.{result_text};
 ghost use Rattle.bg_told.specs.Settled.{is_settled, verdict_lines};
 ghost use Rattle.bg_tree.specs.declared.outcome.Budget.{Budget};
 
-use bg_houdini::laws::{outcomes_agree, true_outcomes_are_sound};
+use bg_houdini::laws::outcomes_agree;
+use bg_inference::laws::true_outcomes_are_sound;
+use bg_opened::laws::opened_programs_are_over_scalars;
 use bg_sound::laws::greatest_sets_agree;
 
 /// Equal reports of one program say the same word of each implementation.
@@ -46,11 +47,12 @@ pub fn verified_is_each_verified()
 /// The reports of two true outcomes of one program, in neither of which anything is unknown, are the same but for the lines of
 /// counterexamples, whatever the budgets, workers and schedules were.
 pub fn settled_reports_agree()
-    ensures { (budget other : Budget) (p : Program) (o q : houdini.Outcome) (words : Cause → Why) → IsTyped (meaning_of p) → is_over_scalars true (meaning_of p) ≡ true → IsResolved (meaning_of p) →
+    ensures { (budget other : Budget) (p : Program) (o q : inference.Outcome) (words : Cause → Why) → IsOpenable most_bodies (meaning_of p) →
         IsTrueOutcome budget p o → IsTrueOutcome other p q → is_settled (outcome_of words (meaning_of p) o) ≡ true → is_settled (outcome_of words (meaning_of p) q) ≡ true →
         verdict_lines p (outcome_of words (meaning_of p) o) ≡ verdict_lines p (outcome_of words (meaning_of p) q) }
 {
     greatest_sets_agree();
+    opened_programs_are_over_scalars();
     outcomes_agree();
     true_outcomes_are_sound()
 }

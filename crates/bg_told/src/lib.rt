@@ -3,6 +3,7 @@
 
 mod candidates;
 mod choices;
+mod declared;
 mod fates;
 mod history;
 mod kept;

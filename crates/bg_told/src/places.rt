@@ -1,40 +1,43 @@
 //! The ordinary places of an implementation that aren't proved.
-ghost use Rattle.std.specs.Prelude.{◌≡◌, ◌++◌, OnOk, map, flat_map};
-ghost use Rattle.bg_ast.specs.Views.{declared_of, impl_of};
+ghost use Rattle.std.specs.Prelude.{◌≡◌, ◌++◌, OnOk, map, take, drop, length, flat_map};
+ghost use Rattle.bg_ast.specs.Views.{impl_of};
 ghost use Rattle.bg_places.specs.Views.{placed_of};
 ghost use Rattle.bg_scalar.specs.Choices.{choice_of};
 ghost use Rattle.bg_scalar.specs.Values.{val_of};
 ghost use Rattle.bg_check.specs.Outcomes.{verdict_of};
 ghost use Rattle.bg_told.specs.Places.{counterexample_text, refuted_text, unknown_text, verdict_text};
-ghost use Rattle.bg_told.specs.Report.{names_of};
 ghost use Rattle.bg_told.specs.Views.{why_of};
-ghost use Rattle.bg_told.specs.Entries.{shown_text};
+ghost use Rattle.bg_told.specs.Sheets.{head_of};
+ghost use Rattle.bg_told.specs.Entries.{names_for, split_verdict, shown_text};
 
 use crate::choices::put_choices;
+use crate::declared::Declarations;
 use crate::kept::put_cause;
 use crate::place::put_told;
-use crate::values::{Values, put_entry};
+use crate::values::{Values, behind, front, put_constants, put_entry};
 use crate::word::{Word, is_ordinary};
-use bg_ast::resolved::{Declared, Implementation};
+use bg_ast::resolved::Implementation;
 use bg_check::{Cause, Judged, Verdict};
 use bg_model::Counterexample;
 use bg_places::Place;
 use std::alloc::AllocError;
 
-/// The entry values and the choices of a counterexample.
+/// The values of the constants, the entry values and the choices of a counterexample.
 pub fn put_counterexample(
     out: &mut Vec<u8>,
-    globals: &[Declared],
+    declared: Declarations<'_>,
     implementation: &Implementation,
     cex: &Counterexample,
 ) -> Result<(), AllocError>
-    ensures { OnOk result (out.new.items ≡ out.old.items ++ counterexample_text (names_of (map declared_of globals.now) (impl_of implementation.now)) (map val_of cex.now.globals.items ++ map val_of cex.now.frame.items) (map choice_of cex.now.choices.items)) }
+    ensures { OnOk result (out.new.items ≡ out.old.items ++ counterexample_text (names_for declared.entry (head_of (impl_of implementation.now))) (drop (length declared.entry.globals.now) (map val_of cex.now.globals.items)) (take (length declared.entry.globals.now) (map val_of cex.now.globals.items) ++ map val_of cex.now.frame.items) (map choice_of cex.now.choices.items)) }
 {
+    let count = declared.globals.len();
+    put_constants(out, declared.constants, behind(&cex.globals, count))?;
     let values = Values {
-        globals: &cex.globals,
+        globals: front(&cex.globals, count),
         frame: &cex.frame,
     };
-    put_entry(out, globals, implementation, values)?;
+    put_entry(out, declared.globals, implementation, values)?;
     put_choices(out, &cex.choices)?;
     Ok(())
 }
@@ -42,16 +45,16 @@ pub fn put_counterexample(
 /// A refuted place.
 fn put_refuted(
     out: &mut Vec<u8>,
-    globals: &[Declared],
+    declared: Declarations<'_>,
     implementation: &Implementation,
     place: &Place,
     cex: &Counterexample,
 ) -> Result<(), AllocError>
-    ensures { OnOk result (out.new.items ≡ out.old.items ++ refuted_text (names_of (map declared_of globals.now) (impl_of implementation.now)) (placed_of place.now) (map val_of cex.now.globals.items ++ map val_of cex.now.frame.items) (map choice_of cex.now.choices.items)) }
+    ensures { OnOk result (out.new.items ≡ out.old.items ++ refuted_text (names_for declared.entry (head_of (impl_of implementation.now))) (placed_of place.now) (drop (length declared.entry.globals.now) (map val_of cex.now.globals.items)) (take (length declared.entry.globals.now) (map val_of cex.now.globals.items) ++ map val_of cex.now.frame.items) (map choice_of cex.now.choices.items)) }
 {
     put_told(out, Word::Refuted, place)?;
     out.push(b'\n')?;
-    put_counterexample(out, globals, implementation, cex)
+    put_counterexample(out, declared, implementation, cex)
 }
 
 /// An unknown place.
@@ -64,16 +67,16 @@ fn put_unknown(out: &mut Vec<u8>, place: &Place, cause: &Cause) -> Result<(), Al
 
 fn put_verdict(
     out: &mut Vec<u8>,
-    globals: &[Declared],
+    declared: Declarations<'_>,
     implementation: &Implementation,
     place: &Place,
     verdict: &Verdict,
 ) -> Result<(), AllocError>
-    ensures { OnOk result (out.new.items ≡ out.old.items ++ verdict_text (names_of (map declared_of globals.now) (impl_of implementation.now)) (placed_of place.now) (verdict_of why_of verdict.now)) }
+    ensures { OnOk result (out.new.items ≡ out.old.items ++ verdict_text (names_for declared.entry (head_of (impl_of implementation.now))) (placed_of place.now) (split_verdict (length declared.entry.globals.now) (verdict_of why_of verdict.now))) }
 {
     match verdict {
         Verdict::Proved(_) => Ok(()),
-        Verdict::Refuted(cex) => put_refuted(out, globals, implementation, place, cex),
+        Verdict::Refuted(cex) => put_refuted(out, declared, implementation, place, cex),
         Verdict::Unknown(cause) => put_unknown(out, place, cause),
     }
 }
@@ -81,14 +84,14 @@ fn put_verdict(
 /// What is told of a place: nothing where it is proved or isn't ordinary.
 fn put_judged(
     out: &mut Vec<u8>,
-    globals: &[Declared],
+    declared: Declarations<'_>,
     implementation: &Implementation,
     of: &Judged,
 ) -> Result<(), AllocError>
-    ensures { OnOk result (out.new.items ≡ out.old.items ++ shown_text (names_of (map declared_of globals.now) (impl_of implementation.now)) of.now) }
+    ensures { OnOk result (out.new.items ≡ out.old.items ++ shown_text (names_for declared.entry (head_of (impl_of implementation.now))) (length declared.entry.globals.now) of.now) }
 {
     if is_ordinary(&of.place) {
-        put_verdict(out, globals, implementation, &of.place, &of.verdict)
+        put_verdict(out, declared, implementation, &of.place, &of.verdict)
     } else {
         Ok(())
     }
@@ -97,14 +100,14 @@ fn put_judged(
 /// The ordinary places of an implementation that aren't proved, in order.
 pub fn put_places(
     out: &mut Vec<u8>,
-    globals: &[Declared],
+    declared: Declarations<'_>,
     implementation: &Implementation,
     judged: &[Judged],
 ) -> Result<(), AllocError>
-    ensures { OnOk result (out.new.items ≡ out.old.items ++ flat_map (shown_text (names_of (map declared_of globals.now) (impl_of implementation.now))) judged.now) }
+    ensures { OnOk result (out.new.items ≡ out.old.items ++ flat_map (shown_text (names_for declared.entry (head_of (impl_of implementation.now))) (length declared.entry.globals.now)) judged.now) }
 {
     for of in judged {
-        put_judged(out, globals, implementation, of)?;
+        put_judged(out, declared, implementation, of)?;
     }
     Ok(())
 }

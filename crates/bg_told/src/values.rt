@@ -1,9 +1,9 @@
 //! The entry values of a counterexample.
-ghost use Rattle.std.specs.Prelude.{◌≡◌, ◌++◌, OnOk, [], map, drop, slice_get};
+ghost use Rattle.std.specs.Prelude.{◌≡◌, ◌++◌, OnOk, [], map, take, drop, slice_get};
 ghost use Rattle.bg_ast.specs.Views.{declared_of, impl_of};
 ghost use Rattle.bg_told.specs.Lines.{texts};
-ghost use Rattle.bg_told.specs.Report.{name_in, names_of};
-ghost use Rattle.bg_told.specs.Entries.{values_of, names_in, entry_text};
+ghost use Rattle.bg_told.specs.Sheets.{head_of, name_in, variables_of};
+ghost use Rattle.bg_told.specs.Entries.{values_of, names_in, entry_text, constant_line};
 
 use crate::put::put_scalar;
 use bg_ast::resolved::{Declared, Implementation};
@@ -33,10 +33,17 @@ fn value_at(values: Values<'_>, i: usize) -> Option<Scalar>
 }
 
 /// What is left of the items after the first `n`.
-fn behind(items: &[Scalar], n: usize) -> &[Scalar]
+pub fn behind(items: &[Scalar], n: usize) -> &[Scalar]
     ensures { result.now ≡ drop n items.now }
 {
     if n <= items.len() { &items[n..] } else { &[] }
+}
+
+/// The first `n` items, or all.
+pub fn front(items: &[Scalar], n: usize) -> &[Scalar]
+    ensures { result.now ≡ take n items.now }
+{
+    if n <= items.len() { &items[..n] } else { items }
 }
 
 /// What is left of the values after the first `n`.
@@ -85,6 +92,33 @@ fn put_values(
     Ok(())
 }
 
+fn put_constant(out: &mut Vec<u8>, constant: &Declared, value: Scalar) -> Result<(), AllocError>
+    ensures { OnOk result (out.new.items ≡ out.old.items ++ constant_line (name_in (declared_of constant.now)) value) }
+{
+    out.extend_from_slice(b"    const ")?;
+    out.extend_from_slice(&constant.name.text)?;
+    out.extend_from_slice(b" = ")?;
+    put_scalar(out, value)?;
+    out.extend_from_slice(b"\n")
+}
+
+/// The values of these constants.
+pub fn put_constants(
+    out: &mut Vec<u8>,
+    constants: &[Declared],
+    values: &[Scalar],
+) -> Result<(), AllocError>
+    ensures { OnOk result (out.new.items ≡ out.old.items ++ texts constant_line (names_in constants.now) values.now) }
+{
+    for (i, constant) in constants.iter().enumerate() {
+        if i >= values.len() {
+            return Ok(());
+        }
+        put_constant(out, constant, values[i])?;
+    }
+    Ok(())
+}
+
 /// The entry values of three groups of variables.
 fn put_groups(
     out: &mut Vec<u8>,
@@ -108,7 +142,7 @@ fn put_frame(
     implementation: &Implementation,
     values: Values<'_>,
 ) -> Result<(), AllocError>
-    ensures { OnOk result (out.new.items ≡ out.old.items ++ texts entry_text (names_of [] (impl_of implementation.now)) (values_of values.entry)) }
+    ensures { OnOk result (out.new.items ≡ out.old.items ++ texts entry_text (variables_of [] (head_of (impl_of implementation.now))) (values_of values.entry)) }
 {
     put_groups(
         out,
@@ -126,7 +160,7 @@ pub fn put_entry(
     implementation: &Implementation,
     values: Values<'_>,
 ) -> Result<(), AllocError>
-    ensures { OnOk result (out.new.items ≡ out.old.items ++ texts entry_text (names_of (map declared_of globals.now) (impl_of implementation.now)) (values_of values.entry)) }
+    ensures { OnOk result (out.new.items ≡ out.old.items ++ texts entry_text (variables_of (map declared_of globals.now) (head_of (impl_of implementation.now))) (values_of values.entry)) }
 {
     put_values(out, globals, values)?;
     put_frame(out, implementation, rest_of(values, globals.len()))?;

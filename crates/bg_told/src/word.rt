@@ -4,12 +4,12 @@ ghost use Rattle.std.specs.List.{list_any};
 ghost use Rattle.bg_sound.specs.Told.{status_of};
 ghost use Rattle.bg_check.specs.Verdicts.{judged};
 ghost use Rattle.bg_ast.specs.Syntax.{Prog};
-ghost use Rattle.bg_houdini.specs.Told.{outcome_of};
+ghost use Rattle.bg_inference.specs.Told.{outcome_of};
 ghost use Rattle.bg_told.specs.Views.{why_of, status_in};
-ghost use Rattle.bg_told.specs.Words.{is_ordinary, word_in, has_word, has, word_of, word_for, count_of};
+ghost use Rattle.bg_told.specs.Words.{is_ordinary, word_in, has_word, has, word_of, word_for, with_axioms, count_of};
 
 use bg_check::{Judged, Verdict};
-use bg_houdini::Outcome;
+use bg_inference::Outcome;
 use bg_places::Place;
 
 /// What a report says of an implementation.
@@ -96,12 +96,26 @@ fn program_word(outcome: &[Vec<Judged>]) -> Word
     }
 }
 
-/// The word of a program, where an inference comes to this: refuted where some ordinary place is refuted, else unknown where one is
-/// unknown, else verified. It gives the status of what is told.
+/// The word of a program of whose axioms this is known, and whose implementations have this word.
+fn with_axioms(axioms: &Verdict, word: Word) -> Word
+    ensures { result ≡ with_axioms axioms.now word }
+{
+    match axioms {
+        Verdict::Proved(_) => Word::Refuted,
+        Verdict::Refuted(_) => word,
+        Verdict::Unknown(_) => match word {
+            Word::Refuted => Word::Refuted,
+            _ => Word::Unknown,
+        },
+    }
+}
+
+/// The word of a program, where an inference comes to this: refuted where the axioms are contradictory or some ordinary place is refuted,
+/// else unknown where the axioms or a place are unknown, else verified. It gives the status of what is told.
 pub fn word_of(outcome: &Outcome) -> Word
     ensures { (p : Prog) → status_in result ≡ status_of (outcome_of why_of p outcome.now) }
 {
-    program_word(&outcome.verdicts)
+    with_axioms(&outcome.axioms, program_word(&outcome.judged.verdicts))
 }
 
 /// How many implementations have the word.

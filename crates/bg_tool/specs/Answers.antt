@@ -6,9 +6,9 @@ use Rattle.bg_ast.specs.Meaning.{meaning_of}
 use Rattle.bg_text.specs.Trees.{Decl}
 use Rattle.bg_front.specs.Programs.{IsProgramOf, IsProgramFrom, IsRefusedBy}
 use Rattle.bg_front.specs.Refusals.{Refusal}
-use Rattle.bg_houdini.specs.declared.outcome.Outcome as houdini
-use Rattle.bg_houdini.specs.Outcomes.{IsTrueOutcome}
-use Rattle.bg_houdini.specs.Told.{outcome_of}
+use Rattle.bg_inference.specs.declared.outcome.Outcome as inference
+use Rattle.bg_inference.specs.Outcomes.{IsTrueOutcome}
+use Rattle.bg_inference.specs.Told.{outcome_of}
 use Rattle.bg_keep.specs.Annotated.{annotated}
 use Rattle.bg_print.specs.Printed.{printed}
 use Rattle.bg_sound.specs.Sound.{IsSound}
@@ -25,7 +25,7 @@ use Rattle.bg_ends.specs.Wrote.{MayWrite}
 use Rattle.bg_cli.specs.Cli.{IsTaken, files_in, cert_in, nodes_in, most_rows_in, guess_in, history_in, job_in, seed_in, size_in}
 use Rattle.bg_cli.specs.declared.job.Job.{Job}
 use Rattle.bg_cli.specs.declared.job.Job.TheVariants as job
-use Rattle.bg_accept.specs.Accepted.{IsAccepted}
+use Rattle.bg_confirm.specs.Accepted.{IsAccepted}
 use Rattle.bg_certify.specs.Written.{IsCertText}
 use Rattle.bg_gen.specs.Generated.{generated}
 use Rattle.bg_recheck.specs.Rechecks.{Rechecks}
@@ -58,17 +58,25 @@ asked_in words =
 abbrev pub AreSome : ℕ → Type 0
 AreSome workers = (0 < workers) × (workers ≤ 16)
 
--- what is told of a program is accounted for: it is told of an outcome that is true of the program. There each dropped candidate has an
--- entry in an ordered history, with a run that fails under the entry's snapshot or a cause within the budget; each place of a retained
--- one a certificate under what is retained; and each ordinary place a right verdict under it: a certificate where it says proved, a
--- counterexample where it says refuted, and where it says unknown a cause within the budget, whose words it has
+-- what is told of a program is accounted for: it is told of an outcome that is true of the program. There the axioms have a right verdict
+-- of their own: values of the constants that meet them, a certificate that none do, or a cause within the budget; each dropped candidate
+-- has an entry in an ordered history, with a run that fails under the entry's snapshot or a cause within the budget; each place of a
+-- retained one a certificate under what is retained; and each ordinary place a right verdict under it: a certificate where it says proved,
+-- a counterexample where it says refuted, and where it says unknown a cause within the budget, whose words it has
 pub record IsAccounted (budget : Budget) (p : Program) (o : Outcome) : Type 0 where
-  pub inferred : houdini.Outcome
+  pub inferred : inference.Outcome
   pub right : IsTrueOutcome budget p inferred
   pub told : o ≡ outcome_of why_of (meaning_of p) inferred
 
+-- the outcome is true of the program that the bytes spell, with its guesses where these are asked for, and what is told of it is true too
+pub record IsOutcomeOn (asked : Asked) (bytes : List ℕ) (o : inference.Outcome) : Type 0 where
+  pub program : Program
+  pub spelled : IsProgramOf asked.guess bytes program
+  pub right : IsTrueOutcome asked.budget program o
+  pub sound : IsSound program (outcome_of why_of (meaning_of program) o)
+
 -- the report of an outcome, and behind it its history where this is asked for, else nothing
-pub record IsTextFor (history : Bool) (p : Program) (o : houdini.Outcome) (text : List ℕ) : Type 0 where
+pub record IsTextFor (history : Bool) (p : Program) (o : inference.Outcome) (text : List ℕ) : Type 0 where
   pub behind : List ℕ
   pub is : text ≡ result_text p (outcome_of why_of (meaning_of p) o) ++ behind
   pub none : history ≡ false → behind ≡ []
@@ -88,10 +96,10 @@ pub record IsAnnotation (asked : Asked) (bytes : List ℕ) (ends : Status) (text
   pub decls : List Decl
   pub program : Program
   pub spelled : IsProgramFrom asked.guess bytes decls program
-  pub inferred : houdini.Outcome
+  pub inferred : inference.Outcome
   pub right : IsTrueOutcome asked.budget program inferred
   pub sound : IsSound program (outcome_of why_of (meaning_of program) inferred)
-  pub is : text ≡ printed (annotated asked.guess inferred.inferred.retained decls)
+  pub is : text ≡ printed (annotated asked.guess inferred.judged.inferred.retained decls)
   pub gives : number_of ends ≡ status_of (outcome_of why_of (meaning_of program) inferred)
 
 -- the text is that of a certificate of the program that the bytes spell, for an outcome that is true of the program; what is told of this
@@ -99,7 +107,7 @@ pub record IsAnnotation (asked : Asked) (bytes : List ℕ) (ends : Status) (text
 pub record IsCertification (asked : Asked) (bytes : List ℕ) (ends : Status) (text : List ℕ) : Type 0 where
   pub program : Program
   pub spelled : IsProgramOf asked.guess bytes program
-  pub inferred : houdini.Outcome
+  pub inferred : inference.Outcome
   pub right : IsTrueOutcome asked.budget program inferred
   pub sound : IsSound program (outcome_of why_of (meaning_of program) inferred)
   pub told : IsCertText program inferred text
@@ -111,7 +119,7 @@ pub record IsCertification (asked : Asked) (bytes : List ℕ) (ends : Status) (t
 pub record IsBenched (asked : Asked) (bytes : List ℕ) (ends : Status) (text : List ℕ) : Type 0 where
   pub program : Program
   pub spelled : IsProgramOf asked.guess bytes program
-  pub inferred : houdini.Outcome
+  pub inferred : inference.Outcome
   pub right : IsTrueOutcome asked.budget program inferred
   pub sound : IsSound program (outcome_of why_of (meaning_of program) inferred)
   pub is : text ≡ bench_text asked.seed asked.size (outcome_of why_of (meaning_of program) inferred)

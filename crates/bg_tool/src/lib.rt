@@ -8,6 +8,7 @@ mod judge;
 mod load;
 mod made;
 mod manner;
+mod outcome;
 mod report;
 mod reports;
 

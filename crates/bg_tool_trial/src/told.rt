@@ -4,7 +4,7 @@ use bg_base::{CandId, Op, OutOfRange, Pos, TargetId};
 use bg_cert::{Cert, bare};
 use bg_check::{Cause, Judged, Verdict};
 use bg_elim::{Further, Order, Reason};
-use bg_houdini::Outcome;
+use bg_inference::Outcome;
 use bg_model::Counterexample;
 use bg_places::{Place, Spot};
 use bg_point::Far;
@@ -209,10 +209,26 @@ fn reason(alloc: Global, operation: Option<OutOfRange>) -> bg_houdini::Reason {
     }
 }
 
+/// An outcome with these verdicts, where all globals but the last so many are the program's, and the constants have these values under an
+/// interpretation that meets the axioms.
+fn outcome(
+    alloc: Global,
+    opened: Resolved,
+    constants: &[Scalar],
+    judged: bg_houdini::Outcome,
+) -> Result<Outcome, AllocError> {
+    Ok(Outcome {
+        globals: opened.globals.len().saturating_sub(constants.len()),
+        opened,
+        axioms: verdict(alloc, Known::Refuted(constants, &[], &[]))?,
+        judged,
+    })
+}
+
 /// Whether the report of a program of these implementations has these lines below its first two, and this word.
 fn shows(alloc: Global, cases: &[Case], word: Word, lines: &str) -> Result<bool, AllocError> {
     let mut implementations = Vec::new(alloc);
-    let mut outcome = Vec::new(alloc);
+    let mut verdicts = Vec::new(alloc);
     for (text, keyword, params, results, locals, places) in cases {
         implementations.push(Implementation {
             pos: at(*keyword),
@@ -223,13 +239,14 @@ fn shows(alloc: Global, cases: &[Case], word: Word, lines: &str) -> Result<bool,
             locals: declared(alloc, locals)?,
             body: Vec::new(alloc),
         })?;
-        outcome.push(judged(alloc, places)?)?;
+        verdicts.push(judged(alloc, places)?)?;
     }
-    let outcome = Outcome {
+    let judged = bg_houdini::Outcome {
         inferred: history(alloc, 0, &[])?,
-        verdicts: outcome,
+        verdicts,
     };
-    let text = result_text(alloc, &program(alloc, implementations, &[])?, &outcome)?;
+    let outcome = outcome(alloc, program(alloc, implementations, &[])?, &[], judged)?;
+    let text = result_text(alloc, &outcome)?;
     let want = format!(in alloc; "axioms: consistent\nretained set: greatest\n{lines}")?;
     Ok(text.as_slice() == want.as_bytes() && word_of(&outcome) == word)
 }
@@ -551,11 +568,12 @@ fn guarded(alloc: Global) -> Result<Resolved, AllocError> {
 fn a_history_has_its_removals_by_number(rt: HostRuntime) -> Result<(), Fail> {
     let alloc = rt.alloc();
     let gone = [(5, 0, None), (2, 0, Some(PLUS))];
-    let outcome = Outcome {
+    let judged = bg_houdini::Outcome {
         inferred: history(alloc, 2, &gone)?,
         verdicts: Vec::new(alloc),
     };
-    let text = history_text(alloc, &guarded(alloc)?, &outcome)?;
+    let outcome = outcome(alloc, guarded(alloc)?, &[T], judged)?;
+    let text = history_text(alloc, &outcome)?;
     assert!(rt;
         text.as_slice()
             == "history:\n\
@@ -564,7 +582,8 @@ fn a_history_has_its_removals_by_number(rt: HostRuntime) -> Result<(), Fail> {
             \x20   kept + 1 -170141183460469231731687303715884105728\n\
             drop 5 c in P 1:1 at assert 7:9: refuted\n\
             \x20 snapshot c d\n\
-            interpretation:\n"
+            interpretation:\n\
+            \x20   const h = true\n"
                 .as_bytes()
     );
     Ok(())
@@ -574,12 +593,13 @@ fn a_history_has_its_removals_by_number(rt: HostRuntime) -> Result<(), Fail> {
 fn the_first_removal_says_why_a_candidate_went(rt: HostRuntime) -> Result<(), Fail> {
     let alloc = rt.alloc();
     let gone = [(5, 0, None), (2, 0, Some(PLUS)), (1, 2, None)];
-    let outcome = Outcome {
+    let judged = bg_houdini::Outcome {
         inferred: history(alloc, 3, &gone)?,
         verdicts: Vec::new(alloc),
     };
     let program = program(alloc, Vec::new(alloc), &["c", "d", "e"])?;
-    let text = result_text(alloc, &program, &outcome)?;
+    let outcome = outcome(alloc, program, &[], judged)?;
+    let text = result_text(alloc, &outcome)?;
     assert!(rt;
         text.as_slice()
             == "axioms: consistent\n\

@@ -197,10 +197,10 @@ fn each_verdict_holds_when_it_is_looked_at_again(rt: HostRuntime) -> Result<(), 
         (LATER, "rp;"),
     ];
     for (text, want) in table {
-        let Some(typed) = judged_program(alloc, text) else {
+        let Some(program) = judged_program(alloc, text) else {
             return Err("no program".into());
         };
-        let found = letters(alloc, &typed.program)?;
+        let found = letters(alloc, &program)?;
         assert!(rt; found.as_str() == want);
     }
     Ok(())

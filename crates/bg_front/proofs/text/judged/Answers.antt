@@ -1,10 +1,10 @@
 use Rattle.std.proofs.Common.{refl, sym, subst, inr}
 use Rattle.bg_text.specs.Tokens.{views}
 use Rattle.bg_ast.specs.Views.{program_of}
-use Rattle.bg_front.specs.Others.{IsFirstOther}
+use Rattle.bg_front.specs.Bodiless.{IsFirstBodiless}
 use Rattle.bg_front.proofs.text.judged.Goals as goal
 
-pub returns-in-Some-first_other-clause-refused : goal.returns-in-Some-first_other-clause-refused
-returns-in-Some-first_other-clause-refused c =
+pub returns-in-Some-first_bodiless-clause-refused : goal.returns-in-Some-first_bodiless-clause-refused
+returns-in-Some-first_bodiless-clause-refused c =
     let m = c.requires.meant in
-    (views c.args.tokens.now, program_of c.args.typed.program, m.0, c.requires.typed, inr (c.in_default.ensures, (subst (λ ds. IsFirstOther ds c.in-Some-first_other.pos) (sym m.1) c.in-Some-first_other.ensures, refl)))
+    (views c.args.tokens.now, program_of c.args.typed.program, m.0, c.requires.typed, inr (c.in_default.ensures, (subst (λ ds. IsFirstBodiless ds c.in-Some-first_bodiless.pos) (sym m.1) c.in-Some-first_bodiless.ensures, refl)))

@@ -1,18 +1,23 @@
-use Rattle.std.proofs.Common.{◌≡◌, ◌++◌, List, ℕ, flat_map, map, ap, ◌∙◌, append_assoc}
+use Rattle.std.proofs.Common.{◌≡◌, ◌++◌, List, ℕ, flat_map, map, take, drop, length, ap, ◌∙◌, append_assoc}
 use Rattle.bg_ast.specs.Views.{declared_of, impl_of}
 use Rattle.bg_scalar.specs.Choices.{choice_of}
+use Rattle.bg_scalar.specs.Values.{val_of}
 use Rattle.bg_told.specs.Lines.{texts}
-use Rattle.bg_told.specs.Places.{choice_text}
-use Rattle.bg_told.specs.Report.{names_of}
-use Rattle.bg_told.specs.Entries.{entry_text}
-use Rattle.bg_told.proofs.Told.{values_told}
+use Rattle.bg_told.specs.Places.{choice_text, constant_text, variable_text}
+use Rattle.bg_told.specs.Sheets.{head_of, variables_of}
+use Rattle.bg_told.specs.Entries.{names_in, entry_text, constant_line}
+use Rattle.bg_told.proofs.Told.{entries_told, constants_told}
 use Rattle.bg_told.proofs.places.put_counterexample.Goals as goal
 
 pub returns : goal.returns
 returns c =
-    let names = names_of (map declared_of c.args.globals.now) (impl_of c.args.implementation.now) in
+    let ds = c.args.declared in
+    let names = variables_of (map declared_of ds.globals.now) (head_of (impl_of c.args.implementation.now)) in
+    let n = length ds.globals.now in
     let gs = c.args.cex.now.globals.items in
     let fs = c.args.cex.now.frame.items in
     let choices = flat_map choice_text (map choice_of c.args.cex.now.choices.items) in
-    let made : c.put_choices.new.out.items ≡ c.args.out.now.items ++ (texts entry_text names (gs ++ fs) ++ choices) = rw (c.in_ok-put_choices.ensures, c.in_ok-put_entry.ensures, c.deref.ensures.value, c.deref-2.ensures.value, c.deref-3.ensures.value) (simp append_assoc) in
-    made ∙ ap (λ (values : List ℕ). c.args.out.now.items ++ (values ++ choices)) (values_told names gs fs)
+    let made : c.put_choices.new.out.items ≡ c.args.out.now.items ++ (texts constant_line (names_in ds.constants.now) (drop n gs) ++ (texts entry_text names (take n gs ++ fs) ++ choices)) = rw (c.in_ok-put_choices.ensures, c.in_ok-put_entry.ensures, c.in_ok-put_constants.ensures, c.front.ensures, c.behind.ensures, c.deref.ensures.value, c.deref-2.ensures.value, c.deref-3.ensures.value, c.deref-4.ensures.value) (simp append_assoc) in
+    made
+    ∙ ap (λ (values : List ℕ). c.args.out.now.items ++ (values ++ (texts entry_text names (take n gs ++ fs) ++ choices))) (constants_told (names_in ds.constants.now) n gs)
+    ∙ ap (λ (values : List ℕ). c.args.out.now.items ++ (texts constant_text (names_in ds.constants.now) (drop n (map val_of gs)) ++ (values ++ choices))) (entries_told names n gs fs)

@@ -1,17 +1,27 @@
+use Rattle.std.proofs.Common.{◌≡◌, ◌∙◌, subst}
+use Rattle.bg_text.specs.Views.{decls_of}
+use Rattle.bg_ast.specs.Meaning.{meaning_of}
 use Rattle.bg_ast.specs.Views.{program_of}
+use Rattle.bg_ast.specs.Resolved.{Program}
+use Rattle.bg_front.specs.Programs.{IsProgramFrom}
 use Rattle.bg_tool.proofs.reports.annotation_on.Goals as goal
 
-pub annotation_of-requires-clause-typed : goal.annotation_of-requires-clause-typed
-annotation_of-requires-clause-typed g c κs within =
-    (c.programs_are_typed.ensures c.args.how.now.asked.guess c.args.bytes.now (program_of c.in_ok-written.written.typed.program) c.in_ok-written.ensures.program.0).0
-
-pub annotation_of-requires-clause-scalars : goal.annotation_of-requires-clause-scalars
-annotation_of-requires-clause-scalars g c κs within =
-    c.judged_programs_are_over_scalars.ensures c.args.how.now.asked.guess c.args.bytes.now (program_of c.in_ok-written.written.typed.program) c.in_ok-written.ensures.program.0
-
-pub annotation_of-requires-clause-resolved : goal.annotation_of-requires-clause-resolved
-annotation_of-requires-clause-resolved g c κs within =
-    c.programs_are_resolved.ensures c.args.how.now.asked.guess c.args.bytes.now (program_of c.in_ok-written.written.typed.program) c.in_ok-written.ensures.program.0
-
 pub returns-in-Ok-clause-annotation : goal.returns-in-Ok-clause-annotation
-returns-in-Ok-clause-annotation g c = c.in-Ok.ensures.annotation c.args.bytes.now c.in_ok-written.ensures.program
+returns-in-Ok-clause-annotation g c =
+    let on = c.in_ok-outcome.ensures.outcome in
+    let guess = c.args.how.now.asked.guess in
+    let bytes = c.args.bytes.now in
+    let ds = decls_of c.in_ok-written.written.tree.decls.items in
+    let p = program_of c.in_ok-written.written.typed.program in
+    let from = c.in_ok-written.ensures.program in
+    let same : p ≡ on.program = c.a_text_has_one_program_or_one_refusal.ensures.program guess bytes p on.program from.0 on.spelled in
+    record {
+      decls = ds;
+      program = on.program;
+      spelled = subst (λ (q : Program). IsProgramFrom guess bytes ds q) same from;
+      inferred = c.in_ok-outcome.outcome;
+      right = on.right;
+      sound = on.sound;
+      is = c.in-Ok.ensures guess bytes from;
+      gives = c.status_of.ensures.gives ∙ c.word_of.ensures (meaning_of on.program);
+    }

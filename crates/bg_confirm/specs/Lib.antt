@@ -1,0 +1,4 @@
+pub mod Met
+pub mod Accepted
+pub mod Pairs
+pub mod Named

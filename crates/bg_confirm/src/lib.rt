@@ -1,0 +1,14 @@
+//! Whether a program with constants, functions and axioms accepts the text of a certificate, checked without search: the constants'
+//! values are replayed through the axioms, and the opened program is asked for the rest.
+#![tactic(auto)]
+
+mod ending;
+pub mod laws;
+mod met;
+mod names;
+mod program;
+mod text;
+mod values;
+
+pub use program::{Checked, check};
+pub use text::answer_text;

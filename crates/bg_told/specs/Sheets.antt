@@ -1,0 +1,45 @@
+-- What a report says of a program's declarations.
+use Rattle.std.specs.Prelude.{ℕ, List, ◌++◌, map}
+use Rattle.bg_base.specs.declared.pos.Pos.{Pos}
+use Rattle.bg_text.specs.Trees.{Id}
+use Rattle.bg_ast.specs.Resolved.{Declared, Impl, Program}
+use Rattle.bg_opened.specs.Written.{global_for}
+use Rattle.bg_told.specs.Places.{Names}
+
+-- of an implementation: its name, where it stands, and its variables
+pub record Head : Type 0 where
+  pub name : Id
+  pub pos : Pos
+  pub params : List Declared
+  pub results : List Declared
+  pub locals : List Declared
+
+abbrev pub head_of : Impl → Head
+head_of m = record { name = m.name; pos = m.pos; params = m.params; results = m.results; locals = m.locals }
+
+-- of a program; its constants are declared as variables are
+pub record Sheet : Type 0 where
+  pub candidates : List Id
+  pub constants : List Declared
+  pub globals : List Declared
+  pub implementations : List Head
+
+abbrev pub sheet_of : Program → Sheet
+sheet_of p =
+    record {
+      candidates = p.candidates;
+      constants = map global_for p.constants;
+      globals = p.globals;
+      implementations = map head_of p.implementations;
+    }
+
+abbrev pub name_in : Declared → List ℕ
+name_in d = d.name.text
+
+-- the names of the variables that have entry values: globals, parameters, results and locals
+abbrev pub variables_of : List Declared → Head → List (List ℕ)
+variables_of globals h = map name_in globals ++ (map name_in h.params ++ (map name_in h.results ++ map name_in h.locals))
+
+-- and those of the constants
+abbrev pub names_of : List Declared → List Declared → Head → Names
+names_of constants globals h = record { constants = map name_in constants; variables = variables_of globals h }
