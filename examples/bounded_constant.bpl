@@ -1,0 +1,3 @@
+// --history
+const c: int;
+axiom 2 <= c && c < 3;
