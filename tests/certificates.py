@@ -30,6 +30,7 @@ COPY = "procedure P(a: bool) { var b: bool; b := a; assert b == a; }"
 COUNT = """const {:existential true} b0, b1, b2: bool;
 procedure Count(n: int) returns (i: int) requires 0 <= n; ensures i == n;
 { i := 0; while (i < n) invariant b0 ==> i >= 0; invariant b1 ==> i >= 1; invariant b2 ==> i <= n; { i := i + 1; } }"""
+CONSTANTS = "const c: int; const on: bool; axiom 2 <= c && c < 5; axiom on ==> c == 4;"
 UNPROVED = "rejected: P 1:1 assert 1:45\n"
 TIMES = 60  # kilobytes of memory for each kilobyte of a hostile text, at most
 BASE = 60_000  # kilobytes of memory that any run may take
@@ -46,6 +47,19 @@ ANSWERS = [
     (COPY, FRONT + "place 0 0\nunit b\nend\n", 1, UNPROVED, ""),
     (COPY, FRONT + "place 0 0\nknown 0\nend\n", 1, UNPROVED, ""),
     ("", FRONT + "place 0 0\nclause 0\nend\n", 1, "rejected: place 0 0\n", ""),
+    (CONSTANTS, FRONT + "const c 2\nconst on false\nend\n", 0, "accepted\n", ""),
+    (CONSTANTS, FRONT + "const c 4\nconst on true\nend\n", 0, "accepted\n", ""),
+    (CONSTANTS, FRONT + "const c 2\nconst on true\nend\n", 1, "rejected: axioms\n", ""),
+    (CONSTANTS, FRONT + "const c 5\nconst on false\nend\n", 1, "rejected: axioms\n", ""),
+    (CONSTANTS, FRONT + "const on false\nconst c 2\nend\n", 1, "rejected: axioms\n", ""),
+    (CONSTANTS, FRONT + "const c 2\nconst off false\nend\n", 1, "rejected: axioms\n", ""),
+    (CONSTANTS, FRONT + "const c 2\nconst on 0\nend\n", 1, "rejected: axioms\n", ""),
+    (CONSTANTS, FRONT + "const c 2\nend\n", 1, "rejected: axioms\n", ""),
+    (CONSTANTS, FRONT + "const c 2\nconst on false\nconst on false\nend\n", 1, "rejected: axioms\n", ""),
+    (CONSTANTS, EMPTY, 1, "rejected: axioms\n", ""),
+    ("", FRONT + "const c 2\nend\n", 1, "rejected: axioms\n", ""),
+    ("", "bg-cert 1\nno interp\nconst c 2\nend\n", 3, "", "error: certificate line 3\n"),
+    ("", FRONT + "const c 02\nend\n", 3, "", "error: certificate line 3\n"),
     ("", "bg-cert 3\ninterp\nend\n", 3, "", "error: certificate version\n"),
     ("", "bg-cert 1\nend\n", 3, "", "error: certificate line 2\n"),
     ("", FRONT, 3, "", "error: certificate line 3\n"),
@@ -82,8 +96,11 @@ class Trial:
             print(f"failed: {name}: {got!r}"[:400])
 
 
-def first_open(report):
-    """The first place that a report doesn't call proved, in the words of a rejection; None where there is no such place."""
+def first_reason(report):
+    """Why a program doesn't accept what `certify` writes beside this report: the axioms, where no interpretation that meets them was
+    found, else the first place that isn't proved; None where there is no reason."""
+    if not report.startswith(b"axioms: consistent\n"):
+        return b"rejected: axioms\n"
     name = None
     for line in report.decode().splitlines():
         if line.startswith("implementation "):
@@ -102,7 +119,7 @@ def example(t, source):
     name = os.path.relpath(source, TOP)
     certified, cert, err = t.run(["certify", source])
     t.holds(f"{name}: certify ends as verify", (certified, err) == (status, b""), (certified, err))
-    wanted = (0, b"accepted\n", b"") if status == 0 else (1, first_open(report), b"")
+    wanted = (0, b"accepted\n", b"") if status == 0 else (1, first_reason(report), b"")
     got = t.check(cert, source)
     t.holds(f"{name}: check", got == wanted, (got, wanted))
 
