@@ -6,6 +6,8 @@ mod atoms;
 #[cfg(test)]
 mod clause;
 #[cfg(test)]
+mod flat;
+#[cfg(test)]
 mod forms;
 #[cfg(test)]
 mod model;

@@ -1,0 +1,7 @@
+pub mod Lists
+pub mod Forms
+pub mod Joined
+pub mod Handled
+pub mod Numbered
+pub mod Plain
+pub mod Applied

@@ -1,0 +1,7 @@
+use Rattle.bg_flatten.proofs.Numbered.{are_flattened}
+use Rattle.bg_flatten.proofs.laws.numbered_blocks_are_flattened.Goals as goal
+
+pub returns : goal.returns
+returns c fs incs blocks fine =
+    let law = c.numbered_expressions_are_flat.ensures in
+    are_flattened law.grows law.flat law.fair fs incs blocks fine

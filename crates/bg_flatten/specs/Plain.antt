@@ -1,0 +1,27 @@
+-- Blocks without applications and `old`.
+use Rattle.std.specs.Prelude.{List}
+use Rattle.bg_ast.specs.Syntax.{Ex, Not, Negative, Binary, Apply, Old}
+use Rattle.bg_passive.specs.Passive.{PassiveCmd, Claims, Supposes, Edge, PassiveBlock}
+use Rattle.bg_flatten.specs.Makes.{Each}
+
+abbrev pub IsPlain : Ex → Type 0
+IsPlain (Not e) = IsPlain e
+IsPlain (Negative e) = IsPlain e
+IsPlain (Binary op a b) = IsPlain a × IsPlain b
+IsPlain (Apply f es) = ⊥
+IsPlain (Old e) = ⊥
+IsPlain _ = Unit {0}
+
+abbrev pub PlainCmd : PassiveCmd → Type 0
+PlainCmd (Claims s b e) = IsPlain e
+PlainCmd (Supposes b e) = IsPlain e
+
+abbrev pub PlainEdge : Edge → Type 0
+PlainEdge e = Each PlainCmd e.cmds
+
+abbrev pub PlainBlock : PassiveBlock → Type 0
+PlainBlock b = Each PlainCmd b.cmds × Each PlainEdge b.next
+
+-- what each command says is plain
+abbrev pub PlainBlocks : List PassiveBlock → Type 0
+PlainBlocks bs = Each PlainBlock bs

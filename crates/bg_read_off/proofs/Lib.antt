@@ -1,0 +1,3 @@
+pub mod Entries
+pub mod Read
+pub mod Finished

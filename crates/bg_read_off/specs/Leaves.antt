@@ -1,0 +1,27 @@
+-- Leaves whose terms are applications of functions on truth values and whole numbers.
+use Rattle.std.specs.Prelude.{◌≡◌, ℕ, pos, Bool, true, ◌&&◌, List, [], ◌∷◌, Some, slice_get}
+use Rattle.bg_ast.specs.Values.{Val, Num, Ty, truth_of}
+use Rattle.bg_ast.specs.Syntax.{Fun}
+use Rattle.bg_sense.specs.Eval.{ev, default_result}
+use Rattle.bg_terms.specs.Terms.{Head, Applies, Term, over}
+use Rattle.bg_terms.specs.Alike.{is_scalar}
+use Rattle.bg_terms.specs.Instances.{Congruent, instance_ex}
+use Rattle.bg_terms.specs.Tables.{is_application}
+
+-- whether all are `int` or `bool`
+abbrev pub are_scalar : List Ty → Bool
+are_scalar [] = true
+are_scalar (t ∷ ts) = is_scalar t && are_scalar ts
+
+-- each term is an application
+abbrev pub AreApplications : List Term → Type 0
+AreApplications ts = (a : ℕ) (t : Term) → slice_get ts a ≡ Some t → is_application t.head ≡ true
+
+-- no congruence of the terms is false
+abbrev pub AreCongruent : List Val → ℕ → List Term → Type 0
+AreCongruent s n ts = (a b : ℕ) → truth_of (ev (instance_ex n ts (Congruent a b)) (over s)) ≡ true
+
+-- what a function gives where no term says
+abbrev pub silent : List Fun → Head → Val
+silent fs (Applies f) = default_result (slice_get fs f)
+silent fs _ = Num (pos 0)

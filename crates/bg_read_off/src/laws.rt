@@ -1,0 +1,45 @@
+//! Laws of leaves, which are proved of the definitions alone.
+ghost use Rattle.std.specs.Prelude.{◌≡◌, ℕ, ◌<◌, Bool, true, false, List, [], slice_get, length, IsTrue};
+ghost use Rattle.bg_ast.specs.Values.{Val, Ty};
+ghost use Rattle.bg_ast.specs.Syntax.{Ex, Fun, Prog};
+ghost use Rattle.bg_ast.specs.Execution.{Interp, Spot};
+ghost use Rattle.bg_sense.specs.Eval.{value_at};
+ghost use Rattle.bg_sense.specs.Types.{are_of};
+ghost use Rattle.bg_sense.specs.Tables.{are_tables};
+ghost use Rattle.bg_passive.specs.Passive.{PassiveBlock};
+ghost use Rattle.bg_passive.specs.Incarnations.{passive_scope};
+ghost use Rattle.bg_passive.specs.Equations.{is_well, equations};
+ghost use Rattle.bg_terms.specs.Terms.{Term, over};
+ghost use Rattle.bg_terms.specs.Closed.{IsFinished};
+ghost use Rattle.bg_terms.specs.Flat.{HaveNoBodies};
+ghost use Rattle.bg_terms.specs.Tables.{IsReadOff};
+ghost use Rattle.bg_terms.specs.Typed.{TermsTyped, types_with};
+ghost use Rattle.bg_flat.specs.Blocks.{FlatBlocks, in_front};
+ghost use Rattle.bg_read_off.specs.Leaves.{are_scalar, AreApplications, AreCongruent, silent};
+
+/// Where terms are typed and have values of their types, there is a table for each function, in normal form, that gives what the first
+/// application with these arguments is worth, and else the default of its result's type.
+pub fn scalar_leaves_have_interpretations()
+    ensures { (fs : List Fun) (incs : List Ty) (ts : List Term) (w : List Val) → HaveNoBodies fs → TermsTyped fs incs ts → are_of (types_with incs ts) w ≡ true →
+        (i : Interp) × ((i.constants ≡ []) × (IsTrue (are_tables fs i.tables) × IsReadOff i (silent fs) w (length incs) ts)) }
+{}
+
+/// A leaf over truth values and whole numbers, whose terms are applications, is finished where no congruence is false.
+pub fn applications_are_finished()
+    ensures { (s : List Val) (n : ℕ) (ts : List Term) (tys : List Ty) → AreApplications ts → are_scalar tys ≡ true → AreCongruent s n ts → IsFinished s n ts tys }
+{}
+
+/// At such a leaf of flat blocks that are denied, whatever stands in front, the blocks are denied under the interpretation that is read off
+/// and the leaf's values of the incarnations.
+pub fn scalar_leaves_fail()
+    ensures { (p : Prog) (i : Interp) (incs : List Ty) (ts : List Term) (s values : List Val) (set : ℕ → Bool) (target : Spot) (front : List Ex) (blocks flat : List PassiveBlock) →
+        HaveNoBodies p.functions → TermsTyped p.functions incs ts → AreApplications ts → are_scalar (types_with incs ts) ≡ true →
+        are_of (types_with incs ts) s ≡ true → AreCongruent s (length incs) ts → IsReadOff i (silent p.functions) s (length incs) ts →
+        ((j : ℕ) → j < length incs → value_at s j ≡ value_at values j) → FlatBlocks (types_with incs ts) (length incs) ts blocks flat →
+        is_well (slice_get (equations set target (over s) (in_front front flat)) 0) ≡ false →
+        is_well (slice_get (equations set target (passive_scope p i values) blocks) 0) ≡ false }
+{
+    bg_terms::laws::finished_leaves_give_models();
+    bg_flat::laws::denied_flat_blocks_fail();
+    applications_are_finished()
+}

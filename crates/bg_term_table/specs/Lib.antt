@@ -1,0 +1,4 @@
+pub mod Views
+pub mod Made
+pub mod Chains
+pub mod Linked

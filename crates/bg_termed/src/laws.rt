@@ -1,0 +1,96 @@
+//! Laws of an implementation's blocks in terms.
+ghost use Rattle.std.specs.Prelude.{◌≡◌, ℕ, ◌<◌, Bool, true, false, List, Some, Ok, slice_get};
+ghost use Rattle.bg_ast.specs.Values.{Val};
+ghost use Rattle.bg_ast.specs.Syntax.{Prog, Impl, Proc};
+ghost use Rattle.bg_ast.specs.Execution.{Interp, Spot};
+ghost use Rattle.bg_sense.specs.Eval.{value_at};
+ghost use Rattle.bg_sense.specs.Interps.{IsInterp};
+ghost use Rattle.bg_sense.specs.Types.{are_of};
+ghost use Rattle.bg_sense.specs.Variables.{procedure_of};
+ghost use Rattle.bg_passive.specs.Incarnations.{passive_scope};
+ghost use Rattle.bg_passive.specs.Equations.{is_well, equations};
+ghost use Rattle.bg_block_types.specs.Typed.{incarnations_in, passives_in};
+ghost use Rattle.bg_formula.specs.Formulas.{Formula};
+ghost use Rattle.bg_formula.specs.Meaning.{Valuation, clauses_true};
+ghost use Rattle.bg_forms.specs.Worth.{bools_at};
+ghost use Rattle.bg_clause.specs.Tables.{there_in};
+ghost use Rattle.bg_clause.specs.Whole.{clauses_of};
+ghost use Rattle.bg_linear.specs.Sorts.{scalar_values};
+ghost use Rattle.bg_atoms.specs.Ranks.{rank};
+ghost use Rattle.bg_atoms.specs.Sorted.{blocks_sorted};
+ghost use Rattle.bg_faithful.specs.Encoded.{Encoding, Encodes};
+ghost use Rattle.bg_terms.specs.Instances.{Instance};
+ghost use Rattle.bg_terms.specs.Tables.{IsReadOff};
+ghost use Rattle.bg_flatten.specs.Flattens.{AreFlattened};
+ghost use Rattle.bg_flatten.specs.Mapless.{are_mapless};
+ghost use Rattle.bg_read_off.specs.Leaves.{are_scalar, AreCongruent, silent};
+ghost use Rattle.bg_flat_clauses.specs.Linear.{LinearBlocks};
+ghost use Rattle.bg_termed.specs.Termed.{IsTabled, count_in, terms_in, flats_in, types_in, sorts_in, behind_in};
+
+use bg_block_types::laws::passive_blocks_are_typed;
+use bg_flat::laws::{denied_blocks_have_scalars, instances_are_linear_truths};
+use bg_flat_clauses::laws::{flat_blocks_are_sorted, flat_clauses_fail_alike};
+use bg_flatten::laws::{
+    numbered_blocks_are_flattened, terms_are_applications, typed_blocks_are_fine,
+};
+use bg_read_off::laws::scalar_leaves_fail;
+
+/// Where functions have tables alone, the passive blocks of an implementation whose incarnations are no maps are made flat over fair terms.
+pub fn passive_blocks_have_terms()
+    ensures { (p : Prog) (k : ℕ) (m : Impl) (q : Proc) → IsTabled p → slice_get p.implementations k ≡ Some m → procedure_of p m.procedure ≡ Some q →
+        are_mapless (incarnations_in p k m q) ≡ true →
+        AreFlattened p.functions (incarnations_in p k m q) (passives_in p k m q) (terms_in p k m q) (flats_in p k m q) }
+{
+    passive_blocks_are_typed();
+    typed_blocks_are_fine();
+    numbered_blocks_are_flattened()
+}
+
+/// Behind any instances they are sorted, where the passive blocks are linear and name candidates that are there.
+pub fn blocks_behind_instances_are_sorted()
+    ensures { (p : Prog) (k : ℕ) (m : Impl) (q : Proc) → IsTabled p → slice_get p.implementations k ≡ Some m → procedure_of p m.procedure ≡ Some q →
+        are_mapless (incarnations_in p k m q) ≡ true → LinearBlocks p.candidates (passives_in p k m q) →
+        (instances : List Instance) → blocks_sorted (sorts_in p k m q) p.candidates (behind_in p k m q instances) ≡ true }
+{
+    passive_blocks_have_terms();
+    instances_are_linear_truths();
+    flat_blocks_are_sorted()
+}
+
+/// Where the equations deny the entry of the passive blocks under an interpretation, typed values of the incarnations and truth values of the
+/// candidates, there is a valuation that agrees with the candidates and makes the clauses true of each encoding of the flat blocks behind any
+/// instances.
+pub fn denied_passive_blocks_have_valuations()
+    ensures { (p : Prog) (k : ℕ) (m : Impl) (q : Proc) → IsTabled p → slice_get p.implementations k ≡ Some m → procedure_of p m.procedure ≡ Some q →
+        are_mapless (incarnations_in p k m q) ≡ true →
+        (instances : List Instance) (a : Encoding) → Encodes (sorts_in p k m q) p.candidates (behind_in p k m q instances) a →
+        (target : Spot) (f : Formula) → clauses_of a.first a.named a.terms a.rows target a.blocks ≡ Ok f →
+        (i : Interp) (values : List Val) (set : ℕ → Bool) → IsInterp p i → are_of (incarnations_in p k m q) values ≡ true →
+        is_well (slice_get (equations set target (passive_scope p i values) (passives_in p k m q)) 0) ≡ false →
+        (v : Valuation) × (((b : ℕ) → bools_at a.named b ≡ true → there_in f.candidates v.truths b ≡ set b) × (clauses_true v f.atoms f.clauses ≡ true)) }
+{
+    passive_blocks_have_terms();
+    denied_blocks_have_scalars();
+    flat_clauses_fail_alike()
+}
+
+/// Where a valuation makes such clauses true, of terms and incarnations that are truth values and whole numbers, and no congruence is false
+/// under its values, the equations deny the entry of the passive blocks under the interpretation that is read off, those values of the
+/// incarnations, and the candidates whose atoms it makes true.
+pub fn scalar_valuations_deny_passive_blocks()
+    ensures { (p : Prog) (k : ℕ) (m : Impl) (q : Proc) → IsTabled p → slice_get p.implementations k ≡ Some m → procedure_of p m.procedure ≡ Some q →
+        are_mapless (incarnations_in p k m q) ≡ true → are_scalar (types_in p k m q) ≡ true →
+        (instances : List Instance) (a : Encoding) → Encodes (sorts_in p k m q) p.candidates (behind_in p k m q instances) a →
+        (target : Spot) (f : Formula) → clauses_of a.first a.named a.terms a.rows target a.blocks ≡ Ok f →
+        (v : Valuation) → clauses_true v f.atoms f.clauses ≡ true →
+        (s : List Val) → s ≡ scalar_values v.numbers (λ j. v.truths (rank (sorts_in p k m q) j)) (sorts_in p k m q) →
+        AreCongruent s (count_in p k m q) (terms_in p k m q) →
+        (i : Interp) → IsReadOff i (silent p.functions) s (count_in p k m q) (terms_in p k m q) →
+        (values : List Val) → ((j : ℕ) → j < count_in p k m q → value_at s j ≡ value_at values j) →
+        is_well (slice_get (equations (there_in f.candidates v.truths) target (passive_scope p i values) (passives_in p k m q)) 0) ≡ false }
+{
+    passive_blocks_have_terms();
+    flat_clauses_fail_alike();
+    terms_are_applications();
+    scalar_leaves_fail()
+}
