@@ -9,4 +9,5 @@ pub mod Telling
 pub mod Whole
 pub mod Listed
 pub mod Pieces
+pub mod Portions
 pub mod Shared

@@ -2,40 +2,23 @@
 use Rattle.std.proofs.Common.{◌≡◌, ℕ, zero, suc, ◌+◌, ◌<◌, Bool, true, false, cond, is_some, List, [], ◌∷◌, ◌++◌, length, map, take, get_or, Option, Some, None, Result, Ok, Err, IfOk, refl, sym, ap, ◌∙◌, subst, arith}
 use Rattle.std.specs.Prelude.{slice_get, filter}
 use Rattle.std.proofs.Math.Seq.{take-suc}
-use Rattle.std.proofs.lemmas.List.{map-append, length-append}
+use Rattle.std.proofs.lemmas.List.{map-append}
 use Rattle.std.proofs.lemmas.List.Elements.{filter-append}
 use Rattle.bg_base.specs.declared.ids.CandId.{CandId}
 use Rattle.bg_text.specs.Views.{option_of}
-use Rattle.bg_ast.specs.Resolved as r
 use Rattle.bg_ast.specs.Execution as run
 use Rattle.bg_ast.specs.Views.{candidate_of}
 use Rattle.bg_places.specs.Placed.{place_in}
 use Rattle.bg_places.specs.Views.{placed_of, placed_in}
 use Rattle.bg_places.specs.declared.place.Place.{Place}
-use Rattle.bg_task.specs.declared.prepared.Prepared.{Prepared}
-use Rattle.bg_task.specs.Prepared.{IsPrepared}
 use Rattle.bg_houdini.specs.Tasks.{has_candidate}
-use Rattle.bg_houdini.specs.Checkers.{ArePrepared}
 
 -- an item of a list with one more at its end
-last_or : {A : Type 0} (xs : List A) (y : A) (k : ℕ) (x : A) (P : ℕ → A → Type 0) → ((j : ℕ) (z : A) → slice_get xs j ≡ Some z → P j z) → P (length xs) y → slice_get (xs ++ (y ∷ [])) k ≡ Some x → P k x
+pub last_or : {A : Type 0} (xs : List A) (y : A) (k : ℕ) (x : A) (P : ℕ → A → Type 0) → ((j : ℕ) (z : A) → slice_get xs j ≡ Some z → P j z) → P (length xs) y → slice_get (xs ++ (y ∷ [])) k ≡ Some x → P k x
 last_or [] y zero x P f h e = subst (P 0) (let same : y ≡ x = cc in same) h
 last_or [] y (suc k) x P f h e = absurd (let bad : ⊥ = cc in bad)
 last_or (z ∷ xs) y zero x P f h e = f 0 x e
 last_or (z ∷ xs) y (suc k) x P f h e = last_or xs y k x (λ j. P (suc j)) (λ j w g. f (suc j) w g) h e
-
-pub none_prepared : (p : r.Program) → ArePrepared p 0 []
-none_prepared p = record {
-  count_is = refl;
-  each = λ k w e. let bad : ⊥ = cc in absurd bad;
-}
-
--- one more implementation
-pub one_prepared : (p : r.Program) (n : ℕ) (ws : List Prepared) (w : Prepared) → ArePrepared p n ws → IsPrepared p n w → ArePrepared p (n + 1) (ws ++ (w ∷ []))
-one_prepared p n ws w h one = record {
-  count_is = length-append ws (w ∷ []) ∙ ap (λ (k : ℕ). k + 1) h.count_is;
-  each = λ k x e. last_or ws w k x (IsPrepared p) h.each (subst (λ (j : ℕ). IsPrepared p j w) (sym h.count_is) one) e;
-}
 
 same_some : (o : Option CandId) → is_some (option_of candidate_of o) ≡ is_some o
 same_some None = refl

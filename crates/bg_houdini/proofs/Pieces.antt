@@ -20,6 +20,9 @@ use Rattle.bg_houdini.proofs.Tasks.{get_below, get_there}
 abbrev Verdicts : Type 0
 Verdicts = List (Vec Judged Global)
 
+abbrev Told : Type 0
+Told = Piece (Vec Judged Global)
+
 -- a piece of what is prepared
 pub prepared_chunk : (p : r.Program) (ws : List Prepared) (size first : ℕ) (piece : List Prepared) → ArePrepared p (length p.implementations) ws → IsChunk ws size first piece → ArePreparedFrom p first piece
 prepared_chunk p ws size first piece h chunk = record {
@@ -72,8 +75,8 @@ module _ (budget : Budget) (p : r.Program) (set : ℕ → Bool) where
   none_left k (m ∷ ms) l = absurd (omega (arith, l))
 
   -- what pieces of this size have is right of all
-  pub all_right : (size : ℕ) → 0 < size → (k : ℕ) (ms : List r.Impl) (rs : List Piece) (ys : Verdicts)
-      → ((n : ℕ) (d : Piece) → n < length rs → IfOk (get_or rs n d) (λ v. Right (k + n * size) (take size (drop (n * size) ms)) (judged v.items)))
+  pub all_right : (size : ℕ) → 0 < size → (k : ℕ) (ms : List r.Impl) (rs : List Told) (ys : Verdicts)
+      → ((n : ℕ) (d : Told) → n < length rs → IfOk (get_or rs n d) (λ v. Right (k + n * size) (take size (drop (n * size) ms)) (judged v.items)))
       → length ms ≤ length rs * size → Joins rs ys → Right k ms (judged ys)
   all_right size some k ms [] ys each l h = subst (λ (us : Verdicts). Right k ms (judged us)) (sym h) (none_left k ms (let z : 0 * size ≡ 0 = omega arith in omega (arith, l, z)))
   all_right size some k ms (Err e ∷ rs) ys each l h = absurd h
@@ -98,7 +101,7 @@ module _ (budget : Budget) (p : r.Program) (set : ℕ → Bool) where
       one_time : (n q : ℕ) → suc n * q ≡ q + n * q
       one_time n q = omega arith
 
-      later : (n : ℕ) (d : Piece) → IfOk (get_or (Ok v ∷ rs) (suc n) d) (λ v. Right (k + suc n * size) (take size (drop (suc n * size) ms)) (judged v.items))
+      later : (n : ℕ) (d : Told) → IfOk (get_or (Ok v ∷ rs) (suc n) d) (λ v. Right (k + suc n * size) (take size (drop (suc n * size) ms)) (judged v.items))
           → IfOk (get_or rs n d) (λ v. Right (k + size + n * size) (take size (drop (n * size) (drop size ms))) (judged v.items))
       later n d g =
           if_ok (get_or rs n d)
@@ -116,14 +119,14 @@ chunk_take xs ms size first n same is =
     ap (λ (j : ℕ). take j (drop first ms)) (is ∙ ap (min size) long) ∙ take_min size (drop first ms)
 
 -- a piece more is joined
-pub joins_more : (all : List Piece) (piece : Piece) (rest next : List Piece) (made new : Verdicts) → rest ≡ piece ∷ next → IsWith piece made new
-    → ((zs : Verdicts) → Joins rest zs → Joins all (made ++ zs)) → (zs : Verdicts) → Joins next zs → Joins all (new ++ zs)
+pub joins_more : {A : Type 0} (all : List (Piece A)) (piece : Piece A) (rest next : List (Piece A)) (made new : List A) → rest ≡ piece ∷ next → IsWith piece made new
+    → ((zs : List A) → Joins rest zs → Joins all (made ++ zs)) → (zs : List A) → Joins next zs → Joins all (new ++ zs)
 joins_more all (Err e) rest next made new is with_it inv zs h = absurd with_it
-joins_more all (Ok v) rest next made new is with_it inv zs h =
-    subst (Joins all) (sym (append_assoc made v.items zs) ∙ ap (λ (us : Verdicts). us ++ zs) (sym with_it))
-    (inv (v.items ++ zs) (subst (λ (rs : List Piece). Joins rs (v.items ++ zs)) (sym is) (zs, refl, h)))
+joins_more {A} all (Ok v) rest next made new is with_it inv zs h =
+    subst (Joins all) (sym (append_assoc made v.items zs) ∙ ap (λ (us : List A). us ++ zs) (sym with_it))
+    (inv (v.items ++ zs) (subst (λ (rs : List (Piece A)). Joins rs (v.items ++ zs)) (sym is) (zs, refl, h)))
 
 -- where none is left, all are joined
-pub done : (all rest : List Piece) (made : Verdicts) → length rest ≡ 0 → ((zs : Verdicts) → Joins rest zs → Joins all (made ++ zs)) → Joins all made
+pub done : {A : Type 0} (all rest : List (Piece A)) (made : List A) → length rest ≡ 0 → ((zs : List A) → Joins rest zs → Joins all (made ++ zs)) → Joins all made
 done all [] made e inv = subst (Joins all) (append-nil made) (inv [] refl)
 done all (r ∷ rest) made e inv = absurd (omega (arith, e))

@@ -4,7 +4,7 @@ use mathlib.Core.List.{List, [], ◌∷◌}
 use denote.Ref.{NamedLft}
 use denote.Struct.Tuple.{TupleAt}
 use denote.Struct.Field.{shr_ref_field, shr_slice_field, bool-field}
-use denote.Param.Send.{IsSync, sendable}
+use denote.Param.Send.{IsSync, IsSend, sendable}
 use Rattle.std.proofs.Crossing as std
 use Rattle.std.proofs.option.Option.TheSendSync as option
 use Rattle.std.proofs.vec.Vec.TheSendSync as vec
@@ -33,6 +33,9 @@ use Rattle.bg_ast.specs.contracts.resolved.Procedure as procedure
 use Rattle.bg_ast.specs.contracts.resolved.Implementation as implementation
 use Rattle.bg_ast.specs.contracts.resolved.Resolved as resolved
 use Rattle.bg_ast.proofs.resolved.Variable.TheSendSync as variable
+use Rattle.bg_ast.specs.contracts.resolved.Variable as variable_row
+use Rattle.std.specs.contracts.vec.Vec as vec_row
+use Rattle.std.specs.contracts.impls.GlobalAllocator.TheImpl.{ghosts}
 use Rattle.bg_places.proofs.place.Group.TheSendSync as group
 use Rattle.bg_places.proofs.place.Place.TheSendSync as place
 use Rattle.bg_linear.proofs.scalar.Sort.TheSendSync as sort
@@ -46,7 +49,7 @@ use Rattle.bg_atoms.specs.contracts.product.Atoms as atoms
 use Rattle.bg_task.specs.contracts.prepared.Prepared as prepared
 use Rattle.bg_houdini.specs.contracts.judging.Judging as judging
 
-ruleset parts = (pos.the_field_sync, pos.the_sync, cand.the_field_sync, cand.the_sync, name.the_field_sync, name.the_sync, placed.the_field_sync, placed.the_sync, option.the_sync, vec.the_sync, global.the_sync, std.crosses, sendable)
+pub ruleset parts = (pos.the_field_sync, pos.the_sync, cand.the_field_sync, cand.the_sync, name.the_field_sync, name.the_sync, placed.the_field_sync, placed.the_sync, option.the_sync, vec.the_sync, global.the_sync, std.crosses, sendable)
 
 expr_sync : IsSync expr.the_row
 expr_sync = search (knot_expr.crosses, parts) depth 60 fits 20000
@@ -102,7 +105,7 @@ function_sync = search (type_sync, type_field, expr_sync, parts) depth 60 fits 2
 procedure_sync : IsSync procedure.the_row
 procedure_sync = search (declared_sync, clause_sync, parts) depth 60 fits 20000
 
-implementation_sync : IsSync implementation.the_row
+pub implementation_sync : IsSync implementation.the_row
 implementation_sync = search (declared_sync, stmt_sync, parts) depth 60 fits 20000
 
 pub resolved_sync : IsSync resolved.the_row
@@ -130,3 +133,25 @@ judging_sync a = search (resolved_sync, prepared_sync, place.the_sync, budget.th
 -- what the closure of a piece captures
 pub captured_sync : (name : List ℕ) (a b c d : NamedLft) → IsSync (TupleAt name ((shr_ref_field a heap.the_row tt).row ∷ (shr_ref_field b (judging.the_row c) tt).row ∷ (shr_slice_field d bool-field.row tt).row ∷ []))
 captured_sync name a b c d = search (judging_sync, parts) depth 60 fits 20000
+
+-- what a thread that prepares a piece has made may leave it
+pub ruleset leaving = (pos.the_field_send, pos.the_send, cand.the_field_send, cand.the_send, name.the_field_send, name.the_send, placed.the_field_send, placed.the_send, option.the_send, vec.the_send, global.the_send, parts)
+
+cmd_send : (a : NamedLft) → IsSend (cmd.the_row a)
+cmd_send a = search (variable.the_sync, group.the_field_send, kept.the_field_send, variable.the_send, clause_sync, target_sync, call_sync, procedure_sync, expr_sync, leaving) depth 60 fits 20000
+
+exit_send : (a : NamedLft) → IsSend ((exit.the_field a).row)
+exit_send a = search (guard_sync, leaving) depth 60 fits 20000
+
+block_send : (a : NamedLft) → IsSend (block.the_row a)
+block_send a = search (cmd_send, exit_send, leaving) depth 60 fits 20000
+
+atoms_send : IsSend (atoms.the_field).row
+atoms_send = search (knot_form.crosses, knot_expr.crosses, leaving) depth 60 fits 20000
+
+pub prepared_send : (a : NamedLft) → IsSend (prepared.the_row a)
+prepared_send a = search (block_send, sort.the_send, atoms_send, leaving) depth 60 fits 20000
+
+-- what the closure captures that prepares a piece
+pub preparing_sync : (name : List ℕ) (a b c : NamedLft) → IsSync (TupleAt name ((shr_ref_field a heap.the_row tt).row ∷ (shr_ref_field b resolved.the_row tt).row ∷ (shr_slice_field c (vec_row.the_row variable_row.the_row heap.the_row ghosts) tt).row ∷ []))
+preparing_sync name a b c = search (resolved_sync, variable.the_sync, parts) depth 60 fits 20000

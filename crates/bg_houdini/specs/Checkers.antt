@@ -24,6 +24,11 @@ pub record ArePrepared (p : r.Program) (count : ℕ) (ws : List Prepared) : Type
   pub count_is : length ws ≡ count
   pub each : (k : ℕ) (w : Prepared) → slice_get ws k ≡ Some w → IsPrepared p k w
 
+-- so many implementations, the first of which has this number, prepared
+pub record IsPortion (p : r.Program) (first count : ℕ) (ws : List Prepared) : Type 0 where
+  pub count_is : length ws ≡ count
+  pub each : (k : ℕ) (w : Prepared) → slice_get ws k ≡ Some w → IsPrepared p (first + k) w
+
 -- implementations of the program, the first of which has this number, prepared
 pub record ArePreparedFrom (p : r.Program) (first : ℕ) (ws : List Prepared) : Type 0 where
   pub inside : first + length ws ≤ length p.implementations

@@ -41,7 +41,7 @@ pub fn infer<R: Threads + Sync, G: Gate>(
 {
     no_interpretation_is_needed_for_scalars();
     let callees = callees_of(alloc, program)?;
-    let checker = checker_of(alloc, program, &callees, budget)?;
+    let checker = checker_of(rt, alloc, program, &callees, budget, workers)?;
     let inferred = bg_rounds::infer(rt, alloc, &checker, gate, workers)?;
     let verdicts = judge_all(rt, alloc, &checker, &inferred.retained, workers)?;
     Ok(Outcome { inferred, verdicts })

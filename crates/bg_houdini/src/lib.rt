@@ -2,6 +2,7 @@
 #![tactic(auto)]
 
 mod answer;
+mod chunks;
 mod desk;
 mod inference;
 mod judging;

@@ -1,5 +1,5 @@
 //! What is made once for all checks of a program.
-ghost use Rattle.std.specs.Prelude.{◌≡◌, ◌++◌, ◌∷◌, [], true, cond, is_some, map, length, filter, IfOk, OnOk};
+ghost use Rattle.std.specs.Prelude.{◌≡◌, ◌+◌, ◌<◌, ◌≤◌, ◌++◌, ◌∷◌, [], true, cond, is_some, map, length, filter, IfOk, OnOk};
 ghost use Rattle.bg_ast.specs.Meaning.{meaning_of};
 ghost use Rattle.bg_ast.specs.Views.{program_of};
 ghost use Rattle.bg_sense.specs.Typed.{IsTyped};
@@ -9,8 +9,9 @@ ghost use Rattle.bg_fits.specs.Scalars.{is_over_scalars};
 ghost use Rattle.bg_places.specs.Placed.{place_in};
 ghost use Rattle.bg_places.specs.Views.{placed_in};
 ghost use Rattle.bg_houdini.specs.Tasks.{has_candidate, tasks_of};
-ghost use Rattle.bg_houdini.specs.Checkers.{ArePrepared, IsJudging};
+ghost use Rattle.bg_houdini.specs.Checkers.{IsPortion, ArePrepared, IsJudging};
 
+use crate::chunks::{joined, piece_size};
 use crate::judging::Judging;
 use bg_ast::resolved::{Resolved, Variable};
 use bg_places::laws::placed_are_places;
@@ -19,24 +20,61 @@ use bg_task::laws::proved_places_do_not_fail;
 use bg_task::{Prepared, count_candidates, prepare};
 use bg_tree::Budget;
 use std::alloc::{AllocError, Global};
+use std::thread;
+use std::thread::Threads;
 
-/// Each implementation, prepared.
-fn prepare_all<'p>(
+/// So many implementations, from the one with this number on, prepared.
+fn prepare_piece<'p>(
     alloc: Global,
     program: &'p Resolved,
     callees: &'p [Vec<Variable>],
+    first: usize,
+    count: usize,
 ) -> Result<Vec<Prepared<'p>>, AllocError>
     requires modified { IsModified (program_of program.now) callees.now }
     requires typed { IsTyped (meaning_of (program_of program.now)) }
     requires scalars { is_over_scalars true (meaning_of (program_of program.now)) ≡ true }
-    ensures { IfOk result (λ made. ArePrepared (program_of program.now) (length (program_of program.now).implementations) made.items) }
+    requires inside { first + count ≤ length program.now.implementations.items }
+    ensures { IfOk result (λ made. IsPortion (program_of program.now) first count made.items) }
 {
     let mut made = Vec::new(alloc);
-    for number in 0..program.implementations.len() {
-        let one = prepare(alloc, program, callees, number)?;
+    for k in 0..count {
+        let one = prepare(alloc, program, callees, first + k)?;
         made.push(one)?;
     }
     Ok(made)
+}
+
+/// Each implementation, prepared: in at most as many pieces as workers, each in a thread of its own where one can be made.
+fn prepare_all<'p, R: Threads + Sync>(
+    rt: &R,
+    alloc: Global,
+    program: &'p Resolved,
+    callees: &'p [Vec<Variable>],
+    workers: u32,
+) -> Result<Vec<Prepared<'p>>, AllocError>
+    requires modified { IsModified (program_of program.now) callees.now }
+    requires typed { IsTyped (meaning_of (program_of program.now)) }
+    requires scalars { is_over_scalars true (meaning_of (program_of program.now)) ≡ true }
+    requires workers { 0 < workers }
+    ensures { IfOk result (λ made. ArePrepared (program_of program.now) (length (program_of program.now).implementations) made.items) }
+{
+    let implementations = program.implementations.as_slice();
+    let size = piece_size(implementations.len(), workers);
+    let pieces = thread::map_chunks(
+        rt,
+        alloc,
+        implementations,
+        size,
+        &|first, piece|
+            requires modified { IsModified (program_of program.now) callees.now }
+            requires typed { IsTyped (meaning_of (program_of program.now)) }
+            requires scalars { is_over_scalars true (meaning_of (program_of program.now)) ≡ true }
+            requires inside { first + length piece.now ≤ length program.now.implementations.items }
+            ensures { IfOk result (λ made. IsPortion (program_of program.entry.now) first (length piece.entry.now) made.items) }
+        { prepare_piece(alloc, program, callees, first, piece.len()) },
+    )?;
+    joined(alloc, pieces)
 }
 
 /// Adds a place where it has a candidate.
@@ -71,24 +109,28 @@ fn listed(alloc: Global, program: &Resolved) -> Result<Vec<Place>, AllocError>
 }
 
 /// The checker of a typed program over truth values and whole numbers with numbers of its own, where these are what its procedures modify.
+/// Its implementations are prepared by at most so many workers.
 ///
 /// Only want of memory is an error; 2^32 places with a candidate count as such, and so do 2^32 incarnations or atoms of an implementation.
-pub fn checker_of<'p>(
+pub fn checker_of<'p, R: Threads + Sync>(
+    rt: &R,
     alloc: Global,
     program: &'p Resolved,
     callees: &'p [Vec<Variable>],
     budget: Budget,
+    workers: u32,
 ) -> Result<Judging<'p>, AllocError>
     requires modified { IsModified (program_of program.now) callees.now }
     requires typed { IsTyped (meaning_of (program_of program.now)) }
     requires scalars { is_over_scalars true (meaning_of (program_of program.now)) ≡ true }
     requires resolved { IsResolved (meaning_of (program_of program.now)) }
+    requires workers { 0 < workers }
     ensures stands { IfOk result IsJudging }
     ensures program { IfOk result (λ made. made.program.now ≡ program.now) }
     ensures budget { IfOk result (λ made. made.budget ≡ budget) }
 {
     proved_places_do_not_fail();
-    let prepared = prepare_all(alloc, program, callees)?;
+    let prepared = prepare_all(rt, alloc, program, callees, workers)?;
     let tasks = listed(alloc, program)?;
     if tasks.len() >= 4_294_967_296 {
         return Err(AllocError);

@@ -1,10 +1,10 @@
 //! What is known of the ordinary places under what is retained.
-ghost use Rattle.std.specs.Prelude.{◌≡◌, ◌<◌, ◌≤◌, ◌*◌, ◌++◌, length, take, drop, IfOk, OnOk};
+ghost use Rattle.std.specs.Prelude.{◌<◌, length, take, drop, IfOk};
 ghost use Rattle.bg_words.specs.Sets.{has};
 ghost use Rattle.bg_check.specs.Verdicts.{AreRightFrom, AreRightUnder, judged};
 ghost use Rattle.bg_houdini.specs.Checkers.{ArePreparedFrom, IsJudging, program_in};
-ghost use Rattle.bg_houdini.specs.Pieces.{IsWith, Joins};
 
+use crate::chunks::{joined, piece_size};
 use crate::judging::Judging;
 use crate::sets::truths_of;
 use bg_check::{Judged, judge_ordinary};
@@ -13,15 +13,6 @@ use bg_words::CandSet;
 use std::alloc::{AllocError, Global};
 use std::thread;
 use std::thread::Threads;
-
-/// How many of so many implementations a piece has, where at most this many pieces have all of them.
-fn piece_size(count: usize, pieces: u32) -> usize
-    requires { 0 < pieces }
-    ensures some { 0 < result }
-    ensures enough { count ≤ result * pieces }
-{
-    count.div_ceil(pieces as usize).max(1)
-}
 
 /// What is known of each ordinary place of the implementations that are prepared in a piece, the first of which has this number, under a
 /// set of candidates.
@@ -48,32 +39,6 @@ fn judge_piece(
             judging.budget,
         )?;
         made.push(one)?;
-    }
-    Ok(made)
-}
-
-/// Takes in what a piece has.
-fn take_in(
-    made: &mut Vec<Vec<Judged>>,
-    piece: Result<Vec<Vec<Judged>>, AllocError>,
-) -> Result<(), AllocError>
-    ensures { OnOk result (IsWith piece made.old.items made.new.items) }
-{
-    let mut more = piece?;
-    made.append(&mut more)?;
-    Ok(())
-}
-
-/// What the pieces have, one behind the other.
-fn joined(
-    alloc: Global,
-    pieces: Vec<Result<Vec<Vec<Judged>>, AllocError>>,
-) -> Result<Vec<Vec<Judged>>, AllocError>
-    ensures { IfOk result (λ made. Joins pieces.items made.items) }
-{
-    let mut made = Vec::new(alloc);
-    for piece in pieces {
-        take_in(&mut made, piece)?;
     }
     Ok(made)
 }

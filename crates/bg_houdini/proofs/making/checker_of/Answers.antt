@@ -5,7 +5,7 @@ use Rattle.bg_houdini.proofs.Members.{owed}
 use Rattle.bg_houdini.proofs.making.checker_of.Goals as goal
 
 pub returns-clause-stands : goal.returns-clause-stands
-returns-clause-stands c =
+returns-clause-stands g c =
     let p = meaning_of (program_of c.args.program.now) in
     record {
       typed = c.requires.typed;
