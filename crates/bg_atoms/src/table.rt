@@ -6,7 +6,7 @@ ghost use Rattle.bg_formula.specs.Atoms.{AtomOf, view_linear};
 ghost use Rattle.bg_atoms.specs.Worlds.{Begins, IsLiteral};
 ghost use Rattle.bg_atoms.specs.Made.{rows_in};
 ghost use Rattle.bg_atoms.specs.Listed.{add_row};
-ghost use Rattle.bg_atoms.specs.Tables.{literal_by, IsPut, IsTable};
+ghost use Rattle.bg_atoms.specs.Tables.{known_at, literal_by, IsPut, IsTable};
 ghost use Rattle.bg_atoms.specs.Growing.{Grows};
 
 use crate::named::sum;
@@ -29,6 +29,15 @@ fn put(known: &mut BTreeMap<Key, Literal>, at: Key, l: Literal) -> Result<(), Al
     if known.get(&at).is_some() {
         return Ok(());
     }
+    known.insert(at, l)?;
+    Ok(())
+}
+
+/// Keeps a literal at a key at which there is none.
+fn put_first(known: &mut BTreeMap<Key, Literal>, at: Key, l: Literal) -> Result<(), AllocError>
+    requires { known_at known.old (at.0.items, at.1) ≡ None }
+    ensures { OnOk result (IsPut (at.0.items, at.1) l known.old known.new) }
+{
     known.insert(at, l)?;
     Ok(())
 }
@@ -66,7 +75,7 @@ impl Table {
         };
         let atom = sum(base, count)?;
         let denial = key(alloc, &a.denial)?;
-        put(&mut self.known, at, Literal { atom, sign: true })?;
+        put_first(&mut self.known, at, Literal { atom, sign: true })?;
         put(&mut self.known, denial, Literal { atom, sign: false })?;
         self.rows.push(a)?;
         Ok(Literal { atom, sign: true })

@@ -1,5 +1,5 @@
 -- The blocks of a typed implementation are typed, all that they say included.
-use Rattle.std.proofs.Common.{◌≡◌, ℕ, zero, suc, Bool, true, false, List, [], ◌∷◌, ◌++◌, length, map, Some, refl, sym, ap, ◌∙◌, subst, arith}
+use Rattle.std.proofs.Common.{◌≡◌, ℕ, zero, suc, Bool, true, false, List, [], ◌∷◌, ◌++◌, map, Some, refl, sym, ap, ◌∙◌, subst, arith}
 use Rattle.std.specs.Prelude.{slice_get, All}
 use Rattle.bg_ast.specs.Values.{Ty}
 use Rattle.bg_ast.specs.Syntax.{Var, Global, Local, Ex, Clause, Guard, Star, Test, Call, St, Skip, Then, Label, Assert, Assume, Havoc, Assign, Invoke, If, While, Break, Goto, Return, Decl, Proc, Prog}
@@ -8,12 +8,12 @@ use Rattle.bg_sense.specs.Types.{types_of}
 use Rattle.bg_sense.specs.Variables.{wheres_in, wheres_of, wheres_at, procedure_of, modified}
 use Rattle.bg_sense.specs.Typing.{Sig, sig_in, types_in, HaveTypes}
 use Rattle.bg_sense.specs.Typed.{AreLinear, HasNoOld, IsFormula, IsGuard, Around, IsTypedCall, IsTypedStatement, AreTypedDecls, IsTypedProc}
-use Rattle.bg_flow.specs.Core.{Demand, Saying, Head, Core, Nil, Seq, Mark, Do, To, Choose, Loop, still, demands, demands_if, sayings, sayings_if, each_one, the_checked, the_free, plain, plan_of, calls_of, desugar}
-use Rattle.bg_flow.specs.Blocks.{Places, past, next_one, code, to_closing, blocks_of}
+use Rattle.bg_flow.specs.Core.{Demand, Saying, Suppose, Head, Core, Nil, Seq, Mark, Do, To, Choose, Loop, still, demands, demands_if, sayings, sayings_if, each_one, the_checked, the_free, plain, plan_of, calls_of, desugar}
+use Rattle.bg_flow.specs.Blocks.{Coded, closed, skipped, turned, code, at_end, blocks_of}
 use Rattle.bg_passive.specs.Incarnations.{ty_of}
 use Rattle.bg_block_types.specs.TypedFlow.{sig_with, sig_here, DemandsAreTyped, SayingsAreTyped, PlanIsTyped, CmdsAreTyped, GuardIsTyped, CodeIsTyped}
 use Rattle.bg_block_types.proofs.Renamed.{formula_wider}
-use Rattle.bg_block_types.proofs.Commands.{blocks_append}
+use Rattle.bg_block_types.proofs.Commands.{led_typed}
 
 pub all_tail : {A : Type 0} (P : A → Type 0) (x : A) (xs : List A) → All P (x ∷ xs) → All P xs
 all_tail P x xs h = λ k d l. h (suc k) d (omega arith)
@@ -113,20 +113,16 @@ module _ (p : Prog) (ds : List Decl) where
   GoodCore (Loop h e a) = GoodHead h × (GuardIsTyped p ds e × GoodCore a)
   GoodCore _ = Unit {0}
 
-  pub code_good : (s : Core) (i : Places) → GoodCore s → CodeIsTyped p ds (code s i).blocks
-  code_good Nil i h = tt
-  code_good (Seq a b) i h =
-      let cb = code b i in
-      blocks_append p ds (code a cb.entry).blocks cb.blocks (code_good a cb.entry h.0) (code_good b i h.1)
-  code_good (Mark q) i h = tt
-  code_good (Do ks) i h = ((h, tt), tt)
-  code_good (To qs) i h = ((tt, tt), tt)
-  code_good (Choose e a b) i h =
-      let cb = code b i in
-      let j = next_one (past (length cb.blocks) i) in
-      ((tt, h.0), blocks_append p ds (code a j).blocks _ (code_good a j h.1.0) ((tt, tt), code_good b i h.1.1))
-  code_good (Loop hd e a) i h =
-      (((h.0.0, (tt, (h.0.1.0, (h.0.1.1.0, tt)))), h.1.0), blocks_append p ds (code a (next_one i)).blocks _ (code_good a (next_one i) h.1.1) (((h.0.1.1.1, (tt, tt)), tt), tt))
+  pub code_good : (s : Core) (t : Coded) → GoodCore s → CodeIsTyped p ds t.blocks → CodeIsTyped p ds (code s t).blocks
+  code_good Nil t h k = k
+  code_good (Seq a b) t h k = code_good a (code b t) h.0 (code_good b t h.1 k)
+  code_good (Mark q) t h k = k
+  code_good (Do ks) t h k = led_typed p ds t.takes_in ks t.blocks h k
+  code_good (To qs) t h k = ((tt, tt), k)
+  code_good (Choose e a b) t h k =
+      ((tt, h.0), code_good a (skipped t (code b (closed t))) h.1.0 ((tt, tt), code_good b (closed t) h.1.1 k))
+  code_good (Loop hd e a) t h k =
+      (((h.0.0, (tt, (h.0.1.0, (h.0.1.1.0, tt)))), h.1.0), code_good a (turned hd t) h.1.1 (((h.0.1.1.1, (tt, tt)), tt), k))
 
 -- ---- bodies
 
@@ -208,4 +204,6 @@ module _ (p : Prog) (q : Proc) (ds : List Decl) (gsay : GoodList (sig_with p (ty
   -- the blocks of a routine with this body
   pub routine_good : (s : St) (given : List Saying) (wanted : List Demand) → IsTypedStatement around [] [] s → SayingsAreTyped sig given → DemandsAreTyped sig wanted → CodeIsTyped p ds (blocks_of (record { given = given; body = desugar p ds s; wanted = wanted }))
   routine_good s given wanted h a b =
-      (((a, tt), tt), blocks_append p ds (code (desugar p ds s) to_closing).blocks _ (code_good p ds (desugar p ds s) to_closing (desugar_good s [] [] h)) (((b, tt), tt), tt))
+      let body = code (desugar p ds s) (at_end wanted) in
+      led_typed p ds body.takes_in (Suppose given ∷ []) body.blocks (a, tt)
+      (code_good p ds (desugar p ds s) (at_end wanted) (desugar_good s [] [] h) (((b, tt), tt), tt))

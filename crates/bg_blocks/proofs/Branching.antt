@@ -1,7 +1,7 @@
 -- Branches and loops, by the states in which their parts are made.
-use Rattle.std.proofs.Common.{◌≡◌, ℕ, zero, suc, ◌+◌, ◌≤◌, ◌<◌, List, [], ◌∷◌, ◌++◌, length, map, take, drop, replicate, refl, sym, ap, ◌∙◌, arith}
-use Rattle.std.specs.Prelude.{get_or}
-use Rattle.std.proofs.lemmas.List.{length-append, length-replicate}
+use Rattle.std.proofs.Common.{◌≡◌, ℕ, zero, suc, ◌+◌, ◌<◌, false, List, [], ◌∷◌, ◌++◌, length, map, take, drop, refl, sym, ap, ◌∙◌, arith}
+use Rattle.std.specs.Prelude.{get_or, reverse}
+use Rattle.std.proofs.lemmas.List.{length-append}
 use Rattle.bg_ast.specs.Syntax as s
 use Rattle.bg_ast.specs.Resolved as r
 use Rattle.bg_ast.specs.Views.{arm_view, arms_from}
@@ -11,10 +11,10 @@ use Rattle.bg_flow.specs.Core.{Core, Seq, Mark, Choose, Loop, Head}
 use Rattle.bg_blocks.specs.declared.emit.Emitted as code
 use Rattle.bg_blocks.specs.Marks.{key, undone}
 use Rattle.bg_blocks.specs.MarkViews.{marked}
-use Rattle.bg_blocks.specs.Emitted.{State, IsBounded, marked_at, marked_each, with_marks_of, Emits}
-use Rattle.bg_blocks.specs.EmittedViews.{state_of}
-use Rattle.bg_blocks.proofs.Where.{bounded_marked}
+use Rattle.bg_blocks.specs.Emitted.{State, marked_at, marked_each, with_marks_of, Emits}
+use Rattle.bg_blocks.specs.EmittedViews.{made_of, state_of}
 use Rattle.bg_blocks.proofs.Emission.{emits_seq, emits_mark}
+use Rattle.bg_blocks.proofs.Reading.{same_state}
 
 pub drop_front : {A : Type 0} (xs ys : List A) → drop (length xs) (xs ++ ys) ≡ ys
 drop_front [] ys = refl
@@ -24,30 +24,18 @@ pub take_front : {A : Type 0} (xs ys : List A) → take (length xs) (xs ++ ys) �
 take_front [] ys = refl
 take_front (x ∷ xs) ys = ap (λ l. x ∷ l) (take_front xs ys)
 
-same_state : (s t : State) → s.blocks ≡ t.blocks → s.marks ≡ t.marks → s.undo ≡ t.undo → s ≡ t
-same_state s t b m u = rw (b, m, u) refl
-
 -- all marks since a state are taken back
 pub went_back : (p : r.Program) (core : Core) (s0 : State) (e f : code.Emitted) (n : ℕ) → Emits core s0 (state_of p e) → length s0.undo ≡ n →
-    marked f.marks ≡ undone (drop n e.marks.undo.items) (marked e.marks) → f.marks.undo.items ≡ take n e.marks.undo.items → f.blocks ≡ e.blocks →
+    marked f.marks ≡ undone (drop n e.marks.undo.items) (marked e.marks) → f.marks.undo.items ≡ take n e.marks.undo.items → f.blocks ≡ e.blocks → f.takes_in ≡ e.takes_in →
     state_of p f ≡ with_marks_of s0 (state_of p e)
-went_back p core s0 e f n x is ms us bs =
+went_back p core s0 e f n x is ms us bs os =
     let cut : drop n e.marks.undo.items ≡ x.extra = ap (drop n) x.kept ∙ (ap (λ k. drop k (s0.undo ++ x.extra)) (sym is) ∙ drop_front s0.undo x.extra) in
     let front : take n e.marks.undo.items ≡ s0.undo = ap (take n) x.kept ∙ (ap (λ k. take k (s0.undo ++ x.extra)) (sym is) ∙ take_front s0.undo x.extra) in
     same_state (state_of p f) (with_marks_of s0 (state_of p e))
-    (ap (λ v. (state_of p (record { blocks = v; marks = e.marks })).blocks) bs)
+    (ap (λ v. reverse (map (made_of p) v.items)) bs)
+    os
     (ms ∙ (ap (λ l. undone l (marked e.marks)) cut ∙ x.undoes))
     (us ∙ front)
-
--- there is a frame of each size
-pub frame_of_size : (n : ℕ) → (rs : List r.Declared) × (length rs ≡ n)
-frame_of_size n =
-    let d : r.Declared = record { name = record { pos = record { line = 0; column = 0 }; text = [] }; ty = r.BoolType (record { line = 0; column = 0 }) } in
-    (replicate n d, length-replicate n d)
-
--- no mark that was there is lost
-pub longer : (p : r.Program) (core : Core) (s0 : State) (e : code.Emitted) → Emits core s0 (state_of p e) → length s0.undo ≤ length e.marks.undo.items
-longer p core s0 e x = let more = ap length x.kept ∙ length-append s0.undo x.extra in omega (arith, more)
 
 pub each_blocks : (n k : ℕ) (s0 : State) → (marked_each n k s0).blocks ≡ s0.blocks
 each_blocks n zero s0 = refl
@@ -60,16 +48,16 @@ each_undo n (suc k) s0 =
     let rest = each_undo n k s0 in
     omega (arith, more, rest)
 
-pub each_bounded : (n k : ℕ) (s0 : State) → IsBounded s0 → IsBounded (marked_each n k s0)
-each_bounded n zero s0 h = h
-each_bounded n (suc k) s0 h = bounded_marked (Behind (n + k)) (marked_each n k s0) (each_bounded n k s0 h)
+-- jumps lead there
+pub each_closed : (n k j : ℕ) (s0 : State) → suc j ≡ k → (marked_each n k s0).takes_in ≡ false
+each_closed n k j s0 is = ap (λ i. (marked_each n i s0).takes_in) (sym is)
 
 -- a branch, and what lies behind it
-pub emits_branch : (g : s.Guard) (a b : Core) (n : ℕ) (s0 end : State) → IsBounded s0 → Emits (Choose g a b) (marked_at (Behind n) s0) end → Emits (Seq (Choose g a b) (Mark (Behind n))) s0 end
-emits_branch g a b n s0 end h x = emits_seq (Choose g a b) (Mark (Behind n)) s0 (marked_at (Behind n) s0) end (emits_mark (Behind n) s0 h) x
+pub emits_branch : (g : s.Guard) (a b : Core) (n : ℕ) (s0 end : State) → Emits (Choose g a b) (marked_at (Behind n) s0) end → Emits (Seq (Choose g a b) (Mark (Behind n))) s0 end
+emits_branch g a b n s0 end x = emits_seq (Choose g a b) (Mark (Behind n)) s0 (marked_at (Behind n) s0) end (emits_mark (Behind n) s0) x
 
-pub emits_turns : (head : Head) (g : s.Guard) (a : Core) (n : ℕ) (s0 end : State) → IsBounded s0 → Emits (Loop head g a) (marked_at (Behind n) s0) end → Emits (Seq (Loop head g a) (Mark (Behind n))) s0 end
-emits_turns head g a n s0 end h x = emits_seq (Loop head g a) (Mark (Behind n)) s0 (marked_at (Behind n) s0) end (emits_mark (Behind n) s0 h) x
+pub emits_turns : (head : Head) (g : s.Guard) (a : Core) (n : ℕ) (s0 end : State) → Emits (Loop head g a) (marked_at (Behind n) s0) end → Emits (Seq (Loop head g a) (Mark (Behind n))) s0 end
+emits_turns head g a n s0 end x = emits_seq (Loop head g a) (Mark (Behind n)) s0 (marked_at (Behind n) s0) end (emits_mark (Behind n) s0) x
 
 -- the arms from this one on
 pub arms_at : (arms : List Arm) (j : ℕ) (a : Arm) → j < length arms → a ≡ get_or arms j a → arms_from (map arm_view (drop j arms)) ≡ r.Arm (arm_view a).0 (arm_view a).1 (arms_from (map arm_view (drop (j + 1) arms)))

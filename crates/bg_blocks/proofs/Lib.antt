@@ -1,7 +1,7 @@
 pub mod Undoing
 pub mod Where
 pub mod Emission
-pub mod Soundness
+pub mod Reading
 pub mod Wheres
 pub mod Called
 pub mod Jumped

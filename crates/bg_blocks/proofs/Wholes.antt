@@ -1,7 +1,6 @@
 -- The blocks of an implementation: a body between the first and the last one.
-use Rattle.std.proofs.Common.{◌≡◌, ℕ, suc, ◌+◌, ◌-◌, List, [], ◌∷◌, ◌++◌, length, map, None, unwrap_or, refl, sym, ap, ◌∙◌, subst, arith}
-use Rattle.std.specs.Prelude.{reverse}
-use Rattle.std.proofs.lemmas.List.{length-append, length-map, map-append, reverse-append}
+use Rattle.std.proofs.Common.{◌≡◌, ℕ, ◌+◌, false, List, [], ◌∷◌, ◌++◌, length, map, None, unwrap_or, sym, ap, ◌∙◌}
+use Rattle.std.proofs.lemmas.List.{length-append, length-map, map-append}
 use Rattle.bg_ast.specs.Syntax as s
 use Rattle.bg_ast.specs.Resolved as r
 use Rattle.bg_ast.specs.Meaning.{meaning_of, named_of, decl_of, sts_of, impl_of, proc_of}
@@ -11,40 +10,31 @@ use Rattle.bg_ast.specs.declared.resolved.Procedure.{Procedure}
 use Rattle.bg_ast.specs.declared.resolved.Implementation.{Implementation}
 use Rattle.bg_ast.specs.declared.resolved.Stmt.{Stmt}
 use Rattle.bg_sense.specs.Variables.{wheres_of}
-use Rattle.bg_flow.specs.Core.{Core, Saying, Demand, Routine, demands, sayings, each_one, plain, desugar, frame_decls, routine_of}
-use Rattle.bg_flow.specs.Blocks.{Block, code, to_closing, blocks_of}
+use Rattle.bg_flow.specs.Core.{Core, Do, Cmd, Check, Saying, Demand, Routine, demands, sayings, each_one, plain, desugar, frame_decls, routine_of}
+use Rattle.bg_flow.specs.Blocks.{Block, Leap, Coded, doing, code, at_end, blocks_of}
 use Rattle.bg_blocks.specs.declared.block.Block as whole
 use Rattle.bg_blocks.specs.declared.emit.Emitted as emitted
 use Rattle.bg_blocks.specs.Marks.{Marked, key}
 use Rattle.bg_blocks.specs.MarkViews.{marked}
 use Rattle.bg_blocks.specs.Views.{clauses_in, block_of}
-use Rattle.bg_blocks.specs.Emitted.{State, IsBounded, where_in, pushed, Emits}
-use Rattle.bg_blocks.specs.EmittedViews.{state_of, IsSound, frame_of}
+use Rattle.bg_blocks.specs.Emitted.{State, coded, pushed, closed, Emits}
+use Rattle.bg_blocks.specs.EmittedViews.{state_of, frame_of}
 use Rattle.bg_blocks.specs.Whole.{AreBlocks}
-use Rattle.bg_blocks.proofs.Where.{same_places}
-use Rattle.bg_blocks.proofs.Soundness.{bounded_sound}
 use Rattle.bg_blocks.proofs.Wheres.{no_wheres}
 
 -- where nothing was marked each point lies at the last block
-first_places : (b : Block) (s0 : State) → s0.blocks ≡ [] → s0.marks ≡ (λ k. None) → where_in (pushed b s0) ≡ to_closing
-first_places b s0 none unmarked =
-    same_places _ _ (λ q. ap (λ l. suc (length l) - unwrap_or (s0.marks (key q)) 1) none ∙ ap (λ (f : Marked). 1 - unwrap_or (f (key q)) 1) unmarked)
+pub first_coded : (ds : List Demand) (s0 : State) → s0.blocks ≡ [] → s0.marks ≡ (λ k. None) → coded (closed (pushed (record { cmds = Check ds ∷ []; exit = Leap [] }) s0)) ≡ at_end ds
+first_coded ds s0 none unmarked =
+    let last : Block = record { cmds = Check ds ∷ []; exit = Leap [] } in
+    ap (λ (l : List Block). record { blocks = last ∷ l; from_end = λ p. unwrap_or (s0.marks (key p)) 1; takes_in = false }) none
+    ∙ ap (λ (f : Marked). record { blocks = last ∷ []; from_end = λ p. unwrap_or (f (key p)) 1; takes_in = false }) unmarked
 
-first_bounded : (b : Block) (s0 : State) → s0.marks ≡ (λ k. None) → IsBounded (pushed b s0)
-first_bounded b s0 unmarked k = let at = ap (λ (f : Marked). unwrap_or (f k) 1) unmarked in omega (arith, at)
-
--- the last block is sound
-pub first_sound : (p : r.Program) (b : Block) (e0 e1 : emitted.Emitted) → marked e0.marks ≡ (λ k. None) → state_of p e1 ≡ pushed b (state_of p e0) → IsSound e1
-first_sound p b e0 e1 unmarked is = bounded_sound p e1 (subst IsBounded (sym is) (first_bounded b (state_of p e0) unmarked))
-
-pub emits_whole : (p : r.Program) (core : Core) (a b : Block) (e0 e1 e2 e3 : emitted.Emitted) → (state_of p e0).blocks ≡ [] → marked e0.marks ≡ (λ k. None) →
-    state_of p e1 ≡ pushed b (state_of p e0) → Emits core (state_of p e1) (state_of p e2) → state_of p e3 ≡ pushed a (state_of p e2) →
-    (state_of p e3).blocks ≡ a ∷ ((code core to_closing).blocks ++ (b ∷ []))
-emits_whole p core a b e0 e1 e2 e3 none unmarked first x last =
-    let places : where_in (state_of p e1) ≡ to_closing = ap where_in first ∙ first_places b (state_of p e0) none unmarked in
-    let start : (state_of p e1).blocks ≡ b ∷ [] = ap (λ (t : State). t.blocks) first ∙ ap (λ l. b ∷ l) none in
-    ap (λ (t : State). t.blocks) last
-    ∙ ap (λ l. a ∷ l) (x.blocks ∙ (ap (λ w. (code core w).blocks ++ (state_of p e1).blocks) places ∙ ap (λ l. (code core to_closing).blocks ++ l) start))
+pub emits_whole : (p : r.Program) (core : Core) (given : List Cmd) (ds : List Demand) (e0 e1 e2 e3 : emitted.Emitted) → (state_of p e0).blocks ≡ [] → marked e0.marks ≡ (λ k. None) →
+    state_of p e1 ≡ closed (pushed (record { cmds = Check ds ∷ []; exit = Leap [] }) (state_of p e0)) → Emits core (state_of p e1) (state_of p e2) → Emits (Do given) (state_of p e2) (state_of p e3) →
+    (state_of p e3).blocks ≡ (doing given (code core (at_end ds))).blocks
+emits_whole p core given ds e0 e1 e2 e3 none unmarked first x last =
+    let start : coded (state_of p e1) ≡ at_end ds = ap coded first ∙ first_coded ds (state_of p e0) none unmarked in
+    ap (λ (u : Coded). u.blocks) (last.built ∙ ap (doing given) (x.built ∙ ap (code core) start))
 
 -- the variables of a frame: parameters, results and locals
 abbrev pub frame_in : Implementation → Procedure → List r.Declared
@@ -87,19 +77,14 @@ routine_same p number m q =
     ap (λ es. blocks_of (routine_in p number (frame_of p rs) body (plain es says) wanted)) (sym (nothing_given p rs))
     ∙ ap (λ ds. blocks_of (routine_in p number ds body (plain (wheres_of ((meaning_of p).globals ++ ds)) says) wanted)) (frame_same p m q)
 
-map_reverse : {A B : Type 0} (f : A → B) (xs : List A) → map f (reverse xs) ≡ reverse (map f xs)
-map_reverse f [] = refl
-map_reverse f (x ∷ xs) = ap (map f) (reverse-append (x ∷ []) xs) ∙ (map-append f (reverse xs) (x ∷ []) ∙ (ap (λ l. l ++ f x ∷ []) (map_reverse f xs) ∙ sym (reverse-append (f x ∷ []) (map f xs))))
-
 -- the blocks from the first one on
-pub reversed_whole : (p : r.Program) (number : ℕ) (m : Implementation) (q : Procedure) (e : emitted.Emitted) (made : List whole.Block) (body : List Stmt) → made ≡ reverse e.blocks.items → body ≡ m.body.items →
+pub whole_in_order : (p : r.Program) (number : ℕ) (m : Implementation) (q : Procedure) (e : emitted.Emitted) (made : List whole.Block) (body : List Stmt) → map (block_of p) made ≡ (state_of p e).blocks → body ≡ m.body.items →
     (state_of p e).blocks ≡ blocks_of (record { given = sayings each_one (clauses_in q.requires_.items); body = desugar (meaning_of p) (frame_of p (frame_in m q)) (sts_of (v.sts_in body)); wanted = demands (AtReturn number) (clauses_in q.ensures_.items) }) →
     AreBlocks p number (v.impl_of m) (v.proc_of q) made
-reversed_whole p number m q e made body is b h =
+whole_in_order p number m q e made body is b h =
     let says = sayings each_one (clauses_in q.requires_.items) in
     let wanted = demands (AtReturn number) (clauses_in q.ensures_.items) in
-    ap (map (block_of p)) is
-    ∙ (map_reverse (block_of p) e.blocks.items
+    is
     ∙ (h
     ∙ (ap (λ l. blocks_of (routine_in p number (frame_of p (frame_in m q)) (sts_of (v.sts_in l)) says wanted)) b
-    ∙ routine_same p number m q)))
+    ∙ routine_same p number m q))

@@ -1,5 +1,5 @@
 -- The blocks that lead past the parts of a branch and of a loop.
-use Rattle.std.specs.Prelude.{suc, ◌-◌, [], ◌∷◌, length}
+use Rattle.std.specs.Prelude.{◌-◌, [], ◌∷◌, length}
 use Rattle.bg_ast.specs.Syntax.{Guard}
 use Rattle.bg_flow.specs.Core.{Head, arrival, turn}
 use Rattle.bg_flow.specs.Blocks.{Block, Leap, Either}
@@ -9,9 +9,9 @@ use Rattle.bg_blocks.specs.Emitted.{State}
 abbrev pub skip_block : State → State → Block
 skip_block old new = record { cmds = []; exit = Leap ((length new.blocks - length old.blocks) ∷ []) }
 
--- in front of a branch: goes on where the guard holds, and else behind what was made since and the block that skips
+-- in front of a branch: goes on where the guard holds, and else behind what was made since
 abbrev pub branch_block : Guard → State → State → Block
-branch_block g old new = record { cmds = []; exit = Either g 0 (suc (length new.blocks - length old.blocks)) }
+branch_block g old new = record { cmds = []; exit = Either g 0 (length new.blocks - length old.blocks) }
 
 -- the end of a turn
 abbrev pub turn_block : Head → Block

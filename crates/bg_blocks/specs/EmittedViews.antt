@@ -1,21 +1,31 @@
 -- How the code's unfinished blocks are read.
-use Rattle.std.specs.Prelude.{◌≡◌, ℕ, ◌≤◌, List, length, map, reverse, unwrap_or, drop}
+use Rattle.std.specs.Prelude.{◌≡◌, ℕ, List, length, map, reverse}
 use Rattle.bg_ast.specs.Resolved as r
 use Rattle.bg_ast.specs.Meaning.{meaning_of, named_of, decl_of}
 use Rattle.bg_ast.specs.Syntax as s
 use Rattle.bg_sense.specs.Flow.{ToLabel}
 use Rattle.bg_flow.specs.Core.{desugar}
-use Rattle.bg_flow.specs.Blocks.{Places}
+use Rattle.bg_flow.specs.Blocks.{Block, Places}
+use Rattle.bg_blocks.specs.declared.block.Block as whole
 use Rattle.bg_blocks.specs.declared.emit.Emitted as code
-use Rattle.bg_blocks.specs.Marks.{ahead, undone}
+use Rattle.bg_blocks.specs.Marks.{ahead}
 use Rattle.bg_blocks.specs.MarkViews.{marked}
-use Rattle.bg_blocks.specs.Views.{block_of}
+use Rattle.bg_blocks.specs.Views.{cmd_of, exit_of}
 use Rattle.bg_blocks.specs.Emitted.{State, Emits}
 
--- the last block was made first
+-- of a block that is being made the last command was made first
+abbrev pub made_of : r.Program → whole.Block → Block
+made_of p b = record { cmds = reverse (map (cmd_of p) b.cmds.items); exit = exit_of b.exit }
+
+-- so was the last block
 abbrev pub state_of : r.Program → code.Emitted → State
 state_of p e =
-    record { blocks = reverse (map (block_of p) e.blocks.items); marks = marked e.marks; undo = e.marks.undo.items }
+    record {
+      blocks = reverse (map (made_of p) e.blocks.items);
+      takes_in = e.takes_in;
+      marks = marked e.marks;
+      undo = e.marks.undo.items;
+    }
 
 -- how far each point lies ahead
 abbrev pub ahead_in : code.Emitted → Places
@@ -23,14 +33,6 @@ ahead_in e = ahead (marked e.marks) (length e.blocks.items)
 
 unfoldable pub label_in : code.Emitted → ℕ → ℕ
 label_in e l = ahead_in e (ToLabel l)
-
--- no point lies behind what is there
-abbrev pub IsSound : code.Emitted → Type 0
-IsSound e = (k : ℕ) → unwrap_or (marked e.marks k) 1 ≤ length e.blocks.items
-
--- so many marks stand there and more, and where the later ones are taken back no point lies behind what is there
-abbrev pub IsLeft : ℕ → code.Emitted → Type 0
-IsLeft first e = (first ≤ length e.marks.undo.items) × ((k : ℕ) → unwrap_or (undone (drop first e.marks.undo.items) (marked e.marks) k) 1 ≤ length e.blocks.items)
 
 -- the declarations of a frame
 abbrev pub frame_of : r.Program → List r.Declared → List s.Decl

@@ -4,14 +4,14 @@ use Rattle.bg_ast.specs.Syntax as s
 use Rattle.bg_ast.specs.Resolved as r
 use Rattle.bg_ast.specs.Meaning.{meaning_of, named_of, impl_of, proc_of}
 use Rattle.bg_ast.specs.Execution.{AtReturn}
-use Rattle.bg_flow.specs.Core.{Check, Suppose, demands, sayings, each_one, routine_of}
+use Rattle.bg_flow.specs.Core.{Cmd, Check, Suppose, demands, sayings, each_one, routine_of}
 use Rattle.bg_flow.specs.Blocks.{Block, Leap, blocks_of}
 use Rattle.bg_blocks.specs.declared.block.Block as whole
 use Rattle.bg_blocks.specs.Views.{block_of}
 
 -- at the start the preconditions are assumed
-abbrev pub opening : List s.Clause → Block
-opening ks = record { cmds = Suppose (sayings each_one ks) ∷ []; exit = Leap (0 ∷ []) }
+abbrev pub opening : List s.Clause → List Cmd
+opening ks = Suppose (sayings each_one ks) ∷ []
 
 -- at the end the postconditions are checked
 abbrev pub closing : ℕ → List s.Clause → Block

@@ -9,7 +9,7 @@ ghost use Rattle.bg_flow.specs.Core.{head_of, arrival, turn};
 ghost use Rattle.bg_flow.specs.Blocks.{Leap, Either};
 ghost use Rattle.bg_blocks.specs.Views.{cmd_of, clauses_in};
 ghost use Rattle.bg_blocks.specs.Emitted.{pushed, marked_at};
-ghost use Rattle.bg_blocks.specs.EmittedViews.{state_of, IsSound};
+ghost use Rattle.bg_blocks.specs.EmittedViews.{state_of};
 
 use crate::block::{Cmd, Exit, Kept};
 use crate::emit::{Emitted, mark, push};
@@ -21,16 +21,14 @@ use std::alloc::{AllocError, Global};
 /// Behind the loop or conditional with this number lies what is there.
 pub fn mark_behind(state: &mut Emitted<'_>, number: u128) -> Result<(), AllocError>
     requires { number < 2 ^ 64 + 2 ^ 32 }
-    ensures sound { OnOk result (IsSound state.old → IsSound state.new) }
-    ensures state { OnOk result ((p : Program) → state_of p state.new ≡ marked_at (Behind number) (state_of p state.old)) }
+    ensures { OnOk result ((p : Program) → state_of p state.new ≡ marked_at (Behind number) (state_of p state.old)) }
 {
     mark(state, behind_key(number))
 }
 
 /// A block that skips so many.
 pub fn skip_branch(alloc: Global, state: &mut Emitted<'_>, count: usize) -> Result<(), AllocError>
-    ensures sound { OnOk result (IsSound state.old → IsSound state.new) }
-    ensures state { OnOk result ((p : Program) → state_of p state.new ≡ pushed (record { cmds = []; exit = Leap (count ∷ []) }) (state_of p state.old)) }
+    ensures { OnOk result ((p : Program) → state_of p state.new ≡ pushed (record { cmds = []; exit = Leap (count ∷ []) }) (state_of p state.old)) }
 {
     let to = one(alloc, count)?;
     push(state, Vec::new(alloc), Exit::Leap(to))
@@ -43,8 +41,7 @@ pub fn take_branch<'p>(
     guard: &'p Guard,
     count: usize,
 ) -> Result<(), AllocError>
-    ensures sound { OnOk result (IsSound state.old → IsSound state.new) }
-    ensures state { OnOk result ((p : Program) → state_of p state.new ≡ pushed (record { cmds = []; exit = Either (m.guard_of (guard_of guard.now)) 0 count }) (state_of p state.old)) }
+    ensures { OnOk result ((p : Program) → state_of p state.new ≡ pushed (record { cmds = []; exit = Either (m.guard_of (guard_of guard.now)) 0 count }) (state_of p state.old)) }
 {
     push(state, Vec::new(alloc), Exit::Either(guard, 0, count))
 }
@@ -62,8 +59,7 @@ pub fn turn_of_loop<'p>(
     state: &mut Emitted<'p>,
     invariants: &'p [Clause],
 ) -> Result<(), AllocError>
-    ensures sound { OnOk result (IsSound state.old → IsSound state.new) }
-    ensures state { OnOk result ((p : Program) (xs : List s.Var) → state_of p state.new ≡ pushed (record { cmds = turn (head_of (clauses_in invariants.now) xs); exit = Leap (0 ∷ []) }) (state_of p state.old)) }
+    ensures { OnOk result ((p : Program) (xs : List s.Var) → state_of p state.new ≡ pushed (record { cmds = turn (head_of (clauses_in invariants.now) xs); exit = Leap (0 ∷ []) }) (state_of p state.old)) }
 {
     let cmds = turned(alloc, invariants)?;
     let on = one(alloc, 0)?;
@@ -101,8 +97,7 @@ pub fn head_of_loop<'p>(
     forgotten: Vec<Variable>,
     count: usize,
 ) -> Result<(), AllocError>
-    ensures sound { OnOk result (IsSound state.old → IsSound state.new) }
-    ensures state { OnOk result ((p : Program) → state_of p state.new ≡ pushed (record { cmds = arrival (head_of (clauses_in head.entry.invariants.now) (map var_of forgotten.items)); exit = Either (m.guard_of (guard_of head.entry.guard.now)) 0 count }) (state_of p state.old)) }
+    ensures { OnOk result ((p : Program) → state_of p state.new ≡ pushed (record { cmds = arrival (head_of (clauses_in head.entry.invariants.now) (map var_of forgotten.items)); exit = Either (m.guard_of (guard_of head.entry.guard.now)) 0 count }) (state_of p state.old)) }
 {
     let cmds = arrived(alloc, head.invariants, forgotten)?;
     push(state, cmds, Exit::Either(head.guard, 0, count))

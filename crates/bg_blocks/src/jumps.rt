@@ -11,7 +11,7 @@ ghost use Rattle.bg_flow.specs.Blocks.{to_points};
 ghost use Rattle.bg_blocks.specs.Callees.{IsModified};
 ghost use Rattle.bg_blocks.specs.Views.{cmd_of};
 ghost use Rattle.bg_blocks.specs.Emitted.{Emits};
-ghost use Rattle.bg_blocks.specs.EmittedViews.{state_of, ahead_in, label_in, IsSound, EmitsBody};
+ghost use Rattle.bg_blocks.specs.EmittedViews.{state_of, ahead_in, label_in, EmitsBody};
 
 use crate::block::{Cmd, Exit};
 use crate::emit::{Emitted, ahead, push};
@@ -43,9 +43,7 @@ fn end_ahead(state: &Emitted<'_>) -> usize
 
 /// A block that leads to these.
 fn leap(alloc: Global, state: &mut Emitted<'_>, to: Vec<usize>) -> Result<(), AllocError>
-    requires { IsSound state.old }
-    ensures sound { OnOk result (IsSound state.new) }
-    ensures emits { OnOk result ((p : Program) (ps : List Point) → to.items ≡ to_points (ahead_in state.old) ps → Emits (To ps) (state_of p state.old) (state_of p state.new)) }
+    ensures { OnOk result ((p : Program) (ps : List Point) → to.items ≡ to_points (ahead_in state.old) ps → Emits (To ps) (state_of p state.old) (state_of p state.new)) }
 {
     push(state, Vec::new(alloc), Exit::Leap(to))
 }
@@ -74,9 +72,7 @@ fn jumps_to(alloc: Global, state: &Emitted<'_>, labels: &[u32]) -> Result<Vec<us
 
 /// A jump to one of these labels.
 pub fn jump(alloc: Global, state: &mut Emitted<'_>, labels: &[u32]) -> Result<(), AllocError>
-    requires { IsSound state.old }
-    ensures sound { OnOk result (IsSound state.new) }
-    ensures emits { OnOk result ((p : Program) (frame : ℕ) → EmitsBody p frame (s.Goto labels.now) state.old state.new) }
+    ensures { OnOk result ((p : Program) (frame : ℕ) → EmitsBody p frame (s.Goto labels.now) state.old state.new) }
 {
     let to = jumps_to(alloc, state, labels)?;
     leap(alloc, state, to)
@@ -84,9 +80,7 @@ pub fn jump(alloc: Global, state: &mut Emitted<'_>, labels: &[u32]) -> Result<()
 
 /// A jump behind the loop or conditional with this number.
 pub fn leave(alloc: Global, state: &mut Emitted<'_>, number: u32) -> Result<(), AllocError>
-    requires { IsSound state.old }
-    ensures sound { OnOk result (IsSound state.new) }
-    ensures emits { OnOk result ((p : Program) (frame : ℕ) → EmitsBody p frame (s.Break number) state.old state.new) }
+    ensures { OnOk result ((p : Program) (frame : ℕ) → EmitsBody p frame (s.Break number) state.old state.new) }
 {
     let to = one(alloc, behind_ahead(state, number))?;
     leap(alloc, state, to)
@@ -94,9 +88,7 @@ pub fn leave(alloc: Global, state: &mut Emitted<'_>, number: u32) -> Result<(), 
 
 /// A jump to the end.
 pub fn finish(alloc: Global, state: &mut Emitted<'_>) -> Result<(), AllocError>
-    requires { IsSound state.old }
-    ensures sound { OnOk result (IsSound state.new) }
-    ensures emits { OnOk result ((p : Program) (frame : ℕ) → EmitsBody p frame s.Return state.old state.new) }
+    ensures { OnOk result ((p : Program) (frame : ℕ) → EmitsBody p frame s.Return state.old state.new) }
 {
     let to = one(alloc, end_ahead(state))?;
     leap(alloc, state, to)
@@ -130,10 +122,8 @@ pub fn call<'p>(
     state: &mut Emitted<'p>,
     k: &'p Call,
 ) -> Result<(), AllocError>
-    requires modified { IsModified (program_of program.now) callees.now }
-    requires sound { IsSound state.old }
-    ensures sound { OnOk result (IsSound state.new) }
-    ensures emits { OnOk result ((frame : ℕ) → EmitsBody (program_of program.now) frame (s.Invoke (m.call_of (call_of k.now))) state.old state.new) }
+    requires { IsModified (program_of program.now) callees.now }
+    ensures { OnOk result ((frame : ℕ) → EmitsBody (program_of program.now) frame (s.Invoke (m.call_of (call_of k.now))) state.old state.new) }
 {
     let cmds = performing(alloc, program, callees, k)?;
     single(alloc, state, cmds)

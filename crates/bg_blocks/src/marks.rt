@@ -1,5 +1,5 @@
 //! Where points lie, with what was there before.
-ghost use Rattle.std.specs.Prelude.{◌≡◌, ◌≤◌, ◌++◌, [], ◌∷◌, Some, None, length, take, drop, unwrap_or, OnOk, IfOk};
+ghost use Rattle.std.specs.Prelude.{◌≡◌, ◌++◌, [], ◌∷◌, Some, None, take, drop, unwrap_or, OnOk, IfOk};
 ghost use Rattle.bg_blocks.specs.Marks.{set_to, undone};
 ghost use Rattle.bg_blocks.specs.MarkViews.{marked};
 
@@ -63,7 +63,6 @@ impl Marks {
 
     /// Takes all marks back but the first ones.
     pub fn undo_to(&mut self, first: usize) -> Result<(), AllocError>
-        requires { first ≤ length self.old.undo.items }
         ensures marks { OnOk result (marked self.new ≡ undone (drop first self.old.undo.items) (marked self.old)) }
         ensures undo { OnOk result (self.new.undo.items ≡ take first self.old.undo.items) }
     {

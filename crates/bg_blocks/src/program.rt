@@ -1,21 +1,21 @@
 //! The blocks of an implementation.
-ghost use Rattle.std.specs.Prelude.{◌≡◌, ◌+◌, List, Some, map, length, slice_get, OnOk, IfOk};
+ghost use Rattle.std.specs.Prelude.{◌≡◌, ◌+◌, List, Some, map, length, reverse, slice_get, OnOk, IfOk};
 ghost use Rattle.bg_ast.specs.Resolved as r;
 ghost use Rattle.bg_ast.specs.Meaning as m;
 ghost use Rattle.bg_ast.specs.Execution.{AtReturn};
 ghost use Rattle.bg_ast.specs.Views.{program_of, impl_of, proc_of, sts_in};
-ghost use Rattle.bg_flow.specs.Core.{desugar, demands, sayings, each_one};
+ghost use Rattle.bg_flow.specs.Core.{Do, desugar, demands, sayings, each_one};
 ghost use Rattle.bg_flow.specs.Blocks.{blocks_of};
 ghost use Rattle.bg_blocks.specs.Callees.{IsModified};
-ghost use Rattle.bg_blocks.specs.Views.{clauses_in};
-ghost use Rattle.bg_blocks.specs.Emitted.{pushed};
-ghost use Rattle.bg_blocks.specs.EmittedViews.{state_of, frame_of};
+ghost use Rattle.bg_blocks.specs.Views.{clauses_in, block_of};
+ghost use Rattle.bg_blocks.specs.Emitted.{pushed, closed, Emits};
+ghost use Rattle.bg_blocks.specs.EmittedViews.{made_of, state_of, frame_of};
 ghost use Rattle.bg_blocks.specs.Whole.{opening, closing, AreBlocks};
 
 use crate::block::{Block, Cmd, Exit, Kept};
 use crate::emit::{Emitted, push};
 use crate::marks::Marks;
-use crate::simple::one;
+use crate::simple::{one, single};
 use crate::stmts::{Around, stmts};
 use bg_ast::resolved::{Implementation, Procedure, Resolved, Stmt, Variable};
 use bg_places::Group;
@@ -31,29 +31,30 @@ fn frame_size(m: &Implementation, q: &Procedure) -> Result<usize, AllocError>
     }
 }
 
-/// The last block, which checks the postconditions.
+/// The last block, which checks the postconditions. All jumps to the end lead there.
 fn close<'p>(
     alloc: Global,
     state: &mut Emitted<'p>,
     number: usize,
     q: &'p Procedure,
 ) -> Result<(), AllocError>
-    ensures { OnOk result ((p : r.Program) → state_of p state.new ≡ pushed (closing number (clauses_in q.now.ensures_.items)) (state_of p state.old)) }
+    ensures { OnOk result ((p : r.Program) → state_of p state.new ≡ closed (pushed (closing number (clauses_in q.now.ensures_.items)) (state_of p state.old))) }
 {
     let cmds = one(alloc, Cmd::Check(Group::Return(number), &q.ensures_))?;
-    push(state, cmds, Exit::Leap(Vec::new(alloc)))
+    push(state, cmds, Exit::Leap(Vec::new(alloc)))?;
+    state.takes_in = false;
+    Ok(())
 }
 
-/// The first block, which assumes the preconditions.
+/// At first the preconditions are assumed.
 fn open<'p>(alloc: Global, state: &mut Emitted<'p>, q: &'p Procedure) -> Result<(), AllocError>
-    ensures { OnOk result ((p : r.Program) → state_of p state.new ≡ pushed (opening (clauses_in q.now.requires_.items)) (state_of p state.old)) }
+    ensures { OnOk result ((p : r.Program) → Emits (Do (opening (clauses_in q.now.requires_.items))) (state_of p state.old) (state_of p state.new)) }
 {
     let cmds = one(alloc, Cmd::Suppose(Kept::Each, &q.requires_))?;
-    let on = one(alloc, 0)?;
-    push(state, cmds, Exit::Leap(on))
+    single(alloc, state, cmds)
 }
 
-/// The blocks of a body between the first and the last one.
+/// The blocks of a body, with what is assumed at first and checked at the end.
 fn emitted<'p>(
     around: Around<'p>,
     number: usize,
@@ -66,12 +67,34 @@ fn emitted<'p>(
 {
     let mut state = Emitted {
         blocks: Vec::new(around.alloc),
+        takes_in: false,
         marks: Marks::new(around.alloc),
     };
     close(around.alloc, &mut state, number, q)?;
     stmts(around, &mut state, body)?;
     open(around.alloc, &mut state, q)?;
     Ok(state)
+}
+
+/// A block whose commands stand in their order.
+fn finished(block: Block<'_>) -> Block<'_>
+    ensures { (p : r.Program) → block_of p result ≡ made_of p block.entry }
+{
+    let mut made = block;
+    made.cmds.reverse();
+    made
+}
+
+/// Blocks that were made from the last one on, in their order.
+fn in_order<'p>(alloc: Global, blocks: Vec<Block<'p>>) -> Result<Vec<Block<'p>>, AllocError>
+    ensures { IfOk result (λ made. (p : r.Program) → map (block_of p) made.items ≡ reverse (map (made_of p) blocks.entry.items)) }
+{
+    let mut left = blocks;
+    let mut made = Vec::new(alloc);
+    while let Some(block) = left.pop() {
+        made.push(finished(block))?;
+    }
+    Ok(made)
 }
 
 /// The blocks of an implementation of this procedure.
@@ -86,9 +109,7 @@ fn whole<'p>(
     ensures { IfOk result (λ made. AreBlocks (program_of around.entry.program.now) number (impl_of m.now) (proc_of q.now) made.items) }
 {
     let state = emitted(around, number, q, &m.body)?;
-    let mut made = state.blocks;
-    made.reverse();
-    Ok(made)
+    in_order(around.alloc, state.blocks)
 }
 
 /// The blocks of the implementation with this number, where it and its procedure are there.

@@ -7,7 +7,7 @@ ghost use Rattle.bg_flow.specs.Core.{Core, head_of};
 ghost use Rattle.bg_blocks.specs.Views.{clauses_in};
 ghost use Rattle.bg_blocks.specs.Emitted.{State, pushed, with_marks_of, Emits};
 ghost use Rattle.bg_blocks.specs.Decided.{skip_block, branch_block, turn_block, head_block};
-ghost use Rattle.bg_blocks.specs.EmittedViews.{state_of, IsSound, IsLeft};
+ghost use Rattle.bg_blocks.specs.EmittedViews.{state_of};
 
 use crate::branches::{Head, head_of_loop, skip_branch, take_branch};
 use crate::emit::{Emitted, go_back};
@@ -21,10 +21,7 @@ pub fn skip_side(
     start: usize,
     first: usize,
 ) -> Result<(), AllocError>
-    requires { IsLeft first state.old }
-    ensures sound { OnOk result (IsSound state.new) }
-    ensures undo { OnOk result (length state.new.marks.undo.items ≡ first) }
-    ensures state { OnOk result ((p : Program) (b : Core) (before : State) → length before.blocks ≡ start → length before.undo ≡ first → Emits b before (state_of p state.old) →
+    ensures { OnOk result ((p : Program) (b : Core) (before : State) → length before.blocks ≡ start → length before.undo ≡ first → Emits b before (state_of p state.old) →
         state_of p state.new ≡ pushed (skip_block before (state_of p state.old)) (with_marks_of before (state_of p state.old))) }
 {
     go_back(state, first)?;
@@ -32,7 +29,7 @@ pub fn skip_side(
     skip_branch(alloc, state, made)
 }
 
-/// Goes on where the guard holds, and else behind what was made since there were so many blocks and marks, and one more.
+/// Goes on where the guard holds, and else behind what was made since there were so many blocks. There were so many marks.
 pub fn decide<'p>(
     alloc: Global,
     state: &mut Emitted<'p>,
@@ -40,14 +37,12 @@ pub fn decide<'p>(
     start: usize,
     first: usize,
 ) -> Result<(), AllocError>
-    requires { IsLeft first state.old }
-    ensures sound { OnOk result (IsSound state.new) }
-    ensures state { OnOk result ((p : Program) (a : Core) (before : State) → length before.blocks ≡ start → length before.undo ≡ first → Emits a before (state_of p state.old) →
-        state_of p state.new ≡ pushed (branch_block (m.guard_of (guard_of guard.now)) before (state_of p state.old)) (with_marks_of before (state_of p state.old))) }
+    ensures { OnOk result ((p : Program) (a : Core) (off before : State) → length off.blocks ≡ start → length before.undo ≡ first → Emits a before (state_of p state.old) →
+        state_of p state.new ≡ pushed (branch_block (m.guard_of (guard_of guard.now)) off (state_of p state.old)) (with_marks_of before (state_of p state.old))) }
 {
     go_back(state, first)?;
     let made = state.blocks.len().saturating_sub(start);
-    take_branch(alloc, state, guard, made + 1)
+    take_branch(alloc, state, guard, made)
 }
 
 /// The head of a loop whose turn was made since there were so many blocks and marks.
@@ -59,9 +54,7 @@ pub fn close_loop<'p>(
     start: usize,
     first: usize,
 ) -> Result<(), AllocError>
-    requires { IsLeft first state.old }
-    ensures sound { OnOk result (IsSound state.new) }
-    ensures state { OnOk result ((p : Program) (a : Core) (before : State) → length before.blocks ≡ start → length before.undo ≡ first → Emits a (pushed (turn_block (head_of (clauses_in head.entry.invariants.now) (map var_of forgotten.items))) before) (state_of p state.old) →
+    ensures { OnOk result ((p : Program) (a : Core) (before : State) → length before.blocks ≡ start → length before.undo ≡ first → Emits a (pushed (turn_block (head_of (clauses_in head.entry.invariants.now) (map var_of forgotten.items))) before) (state_of p state.old) →
         state_of p state.new ≡ pushed (head_block (m.guard_of (guard_of head.entry.guard.now)) (head_of (clauses_in head.entry.invariants.now) (map var_of forgotten.items)) before (state_of p state.old)) (with_marks_of before (state_of p state.old))) }
 {
     go_back(state, first)?;

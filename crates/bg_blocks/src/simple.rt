@@ -1,5 +1,5 @@
 //! The blocks of statements without statements inside.
-ghost use Rattle.std.specs.Prelude.{◌≡◌, ℕ, List, [], ◌∷◌, map, length, ◌<◌, ◌+◌, ◌^◌, OnOk, IfOk};
+ghost use Rattle.std.specs.Prelude.{◌≡◌, ℕ, true, List, [], ◌∷◌, map, length, ◌<◌, ◌+◌, ◌^◌, OnOk, IfOk};
 ghost use Rattle.bg_ast.specs.Syntax as s;
 ghost use Rattle.bg_ast.specs.Resolved.{Program};
 ghost use Rattle.bg_ast.specs.Meaning as m;
@@ -9,12 +9,12 @@ ghost use Rattle.bg_flow.specs.Core.{Do, To, Forget, Suppose};
 ghost use Rattle.bg_blocks.specs.Callees.{IsModified};
 ghost use Rattle.bg_blocks.specs.Marks.{key};
 ghost use Rattle.bg_blocks.specs.Views.{cmd_of, target_variable};
-ghost use Rattle.bg_blocks.specs.Emitted.{Emits, where_in, pushed};
-ghost use Rattle.bg_blocks.specs.EmittedViews.{state_of, IsSound, EmitsBody};
-ghost use Rattle.bg_flow.specs.Blocks.{to_points};
+ghost use Rattle.bg_blocks.specs.Emitted.{Emits, pushed, performed};
+ghost use Rattle.bg_blocks.specs.EmittedViews.{state_of, EmitsBody};
+ghost use Rattle.bg_flow.specs.Blocks.{Leap};
 
 use crate::block::{Cmd, Exit, Kept};
-use crate::emit::{Emitted, ahead, push};
+use crate::emit::{Emitted, push, take_in};
 use bg_ast::resolved::{Call, Clause, Expr, Placed, Procedure, Target, Variable};
 use bg_places::Group;
 use std::alloc::{AllocError, Global};
@@ -43,18 +43,42 @@ pub fn one<T: Drop>(alloc: Global, x: T) -> Result<Vec<T>, AllocError>
     Ok(made)
 }
 
-/// One block of commands, which leads on.
+/// Commands as a block that leads on.
+fn alone<'p>(alloc: Global, state: &mut Emitted<'p>, cmds: Vec<Cmd<'p>>) -> Result<(), AllocError>
+    ensures { OnOk result ((p : Program) → state_of p state.new ≡ pushed (record { cmds = map (cmd_of p) cmds.entry.items; exit = Leap (0 ∷ []) }) (state_of p state.old)) }
+{
+    let on = one(alloc, 0)?;
+    push(state, cmds, Exit::Leap(on))
+}
+
+/// Commands in front of those of the first block, which takes them in.
+fn lead<'p>(alloc: Global, state: &mut Emitted<'p>, cmds: Vec<Cmd<'p>>) -> Result<(), AllocError>
+    requires { state.old.takes_in ≡ true }
+    ensures { OnOk result ((p : Program) → state_of p state.new ≡ performed (map (cmd_of p) cmds.entry.items) (state_of p state.old)) }
+{
+    match state.blocks.pop() {
+        Some(first) => {
+            let more = take_in(first, cmds)?;
+            state.blocks.push(more)?;
+            Ok(())
+        }
+        None => alone(alloc, state, cmds),
+    }
+}
+
+/// Commands: in front of those of the first block where it takes them in, and else as a block that leads on.
 pub fn single<'p>(
     alloc: Global,
     state: &mut Emitted<'p>,
     cmds: Vec<Cmd<'p>>,
 ) -> Result<(), AllocError>
-    requires { IsSound state.old }
-    ensures sound { OnOk result (IsSound state.new) }
-    ensures emits { OnOk result ((p : Program) → Emits (Do (map (cmd_of p) cmds.entry.items)) (state_of p state.old) (state_of p state.new)) }
+    ensures { OnOk result ((p : Program) → Emits (Do (map (cmd_of p) cmds.entry.items)) (state_of p state.old) (state_of p state.new)) }
 {
-    let on = one(alloc, 0)?;
-    push(state, cmds, Exit::Leap(on))
+    if state.takes_in {
+        lead(alloc, state, cmds)
+    } else {
+        alone(alloc, state, cmds)
+    }
 }
 
 /// An assertion.
@@ -63,9 +87,7 @@ pub fn assertion<'p>(
     state: &mut Emitted<'p>,
     k: &'p Clause,
 ) -> Result<(), AllocError>
-    requires { IsSound state.old }
-    ensures sound { OnOk result (IsSound state.new) }
-    ensures emits { OnOk result ((p : Program) (frame : ℕ) → EmitsBody p frame (s.Assert (m.clause_of (clause_of k.now))) state.old state.new) }
+    ensures { OnOk result ((p : Program) (frame : ℕ) → EmitsBody p frame (s.Assert (m.clause_of (clause_of k.now))) state.old state.new) }
 {
     let cmds = one(alloc, Cmd::Check(Group::Assert, std::slice::from_ref(k)))?;
     single(alloc, state, cmds)
@@ -73,9 +95,7 @@ pub fn assertion<'p>(
 
 /// An assumption.
 pub fn assumption<'p>(alloc: Global, state: &mut Emitted<'p>, e: &'p Expr) -> Result<(), AllocError>
-    requires { IsSound state.old }
-    ensures sound { OnOk result (IsSound state.new) }
-    ensures emits { OnOk result ((p : Program) (frame : ℕ) → EmitsBody p frame (s.Assume (m.ex_of (ex_of e.now))) state.old state.new) }
+    ensures { OnOk result ((p : Program) (frame : ℕ) → EmitsBody p frame (s.Assume (m.ex_of (ex_of e.now))) state.old state.new) }
 {
     let cmds = one(alloc, Cmd::Assume(e))?;
     single(alloc, state, cmds)
@@ -102,9 +122,7 @@ fn forgetting<'p>(alloc: Global, xs: &[Placed]) -> Result<Vec<Cmd<'p>>, AllocErr
 
 /// Variables that take any values.
 pub fn havoc<'p>(alloc: Global, state: &mut Emitted<'p>, xs: &'p [Placed]) -> Result<(), AllocError>
-    requires { IsSound state.old }
-    ensures sound { OnOk result (IsSound state.new) }
-    ensures emits { OnOk result ((p : Program) (frame : ℕ) → EmitsBody p frame (s.Havoc (map m.variable_of (map placed_of xs.now))) state.old state.new) }
+    ensures { OnOk result ((p : Program) (frame : ℕ) → EmitsBody p frame (s.Havoc (map m.variable_of (map placed_of xs.now))) state.old state.new) }
 {
     let cmds = forgetting(alloc, xs)?;
     single(alloc, state, cmds)
@@ -117,9 +135,7 @@ pub fn assignment<'p>(
     targets: &'p [Target],
     values: &'p [Expr],
 ) -> Result<(), AllocError>
-    requires { IsSound state.old }
-    ensures sound { OnOk result (IsSound state.new) }
-    ensures emits { OnOk result ((p : Program) (frame : ℕ) → EmitsBody p frame (s.Assign (map target_variable (map target_of targets.now)) (m.values_of (map target_of targets.now) (exs_in values.now))) state.old state.new) }
+    ensures { OnOk result ((p : Program) (frame : ℕ) → EmitsBody p frame (s.Assign (map target_variable (map target_of targets.now)) (m.values_of (map target_of targets.now) (exs_in values.now))) state.old state.new) }
 {
     let cmds = one(alloc, Cmd::Put(targets, values))?;
     single(alloc, state, cmds)

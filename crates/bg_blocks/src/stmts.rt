@@ -1,13 +1,13 @@
 //! The blocks of statements, from the last one on.
-ghost use Rattle.std.specs.Prelude.{◌≡◌, ℕ, ◌≤◌, List, length, map, OnOk};
+ghost use Rattle.std.specs.Prelude.{◌≡◌, ℕ, false, List, length, map, OnOk};
 ghost use Rattle.bg_ast.specs.Syntax as s;
 ghost use Rattle.bg_ast.specs.Resolved as r;
 ghost use Rattle.bg_ast.specs.Meaning as m;
 ghost use Rattle.bg_ast.specs.Views.{program_of, st_of, sts_in, arms_from, arm_view, guard_of, clause_of};
 ghost use Rattle.bg_flow.specs.Core.{Core, Choose, desugar};
 ghost use Rattle.bg_blocks.specs.Callees.{IsModified};
-ghost use Rattle.bg_blocks.specs.Emitted.{State, IsBounded, Emits, marked_each};
-ghost use Rattle.bg_blocks.specs.EmittedViews.{state_of, IsSound, IsLeft, EmitsBody, frame_of};
+ghost use Rattle.bg_blocks.specs.Emitted.{State, Emits, marked_each};
+ghost use Rattle.bg_blocks.specs.EmittedViews.{state_of, EmitsBody, frame_of};
 
 use crate::branches::{Head, mark_behind, turn_of_loop};
 use crate::emit::{Emitted, mark};
@@ -29,17 +29,14 @@ pub struct Around<'p> {
 
 /// A label.
 fn label(state: &mut Emitted<'_>, l: u32) -> Result<(), AllocError>
-    requires { IsSound state.old }
-    ensures sound { OnOk result (IsSound state.new) }
-    ensures emits { OnOk result ((p : r.Program) (frame : ℕ) → EmitsBody p frame (s.Label l) state.old state.new) }
+    ensures { OnOk result ((p : r.Program) (frame : ℕ) → EmitsBody p frame (s.Label l) state.old state.new) }
 {
     mark(state, label_key(l))
 }
 
 /// Behind so many conditionals with numbers from this one on lies what is there.
 fn mark_arms(state: &mut Emitted<'_>, number: u32, count: usize) -> Result<(), AllocError>
-    ensures sound { OnOk result (IsSound state.old → IsSound state.new) }
-    ensures state { OnOk result ((p : r.Program) → state_of p state.new ≡ marked_each number count (state_of p state.old)) }
+    ensures { OnOk result ((p : r.Program) → state_of p state.new ≡ marked_each number count (state_of p state.old)) }
 {
     for i in 0..count {
         mark_behind(state, u128::from(number) + i as u128)?;
@@ -56,15 +53,13 @@ fn arm<'p>(
     first: usize,
     a: &'p Arm,
 ) -> Result<(), AllocError>
-    requires modified { IsModified (program_of around.program.now) around.callees.now }
-    requires left { IsLeft first state.old }
-    ensures sound { OnOk result (IsSound state.new) }
-    ensures emits { OnOk result ((before : State) (b : Core) (rs : List r.Declared) → length rs ≡ around.entry.frame → IsBounded before → length before.blocks ≡ start → length before.undo ≡ first →
+    requires { IsModified (program_of around.program.now) around.callees.now }
+    ensures { OnOk result ((before : State) (b : Core) (rs : List r.Declared) → length rs ≡ around.entry.frame → before.takes_in ≡ false → length before.blocks ≡ start → length before.undo ≡ first →
         Emits b before (state_of (program_of around.entry.program.now) state.old) →
         Emits (Choose (m.guard_of (guard_of a.now.guard)) (desugar (m.meaning_of (program_of around.entry.program.now)) (frame_of (program_of around.entry.program.now) rs) (m.sts_of (sts_in a.now.body.items))) b) before (state_of (program_of around.entry.program.now) state.new)) }
 {
-    skip_side(around.alloc, state, start, first)?;
     let from = state.blocks.len();
+    skip_side(around.alloc, state, start, first)?;
     stmts(around, state, &a.body)?;
     decide(around.alloc, state, &a.guard, from, first)
 }
@@ -78,10 +73,8 @@ fn branch<'p>(
     arms: &'p [Arm],
     otherwise: &'p [Stmt],
 ) -> Result<(), AllocError>
-    requires modified { IsModified (program_of around.program.now) around.callees.now }
-    requires sound { IsSound state.old }
-    ensures sound { OnOk result (IsSound state.new) }
-    ensures emits { OnOk result (EmitsBody (program_of around.entry.program.now) around.entry.frame (m.arms_of number (arms_from (map arm_view arms.now)) (m.sts_of (sts_in otherwise.now))) state.old state.new) }
+    requires { IsModified (program_of around.program.now) around.callees.now }
+    ensures { OnOk result (EmitsBody (program_of around.entry.program.now) around.entry.frame (m.arms_of number (arms_from (map arm_view arms.now)) (m.sts_of (sts_in otherwise.now))) state.old state.new) }
 {
     let start = state.blocks.len();
     let first = state.marks.undo.len();
@@ -105,10 +98,8 @@ fn turns<'p>(
     invariants: &'p [Clause],
     body: &'p [Stmt],
 ) -> Result<(), AllocError>
-    requires modified { IsModified (program_of around.program.now) around.callees.now }
-    requires sound { IsSound state.old }
-    ensures sound { OnOk result (IsSound state.new) }
-    ensures emits { OnOk result (EmitsBody (program_of around.entry.program.now) around.entry.frame (s.While number (m.guard_of (guard_of guard.now)) (map m.clause_of (map clause_of invariants.now)) (m.sts_of (sts_in body.now))) state.old state.new) }
+    requires { IsModified (program_of around.program.now) around.callees.now }
+    ensures { OnOk result (EmitsBody (program_of around.entry.program.now) around.entry.frame (s.While number (m.guard_of (guard_of guard.now)) (map m.clause_of (map clause_of invariants.now)) (m.sts_of (sts_in body.now))) state.old state.new) }
 {
     mark_behind(state, u128::from(number))?;
     let start = state.blocks.len();
@@ -124,10 +115,8 @@ fn turns<'p>(
 #[tactic(auto, using(crate::proofs::Forms::st_forms))]
 #[cycle(stmts)]
 fn stmt<'p>(around: Around<'p>, state: &mut Emitted<'p>, a: &'p Stmt) -> Result<(), AllocError>
-    requires modified { IsModified (program_of around.program.now) around.callees.now }
-    requires sound { IsSound state.old }
-    ensures sound { OnOk result (IsSound state.new) }
-    ensures emits { OnOk result (EmitsBody (program_of around.entry.program.now) around.entry.frame (m.st_of (st_of a.now)) state.old state.new) }
+    requires { IsModified (program_of around.program.now) around.callees.now }
+    ensures { OnOk result (EmitsBody (program_of around.entry.program.now) around.entry.frame (m.st_of (st_of a.now)) state.old state.new) }
 {
     match a {
         Stmt::Label(l) => label(state, *l),
@@ -151,10 +140,8 @@ pub fn stmts<'p>(
     state: &mut Emitted<'p>,
     ss: &'p [Stmt],
 ) -> Result<(), AllocError>
-    requires modified { IsModified (program_of around.program.now) around.callees.now }
-    requires sound { IsSound state.old }
-    ensures sound { OnOk result (IsSound state.new) }
-    ensures emits { OnOk result (EmitsBody (program_of around.entry.program.now) around.entry.frame (m.sts_of (sts_in ss.now)) state.old state.new) }
+    requires { IsModified (program_of around.program.now) around.callees.now }
+    ensures { OnOk result (EmitsBody (program_of around.entry.program.now) around.entry.frame (m.sts_of (sts_in ss.now)) state.old state.new) }
 {
     let mut i = ss.len();
     while i > 0 {

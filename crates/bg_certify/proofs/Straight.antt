@@ -1,9 +1,9 @@
 -- The run of the axioms' own program takes no choices: it goes straight on.
-use Rattle.std.proofs.Common.{◌≡◌, ℕ, zero, suc, List, [], ◌∷◌, ◌++◌, map, refl, sym, ap, ◌∙◌}
+use Rattle.std.proofs.Common.{◌≡◌, ℕ, zero, suc, Bool, true, false, List, [], ◌∷◌, ◌++◌, map, refl, sym, ap, ◌∙◌}
 use Rattle.bg_ast.specs.Syntax.{Ex, Prog}
 use Rattle.bg_sense.specs.Variables.{wheres_of}
-use Rattle.bg_flow.specs.Core.{Cmd, Check, Suppose, Forget, Put, Perform, Finish, plain, desugar, frame_decls}
-use Rattle.bg_flow.specs.Blocks.{Exit, Leap, Either, Block, Places, code, to_closing}
+use Rattle.bg_flow.specs.Core.{Cmd, Check, Suppose, Forget, Put, Perform, Finish, Core, Seq, Do, plain, desugar, frame_decls, routine_of}
+use Rattle.bg_flow.specs.Blocks.{Exit, Leap, Either, Block, Coded, led, code, at_end}
 use Rattle.bg_block_types.specs.Typed.{blocks_in}
 use Rattle.bg_replay.specs.Moments.{Moment, Around, Out, and_so, seen_at}
 use Rattle.bg_replay.specs.Said.{Said, Fine, Stops, Leaves, Unsaid, on_said, checks, supposes}
@@ -97,17 +97,33 @@ bare_plain : (es : List Ex) → BareSayings (plain es [])
 bare_plain [] = tt
 bare_plain (e ∷ es) = (refl, bare_plain es)
 
-straight_append : (bs cs : List Block) → AreStraight bs → AreStraight cs → AreStraight (bs ++ cs)
-straight_append [] cs h k = k
-straight_append (b ∷ bs) cs h k = (h.0, straight_append bs cs h.1 k)
+together : (ks ls : List Cmd) → BareCmds ks → BareCmds ls → BareCmds (ks ++ ls)
+together [] ls h k = k
+together (x ∷ ks) ls h k = (h.0, together ks ls h.1 k)
+
+straight_led : (o : Bool) (ks : List Cmd) (bs : List Block) → BareCmds ks → AreStraight bs → AreStraight (led o ks bs)
+straight_led false ks bs h k = ((h, tt), k)
+straight_led true ks [] h k = ((h, tt), tt)
+straight_led true ks (b ∷ bs) h k = ((together ks b.cmds h k.0.0, k.0.1), k.1)
 
 module _ (depth : ℕ) (p : Prog) where
-  body_straight : (es : List Ex) (w : Places) → AreStraight (code (desugar (A depth p) (frame_decls (M depth p) (Q depth p)) (supposing es (opened_st 0 (bodies_of depth (of_axioms p)) claims_false.body))) w).blocks
-  body_straight [] w = ((((refl, tt), tt), tt), tt)
-  body_straight (e ∷ es) w = ((((refl, tt), tt), tt), body_straight es w)
+  abbrev body : List Ex → Core
+  body es =
+      desugar (A depth p) (frame_decls (M depth p) (Q depth p)) (supposing es (opened_st 0 (bodies_of depth (of_axioms p)) claims_false.body))
+
+  -- the commands with which a body begins
+  abbrev cmds_in : Core → List Cmd
+  cmds_in (Do ks) = ks
+  cmds_in (Seq a b) = cmds_in a
+  cmds_in _ = []
+
+  body_straight : (es : List Ex) (t : Coded) → AreStraight t.blocks → AreStraight (code (body es) t).blocks
+  body_straight [] t k = straight_led t.takes_in (cmds_in (body [])) t.blocks ((refl, tt), tt) k
+  body_straight (e ∷ es) t k =
+      straight_led (code (body es) t).takes_in (Suppose (plain (e ∷ []) []) ∷ []) (code (body es) t).blocks ((refl, tt), tt) (body_straight es t k)
 
   pub blocks_straight : AreStraight (blocks_in (A depth p) 0 (M depth p) (Q depth p))
-  blocks_straight = (
-    ((bare_plain (wheres_of ((A depth p).globals ++ frame_decls (M depth p) (Q depth p))), tt), tt),
-    straight_append (code (desugar (A depth p) (frame_decls (M depth p) (Q depth p)) (M depth p).body) to_closing).blocks _ (body_straight (map (opened 0 (bodies_of depth (of_axioms p))) p.axioms) to_closing) (((tt, tt), tt), tt),
-  )
+  blocks_straight =
+      let r = routine_of (A depth p) 0 (M depth p) (Q depth p) in
+      straight_led (code r.body (at_end r.wanted)).takes_in (Suppose r.given ∷ []) (code r.body (at_end r.wanted)).blocks (bare_plain (wheres_of ((A depth p).globals ++ frame_decls (M depth p) (Q depth p))), tt)
+      (body_straight (map (opened 0 (bodies_of depth (of_axioms p))) p.axioms) (at_end r.wanted) (((tt, tt), tt), tt))

@@ -1,11 +1,11 @@
 -- The run of the axioms' own program is the same under each set of candidates: it has none.
-use Rattle.std.proofs.Common.{◌≡◌, ℕ, zero, suc, Bool, List, [], ◌∷◌, ◌++◌, map, None, refl, ap, ◌∙◌}
+use Rattle.std.proofs.Common.{◌≡◌, ℕ, zero, suc, Bool, true, false, List, [], ◌∷◌, ◌++◌, map, None, refl, ap, ◌∙◌}
 use Rattle.bg_ast.specs.Syntax.{Ex, Prog, Impl, Proc}
 use Rattle.bg_fits.specs.Holdings.{holdings_of}
 use Rattle.bg_fits.specs.declared.types.Holding.{Holding}
 use Rattle.bg_sense.specs.Variables.{wheres_of}
-use Rattle.bg_flow.specs.Core.{Demand, Saying, Cmd, Check, Suppose, Forget, Put, Perform, Finish, plain, desugar, frame_decls}
-use Rattle.bg_flow.specs.Blocks.{Exit, Leap, Either, Block, Places, code, to_closing}
+use Rattle.bg_flow.specs.Core.{Demand, Saying, Cmd, Check, Suppose, Forget, Put, Perform, Finish, Core, Seq, Do, plain, desugar, frame_decls, routine_of}
+use Rattle.bg_flow.specs.Blocks.{Exit, Leap, Either, Block, Coded, led, code, at_end}
 use Rattle.bg_block_types.specs.Typed.{blocks_in}
 use Rattle.bg_scalar.specs.Worths.{Seen}
 use Rattle.bg_scalar.specs.declared.scalar.Scalar.{Scalar}
@@ -122,9 +122,14 @@ bare_plain : (es : List Ex) → BareSayings (plain es [])
 bare_plain [] = tt
 bare_plain (e ∷ es) = (refl, bare_plain es)
 
-bare_append : (bs cs : List Block) → BareBlocks bs → BareBlocks cs → BareBlocks (bs ++ cs)
-bare_append [] cs h k = k
-bare_append (b ∷ bs) cs h k = (h.0, bare_append bs cs h.1 k)
+bare_together : (ks ls : List Cmd) → BareCmds ks → BareCmds ls → BareCmds (ks ++ ls)
+bare_together [] ls h k = k
+bare_together (x ∷ ks) ls h k = (h.0, bare_together ks ls h.1 k)
+
+bare_led : (o : Bool) (ks : List Cmd) (bs : List Block) → BareCmds ks → BareBlocks bs → BareBlocks (led o ks bs)
+bare_led false ks bs h k = ((h, tt), k)
+bare_led true ks [] h k = ((h, tt), tt)
+bare_led true ks (b ∷ bs) h k = ((bare_together ks b.cmds h k.0.0, k.0.1), k.1)
 
 module _ (depth : ℕ) (p : Prog) where
   abbrev pub A : Prog
@@ -136,15 +141,25 @@ module _ (depth : ℕ) (p : Prog) where
   abbrev pub Q : Proc
   Q = opened_proc 0 (bodies_of depth (of_axioms p)) bare
 
-  body_bare : (es : List Ex) (w : Places) → BareBlocks (code (desugar A (frame_decls M Q) (supposing es (opened_st 0 (bodies_of depth (of_axioms p)) claims_false.body))) w).blocks
-  body_bare [] w = ((((refl, tt), tt), tt), tt)
-  body_bare (e ∷ es) w = ((((refl, tt), tt), tt), body_bare es w)
+  abbrev body : List Ex → Core
+  body es = desugar A (frame_decls M Q) (supposing es (opened_st 0 (bodies_of depth (of_axioms p)) claims_false.body))
+
+  -- the commands with which a body begins
+  abbrev cmds_in : Core → List Cmd
+  cmds_in (Do ks) = ks
+  cmds_in (Seq a b) = cmds_in a
+  cmds_in _ = []
+
+  body_bare : (es : List Ex) (t : Coded) → BareBlocks t.blocks → BareBlocks (code (body es) t).blocks
+  body_bare [] t k = bare_led t.takes_in (cmds_in (body [])) t.blocks ((refl, tt), tt) k
+  body_bare (e ∷ es) t k =
+      bare_led (code (body es) t).takes_in (Suppose (plain (e ∷ []) []) ∷ []) (code (body es) t).blocks ((refl, tt), tt) (body_bare es t k)
 
   pub bare_blocks : BareBlocks (blocks_in A 0 M Q)
-  bare_blocks = (
-    ((bare_plain (wheres_of (A.globals ++ frame_decls M Q)), tt), tt),
-    bare_append (code (desugar A (frame_decls M Q) M.body) to_closing).blocks _ (body_bare (map (opened 0 (bodies_of depth (of_axioms p))) p.axioms) to_closing) (((tt, tt), tt), tt),
-  )
+  bare_blocks =
+      let r = routine_of A 0 M Q in
+      bare_led (code r.body (at_end r.wanted)).takes_in (Suppose r.given ∷ []) (code r.body (at_end r.wanted)).blocks (bare_plain (wheres_of (A.globals ++ frame_decls M Q)), tt)
+      (body_bare (map (opened 0 (bodies_of depth (of_axioms p))) p.axioms) (at_end r.wanted) (((tt, tt), tt), tt))
 
   -- what it says doesn't depend on the set
   pub alike : (set other : ℕ → Bool) (xs : List Scalar) → run_in A set 0 M Q xs ≡ run_in A other 0 M Q xs

@@ -1,5 +1,5 @@
 -- Commands that declared candidates alone guard, of which each check is at a place of the program, and calls take and give scalars.
-use Rattle.std.proofs.Common.{◌≡◌, ℕ, zero, suc, ◌+◌, Bool, true, false, if◌then◌else◌, List, [], ◌∷◌, ◌++◌, length, Option, Some, None, refl, sym, subst, inl, inr, arith}
+use Rattle.std.proofs.Common.{◌≡◌, ℕ, zero, suc, ◌+◌, Bool, true, false, if◌then◌else◌, List, [], ◌∷◌, ◌++◌, Option, Some, None, refl, sym, subst, inl, inr, arith}
 use Rattle.std.specs.Prelude.{◌&&◌, slice_get}
 use Rattle.std.specs.List.{list_all}
 use Rattle.bg_ast.specs.Syntax.{Ex, Clause, Call, St, Skip, Then, Label, Assert, Assume, Havoc, Assign, Invoke, If, While, Break, Goto, Return, Decl, Proc, Impl, Prog}
@@ -10,7 +10,7 @@ use Rattle.bg_sense.specs.Places.{checks_of, requires_in, ensures_in, places_in,
 use Rattle.bg_sense.proofs.Bools.{and_left, and_right}
 use Rattle.bg_sense.proofs.Members.{In, in_left, in_right, contained}
 use Rattle.bg_flow.specs.Core.{Demand, Saying, Plan, Cmd, Check, Suppose, Forget, Put, Perform, Finish, Head, Core, Nil, Seq, Mark, Do, To, Choose, Loop, demands, demands_if, sayings, sayings_if, each_one, the_checked, the_free, plain, still, plan_of, calls_of, desugar}
-use Rattle.bg_flow.specs.Blocks.{Block, Places, past, next_one, code, to_closing, blocks_of}
+use Rattle.bg_flow.specs.Blocks.{Block, Coded, led, closed, skipped, turned, code, at_end, blocks_of}
 use Rattle.bg_fits.specs.Scalars.{clause_passes, guard_passes, st_passes, is_scalar}
 use Rattle.bg_faithful.specs.Checks.{HasPlace}
 use Rattle.bg_faithful.proofs.Scalars.{AreScalars, IsDeclared, FitClauses, fit_clause, fit_clauses, ScalarProc}
@@ -52,10 +52,6 @@ abbrev pub Placed : Prog → List Place → Type 0
 Placed p us = (u : Place) → In us u → In (places p) u
 
 module _ (p : Prog) where
-  fit_append : (xs ys : List Block) → FitBlocks p xs → FitBlocks p ys → FitBlocks p (xs ++ ys)
-  fit_append [] ys h k = k
-  fit_append (x ∷ xs) ys h k = (h.0, fit_append xs ys h.1 k)
-
   -- ---- what clauses demand and say
 
   pub fit_demands : (m : ℕ) (spot : ℕ → Spot) (ks : List Clause) → FitClauses p.candidates ks → Placed p (checks_of m spot ks) → FitDemands p (demands spot ks)
@@ -94,20 +90,25 @@ module _ (p : Prog) where
   FitCore (Loop h e a) = FitHead h × FitCore a
   FitCore _ = Unit {0}
 
-  code_fits : (s : Core) (i : Places) → FitCore s → FitBlocks p (code s i).blocks
-  code_fits Nil i h = tt
-  code_fits (Seq a b) i h =
-      let cb = code b i in
-      fit_append (code a cb.entry).blocks cb.blocks (code_fits a cb.entry h.0) (code_fits b i h.1)
-  code_fits (Mark q) i h = tt
-  code_fits (Do ks) i h = (h, tt)
-  code_fits (To qs) i h = (tt, tt)
-  code_fits (Choose e a b) i h =
-      let cb = code b i in
-      let j = next_one (past (length cb.blocks) i) in
-      (tt, fit_append (code a j).blocks _ (code_fits a j h.0) (tt, code_fits b i h.1))
-  code_fits (Loop hd e a) i h =
-      ((h.0.0, (tt, (h.0.1.0, (h.0.1.1.0, tt)))), fit_append (code a (next_one i)).blocks _ (code_fits a (next_one i) h.1) ((h.0.1.1.1, (tt, tt)), tt))
+  cmds_append : (ks ls : List Cmd) → FitCmds p ks → FitCmds p ls → FitCmds p (ks ++ ls)
+  cmds_append [] ls h k = k
+  cmds_append (x ∷ ks) ls h k = (h.0, cmds_append ks ls h.1 k)
+
+  led_fits : (o : Bool) (ks : List Cmd) (bs : List Block) → FitCmds p ks → FitBlocks p bs → FitBlocks p (led o ks bs)
+  led_fits false ks bs h k = (h, k)
+  led_fits true ks [] h k = (h, tt)
+  led_fits true ks (b ∷ bs) h k = (cmds_append ks b.cmds h k.0, k.1)
+
+  code_fits : (s : Core) (t : Coded) → FitCore s → FitBlocks p t.blocks → FitBlocks p (code s t).blocks
+  code_fits Nil t h k = k
+  code_fits (Seq a b) t h k = code_fits a (code b t) h.0 (code_fits b t h.1 k)
+  code_fits (Mark q) t h k = k
+  code_fits (Do ks) t h k = led_fits t.takes_in ks t.blocks h k
+  code_fits (To qs) t h k = (tt, k)
+  code_fits (Choose e a b) t h k =
+      (tt, code_fits a (skipped t (code b (closed t))) h.0 (tt, code_fits b (closed t) h.1 k))
+  code_fits (Loop hd e a) t h k =
+      ((h.0.0, (tt, (h.0.1.0, (h.0.1.1.0, tt)))), code_fits a (turned hd t) h.1 ((h.0.1.1.1, (tt, tt)), k))
 
 -- ---- bodies
 
@@ -161,7 +162,9 @@ module _ (p : Prog) (ds : List Decl) (n : ℕ) (procs : (k : ℕ) (c : Proc) →
   -- the blocks of a routine with this body
   pub routine_fits : (s : St) (given : List Saying) (wanted : List Demand) → st_ok s ≡ true → Placed p (places_in p n s) → FitSayings p given → FitDemands p wanted → FitBlocks p (blocks_of (record { given = given; body = desugar p ds s; wanted = wanted }))
   routine_fits s given wanted o w a b =
-      ((a, tt), fit_append p (code (desugar p ds s) to_closing).blocks _ (code_fits p (desugar p ds s) to_closing (desugar_fits s o w)) ((b, tt), tt))
+      let body = code (desugar p ds s) (at_end wanted) in
+      led_fits p body.takes_in (Suppose given ∷ []) body.blocks (a, tt)
+      (code_fits p (desugar p ds s) (at_end wanted) (desugar_fits s o w) ((b, tt), tt))
 
 -- ---- the places of an implementation
 

@@ -1,19 +1,21 @@
 -- An implementation without calls and its blocks have the same induction runs.
-use Rattle.std.proofs.Common.{◌≡◌, ℕ, zero, suc, ◌+◌, Bool, true, false, List, [], ◌∷◌, ◌++◌, length, map, Some, refl, ap, ◌∙◌, arith}
+use Rattle.std.proofs.Common.{◌≡◌, ℕ, zero, suc, ◌+◌, ◌-◌, ◌≤◌, Bool, true, false, List, [], ◌∷◌, ◌++◌, length, map, Some, refl, sym, ap, ◌∙◌, arith}
 use Rattle.std.specs.Prelude.{if◌then◌else◌, ◌==◌, nat_lt, slice_get, unwrap_or}
+use Rattle.std.proofs.lemmas.List.{length-append}
 use Rattle.bg_ast.specs.Values.{Val, Ty, is_of, truth_of}
 use Rattle.bg_ast.specs.Syntax.{Prog, Proc, Impl, Var, Guard, Star, Test, Decl}
 use Rattle.bg_ast.specs.Execution.{Interp, Choice, Branch, Chosen, Spot, State}
 use Rattle.bg_sense.specs.Eval.{Scope, ev, evs}
-use Rattle.bg_sense.specs.Flow.{World, BadChoice, Point, Behind, Flow, Next, Jumps, Over, and_then, point_eq, land, ended, land_all}
+use Rattle.bg_sense.specs.Flow.{World, Answer, BadChoice, Point, Behind, ToEnd, Flow, Next, Jumps, Over, and_then, point_eq, land, ended, land_all}
 use Rattle.bg_sense.specs.Context.{Cut, Ctx, scope, callee_scope}
 use Rattle.bg_sense.specs.Clauses.{ensure, suppose, is_kept}
 use Rattle.bg_sense.specs.Choices.{choose_from, branch_from, forget_all, choose_all, decide}
 use Rattle.bg_sense.specs.Variables.{put, put_all, type_in, decl_of, procedure_of}
 use Rattle.bg_sense.specs.Run.{context, start, induction_run}
 use Rattle.bg_flow.specs.Core.{Demand, Saying, Plan, Cmd, Check, Suppose, Forget, Put, Perform, Finish, Core, Nil, Seq, Mark, Do, To, Choose, Loop, Routine, check_that, check_these, suppose_this, suppose_these, perform, act, act_all, arrival, turn, point_at, leap, follow_core, routine_run, routine_of}
-use Rattle.bg_flow.specs.Blocks.{Leap, Either, Block, Table, at_table, enter, index, nth, leave, run_block, table, one, Places, past, next_one, here, to_points, Coded, code, to_closing, blocks_of, blocks_run}
-use Rattle.bg_flow.proofs.CoreRuns.{routines_same}
+use Rattle.bg_flow.specs.Blocks.{Leap, Either, Block, Table, at_table, enter, index, nth, leave, run_block, table, Places, to_points, Coded, places, taken_in, led, doing, closed, lying, in_front, skipped, turned, code, at_end, blocks_of, blocks_run}
+use Rattle.bg_flow.proofs.CoreRuns.{then_ext, then_next, then_assoc, routines_same}
+use Rattle.bg_flow.proofs.Standing.{Ends, ends_same, ends_ends, ends_long, Fits, held, closed_fits, front_fits, code_ends, code_fits}
 
 -- a flow that does not jump
 abbrev NoJump : Flow → Type 0
@@ -120,31 +122,80 @@ module _ (c : Ctx) where
   decide_same (Test e) w k l k' l' t t' i i' on off =
       if_same (truth_of (ev e (scope c w))) (k w) (l w) (k' w) (l' w) t t' i i' (on w) (off w)
 
-  here_if : (b : Bool) (q : Point) (w : World) (t : Table) (i : Places) → at_table t (if b then 0 else i q) w ≡ enter t i (if b then Next w else Jumps q w)
-  here_if true q w t i = refl
-  here_if false q w t i = refl
+  -- ---- one block in front
 
-  here_land : (p : Point) (f : Flow) (t : Table) (i : Places) → enter t (here p i) f ≡ enter t i (land p f)
-  here_land p (Next w) t i = refl
-  here_land p (Jumps q w) t i = here_if (point_eq p q) q w t i
-  here_land p (Over a) t i = refl
+  -- what stands so far from the end stands there behind other blocks too
+  at_ends : (xs ys : List Block) (n : ℕ) (w : World) → Ends xs ys → n ≤ length ys → at_table (table c [] xs) (length xs - n) w ≡ at_table (table c [] ys) (length ys - n) w
+  at_ends xs ys n w e h =
+      let long = length-append e.0 ys in
+      let far : length (e.0 ++ ys) - n ≡ length e.0 + (length ys - n) = omega (arith, long, h) in
+      ap (λ l. at_table (table c [] l) (length l - n) w) e.1
+      ∙ ap (λ u. at_table u (length (e.0 ++ ys) - n) w) (table_append [] e.0 ys)
+      ∙ ap (λ k. at_table (table c (table c [] ys) e.0) k w) far
+      ∙ at_past (table c [] ys) e.0 (length ys - n) w
 
-  -- one block of commands that goes on with the next one
-  block_on : (cmds : List Cmd) (t : Table) (i : Places) (f : Flow) → enter (table c t (one cmds (0 ∷ []))) (next_one i) f ≡ enter t i (and_then f (act_all c cmds))
-  block_on cmds t i (Next w) = plain (act_all c cmds w) (nj_acts cmds w)
-    where
-      plain : (f : Flow) → NoJump f → enter t index (and_then f (Jumps (Behind 0))) ≡ enter t i f
-      plain (Next w) h = refl
-      plain (Jumps p w) h = absurd h
-      plain (Over a) h = refl
-  block_on cmds t i (Jumps p w) = refl
-  block_on cmds t i (Over a) = refl
+  -- what a flow does from blocks on
+  abbrev from_on : Coded → Flow → Answer
+  from_on t f = enter (table c [] t.blocks) (places t) f
 
-  -- one block that jumps
-  block_off : (to : List ℕ) (k : World → Flow) (t : Table) (i : Places) → ((w : World) → enter t index (leave c (Leap to) w) ≡ enter t i (k w)) → (f : Flow) → enter (table c t (one [] to)) (next_one i) f ≡ enter t i (and_then f k)
-  block_off to k t i h (Next w) = h w
-  block_off to k t i h (Jumps p w) = refl
-  block_off to k t i h (Over a) = refl
+  front_same : (t u : Coded) (b : Block) (k : World → Flow) (f : Flow) → Fits t → Ends u.blocks t.blocks → ((w : World) → enter (table c [] u.blocks) index (and_then (act_all c b.cmds w) (leave c b.exit)) ≡ from_on t (k w)) → from_on (in_front t b u) f ≡ from_on t (and_then f k)
+  front_same t u b k (Next w) fits e h = h w
+  front_same t u b k (Jumps p w) fits e h =
+      let lies = fits p in
+      let long = ends_long u.blocks t.blocks e in
+      let far : suc (length u.blocks) - t.from_end p ≡ suc (length u.blocks - t.from_end p) = omega (arith, lies, long) in
+      ap (λ n. at_table (table c [] (b ∷ u.blocks)) n w) far
+      ∙ at_ends u.blocks t.blocks (t.from_end p) w e (omega (arith, lies))
+  front_same t u b k (Over a) fits e h = refl
+
+  -- ---- commands in front
+
+  pub acts_append : (xs ys : List Cmd) (w : World) → act_all c (xs ++ ys) w ≡ and_then (act_all c xs w) (act_all c ys)
+  acts_append [] ys w = refl
+  acts_append (x ∷ xs) ys w =
+      then_ext (act c x w) (act_all c (xs ++ ys)) (λ v. and_then (act_all c xs v) (act_all c ys)) (acts_append xs ys)
+      ∙ sym (then_assoc (act c x w) (act_all c xs) (act_all c ys))
+
+  leads_on : (t : Table) (i : Places) (f : Flow) → NoJump f → enter t index (and_then f (Jumps (Behind 0))) ≡ enter t i f
+  leads_on t i (Next w) h = refl
+  leads_on t i (Jumps p w) h = absurd h
+  leads_on t i (Over a) h = refl
+
+  goes_in : (b : Block) (bs : List Block) (i : Places) (f : Flow) → NoJump f → enter (table c [] bs) index (and_then (and_then f (act_all c b.cmds)) (leave c b.exit)) ≡ enter (table c [] (b ∷ bs)) i f
+  goes_in b bs i (Next w) h = refl
+  goes_in b bs i (Jumps p w) h = absurd h
+  goes_in b bs i (Over a) h = refl
+
+  led_same : (o : Bool) (ks : List Cmd) (bs : List Block) (at : Point → ℕ) (f : Flow) → ((p : Point) → at p + held o ≤ length bs) → enter (table c [] (led o ks bs)) (λ p. length (led o ks bs) - at p) f ≡ enter (table c [] bs) (λ p. length bs - at p) (and_then f (act_all c ks))
+  led_same false ks bs at (Next w) fits = leads_on (table c [] bs) (λ p. length bs - at p) (act_all c ks w) (nj_acts ks w)
+  led_same false ks bs at (Jumps p w) fits =
+      let lies = fits p in
+      let far : suc (length bs) - at p ≡ suc (length bs - at p) = omega (arith, lies) in
+      ap (λ n. at_table (table c [] (led false ks bs)) n w) far
+  led_same false ks bs at (Over a) fits = refl
+  led_same true ks [] at f fits = absurd (omega (arith, fits ToEnd))
+  led_same true ks (b ∷ bs) at (Next w) fits =
+      ap (λ g. enter (table c [] bs) index (and_then g (leave c b.exit))) (acts_append ks b.cmds w)
+      ∙ goes_in b bs (λ p. length (b ∷ bs) - at p) (act_all c ks w) (nj_acts ks w)
+  led_same true ks (b ∷ bs) at (Jumps p w) fits =
+      let lies = fits p in
+      let far : suc (length bs) - at p ≡ suc (length bs - at p) = omega (arith, lies) in
+      ap (λ n. at_table (table c [] (taken_in ks (b ∷ bs))) n w) far ∙ sym (ap (λ n. at_table (table c [] (b ∷ bs)) n w) far)
+  led_same true ks (b ∷ bs) at (Over a) fits = refl
+
+  doing_same : (ks : List Cmd) (t : Coded) (f : Flow) → Fits t → from_on (doing ks t) f ≡ from_on t (and_then f (act_all c ks))
+  doing_same ks t f fits = led_same t.takes_in ks t.blocks t.from_end f fits
+
+  -- ---- points
+
+  lies_if : (b : Bool) (q : Point) (w : World) (t : Table) (n : ℕ) (i : Places) → at_table t (n - (if b then n else i q)) w ≡ enter t (λ p. n - i p) (if b then Next w else Jumps q w)
+  lies_if true q w t n i = let none : n - n ≡ 0 = omega arith in ap (λ k. at_table t k w) none
+  lies_if false q w t n i = refl
+
+  lying_same : (p : Point) (t : Coded) (f : Flow) → from_on (lying p t) f ≡ from_on t (land p f)
+  lying_same p t (Next w) = refl
+  lying_same p t (Jumps q w) = lies_if (point_eq p q) q w (table c [] t.blocks) (length t.blocks) t.from_end
+  lying_same p t (Over a) = refl
 
   nth_map : (h : Point → ℕ) (xs : List Point) (d : Point) (j : ℕ) → unwrap_or (slice_get (map h xs) j) (h d) ≡ h (unwrap_or (slice_get xs j) d)
   nth_map h [] d j = refl
@@ -162,127 +213,80 @@ module _ (c : Ctx) where
       ap (λ n. enter t index (branch_from w.choices (suc (suc n)) w (λ j u. Jumps (Behind (nth (map i (p ∷ q ∷ ps)) j)) u))) (length_map i ps)
       ∙ branch_same w.choices (suc (suc (length ps))) w (λ j u. Jumps (Behind (nth (map i (p ∷ q ∷ ps)) j)) u) (λ j u. Jumps (point_at (p ∷ q ∷ ps) j) u) t t index i (λ j u. ap (λ n. at_table t n u) (nth_map i (p ∷ q ∷ ps) p j))
 
-  -- a block that jumps over the other side of a conditional
-  skip_same : (bs : List Block) (t : Table) (i : Places) (f : Flow) → enter (table c t (record { cmds = []; exit = Leap (length bs ∷ []) } ∷ bs)) (next_one (past (length bs) i)) f ≡ enter t i f
-  skip_same bs t i (Next w) =
-      let e : length bs ≡ length bs + 0 = omega arith in ap (λ n. at_table (table c t bs) n w) e ∙ at_past t bs 0 w
-  skip_same bs t i (Jumps p w) = at_past t bs (i p) w
-  skip_same bs t i (Over a) = refl
+  -- ---- bodies
 
-  -- a block in front leads into a list of blocks, or behind it
-  into : (t : Table) (xs ys : List Block) (w : World) → at_table (table c t (xs ++ ys)) 0 w ≡ at_table (table c (table c t ys) xs) 0 w
-  into t xs ys w = ap (λ u. at_table u 0 w) (table_append t xs ys)
+  skipped_same : (t off : Coded) (f : Flow) → Fits t → Ends off.blocks t.blocks → from_on (skipped t off) f ≡ from_on t f
+  skipped_same t off f fits e =
+      let m = length off.blocks - length t.blocks in
+      let none : length t.blocks - length t.blocks ≡ 0 = omega arith in
+      front_same t off (record { cmds = []; exit = Leap (m ∷ []) }) Next f fits e
+      (λ w. at_ends off.blocks t.blocks (length t.blocks) w e (omega arith) ∙ ap (λ n. at_table (table c [] t.blocks) n w) none)
+      ∙ ap (from_on t) (then_next f)
 
-  behind : (t : Table) (xs : List Block) (y : Block) (ys : List Block) (w : World) → at_table (table c t (xs ++ y ∷ ys)) (suc (length xs)) w ≡ at_table (table c t ys) 0 w
-  behind t xs y ys w =
-      let e : suc (length xs) ≡ length xs + 1 = omega arith in
-      ap (λ u. at_table u (suc (length xs)) w) (table_append t xs (y ∷ ys))
-      ∙ ap (λ n. at_table (table c (table c t (y ∷ ys)) xs) n w) e
-      ∙ at_past (table c t (y ∷ ys)) xs 1 w
+  -- so many blocks ahead stand those that stood there before
+  stands : (xs ys : List Block) (w : World) → Ends xs ys → at_table (table c [] xs) (length xs - length ys) w ≡ at_table (table c [] ys) 0 w
+  stands xs ys w e =
+      let none : length ys - length ys ≡ 0 = omega arith in
+      at_ends xs ys (length ys) w e (omega arith) ∙ ap (λ n. at_table (table c [] ys) n w) none
 
-  -- several blocks, the first of which is not jumped to
-  many_same : (b : Block) (bs : List Block) (k : World → Flow) (t : Table) (i : Places) → ((w : World) → at_table (table c t (b ∷ bs)) 0 w ≡ enter t i (k w)) → (f : Flow) → enter (table c t (b ∷ bs)) (past (length (b ∷ bs)) i) f ≡ enter t i (and_then f k)
-  many_same b bs k t i h (Next w) = h w
-  many_same b bs k t i h (Jumps p w) = at_past t (b ∷ bs) (i p) w
-  many_same b bs k t i h (Over a) = refl
+  on_arrival : (f : Flow) → NoJump f → (k l k' l' : World → Flow) (t t' : Table) (g : Guard) (i : Places) → ((u : World) → enter t index (k u) ≡ enter t' i (k' u)) → ((u : World) → enter t index (l u) ≡ enter t' i (l' u)) → enter t index (and_then f (λ v. decide c g v k l)) ≡ enter t' i (and_then f (λ v. decide c g v k' l'))
+  on_arrival (Next w) h k l k' l' t t' g i on off = decide_same g w k l k' l' t t' index i on off
+  on_arrival (Jumps p w) h k l k' l' t t' g i on off = absurd h
+  on_arrival (Over a) h k l k' l' t t' g i on off = refl
 
   -- from a body's blocks as from the body: behind them lies t
-  pub same_runs : (s : Core) (t : Table) (i : Places) (f : Flow) → enter (table c t (code s i).blocks) (code s i).entry f ≡ enter t i (follow_core c s f)
-  same_runs Nil t i f = refl
-  same_runs (Seq a b) t i f =
-      let cb = code b i in
-      let ca = code a cb.entry in
-      ap (λ u. enter u ca.entry f) (table_append t ca.blocks cb.blocks)
-      ∙ same_runs a (table c t cb.blocks) cb.entry f
-      ∙ same_runs b t i (follow_core c a f)
-  same_runs (Mark p) t i f = here_land p f t i
-  same_runs (Do ks) t i f = block_on ks t i f
-  same_runs (To ps) t i f = block_off (to_points i ps) (leap ps) t i (λ w. leap_same ps t i w) f
-  same_runs (Choose g a b) t i f =
-      let cb = code b i in
-      let ca = code a (next_one (past (length cb.blocks) i)) in
-      let skip : Block = record { cmds = []; exit = Leap (length cb.blocks ∷ []) } in
-      many_same
-      (record { cmds = []; exit = Either g 0 (suc (length ca.blocks)) })
-      (ca.blocks ++ (skip ∷ cb.blocks))
-      (λ v. decide c g v (λ u. follow_core c a (Next u)) (λ u. follow_core c b (Next u)))
-      t
-      i
-      (λ w. decide_same
-      g
-      w
-      (Jumps (Behind 0))
-      (Jumps (Behind (suc (length ca.blocks))))
-      (λ u. follow_core c a (Next u))
-      (λ u. follow_core c b (Next u))
-      (table c t (ca.blocks ++ (skip ∷ cb.blocks)))
-      t
-      index
-      i
-      (λ u. into t ca.blocks (skip ∷ cb.blocks) u
-      ∙ same_runs a (table c t (skip ∷ cb.blocks)) (next_one (past (length cb.blocks) i)) (Next u)
-      ∙ skip_same cb.blocks t i (follow_core c a (Next u)))
-      (λ u. behind t ca.blocks skip cb.blocks u ∙ same_runs b t i (Next u)))
-      f
-  same_runs (Loop h g a) t i f =
-      let ca = code a (next_one i) in
-      let last : Block = record { cmds = turn h; exit = Leap (0 ∷ []) } in
-      many_same
-      (record { cmds = arrival h; exit = Either g 0 (suc (length ca.blocks)) })
-      (ca.blocks ++ (last ∷ []))
-      (λ w. and_then (act_all c (arrival h) w) (λ v. decide c g v (λ u. and_then (follow_core c a (Next u)) (act_all c (turn h))) Next))
-      t
-      i
-      (λ w. decided
-      (act_all c (arrival h) w)
-      (nj_acts (arrival h) w)
-      (Jumps (Behind 0))
-      (Jumps (Behind (suc (length ca.blocks))))
-      (λ u. and_then (follow_core c a (Next u)) (act_all c (turn h)))
-      Next
-      (table c t (ca.blocks ++ (last ∷ [])))
-      t
-      g
-      i
-      (λ u. into t ca.blocks (last ∷ []) u
-      ∙ same_runs a (table c t (last ∷ [])) (next_one i) (Next u)
-      ∙ block_on (turn h) t i (follow_core c a (Next u)))
-      (λ u. behind t ca.blocks last [] u))
-      f
-    where
-      decided : (f : Flow) → NoJump f → (k l k' l' : World → Flow) (t t' : Table) (g : Guard) (i : Places) → ((u : World) → enter t index (k u) ≡ enter t' i (k' u)) → ((u : World) → enter t index (l u) ≡ enter t' i (l' u)) → enter t index (and_then f (λ v. decide c g v k l)) ≡ enter t' i (and_then f (λ v. decide c g v k' l'))
-      decided (Next w) h k l k' l' t t' g i on off = decide_same g w k l k' l' t t' index i on off
-      decided (Jumps p w) h k l k' l' t t' g i on off = absurd h
-      decided (Over a) h k l k' l' t t' g i on off = refl
+  pub same_runs : (s : Core) (t : Coded) (f : Flow) → Fits t → from_on (code s t) f ≡ from_on t (follow_core c s f)
+  same_runs Nil t f fits = refl
+  same_runs (Seq a b) t f fits =
+      same_runs a (code b t) f (code_fits b t fits) ∙ same_runs b t (follow_core c a f) fits
+  same_runs (Mark p) t f fits = lying_same p t f
+  same_runs (Do ks) t f fits = doing_same ks t f fits
+  same_runs (To ps) t f fits =
+      front_same t t (record { cmds = []; exit = Leap (to_points (places t) ps) }) (leap ps) f fits (ends_same t.blocks)
+      (λ w. leap_same ps (table c [] t.blocks) (places t) w)
+  same_runs (Choose g a b) t f fits =
+      let off = code b (closed t) in
+      let skip = skipped t off in
+      let on = code a skip in
+      let m = length on.blocks - length off.blocks in
+      let off_ends : Ends off.blocks t.blocks = code_ends b (closed t) in
+      let on_ends : Ends on.blocks off.blocks = code_ends a skip in
+      front_same t on (record { cmds = []; exit = Either g 0 m }) (λ w. decide c g w (λ u. follow_core c a (Next u)) (λ u. follow_core c b (Next u))) f fits
+      (ends_ends on.blocks off.blocks t.blocks on_ends off_ends)
+      (λ w. decide_same g w (Jumps (Behind 0)) (Jumps (Behind m)) (λ u. follow_core c a (Next u)) (λ u. follow_core c b (Next u)) (table c [] on.blocks) (table c [] t.blocks) index (places t)
+      (λ u. same_runs a skip (Next u) (front_fits t off fits off_ends) ∙ skipped_same t off (follow_core c a (Next u)) fits off_ends)
+      (λ u. stands on.blocks off.blocks u on_ends ∙ same_runs b (closed t) (Next u) (closed_fits t fits)))
+  same_runs (Loop h g a) t f fits =
+      let body = code a (turned h t) in
+      let m = length body.blocks - length t.blocks in
+      let ends : Ends body.blocks t.blocks = code_ends a (turned h t) in
+      front_same t body (record { cmds = arrival h; exit = Either g 0 m }) (λ w. and_then (act_all c (arrival h) w) (λ v. decide c g v (λ u. and_then (follow_core c a (Next u)) (act_all c (turn h))) Next)) f fits ends
+      (λ w. on_arrival (act_all c (arrival h) w) (nj_acts (arrival h) w) (Jumps (Behind 0)) (Jumps (Behind m)) (λ u. and_then (follow_core c a (Next u)) (act_all c (turn h))) Next (table c [] body.blocks) (table c [] t.blocks) g (places t)
+      (λ u. same_runs a (turned h t) (Next u) (front_fits t t fits (ends_same t.blocks)) ∙ doing_same (turn h) (closed t) (follow_core c a (Next u)) (closed_fits t fits))
+      (λ u. stands body.blocks t.blocks u ends))
 
   -- the last block
-  closed : (f : Flow) → NoJump f → enter [] index (and_then (and_then f Next) Next) ≡ ended f
-  closed (Next w) h = refl
-  closed (Jumps p w) h = absurd h
-  closed (Over a) h = refl
+  ending : (f : Flow) → NoJump f → enter [] index (and_then (and_then f Next) Next) ≡ ended f
+  ending (Next w) h = refl
+  ending (Jumps p w) h = absurd h
+  ending (Over a) h = refl
 
-  closing_same : (ds : List Demand) (f : Flow) → enter (table c [] (record { cmds = Check ds ∷ []; exit = Leap [] } ∷ [])) to_closing f ≡ ended (and_then (land_all f) (check_these c (scope c) ds))
-  closing_same ds (Next w) = closed (check_these c (scope c) ds w) (nj_check (scope c) ds w)
-  closing_same ds (Jumps p w) = closed (check_these c (scope c) ds w) (nj_check (scope c) ds w)
-  closing_same ds (Over a) = refl
+  end_same : (ds : List Demand) (f : Flow) → from_on (at_end ds) f ≡ ended (and_then (land_all f) (check_these c (scope c) ds))
+  end_same ds (Next w) = ending (check_these c (scope c) ds w) (nj_check (scope c) ds w)
+  end_same ds (Jumps p w) = ending (check_these c (scope c) ds w) (nj_check (scope c) ds w)
+  end_same ds (Over a) = refl
+
+  end_fits : (ds : List Demand) → Fits (at_end ds)
+  end_fits ds p = omega arith
 
   pub routine_blocks : (r : Routine) (w : World) → blocks_run c (blocks_of r) w ≡ routine_run c r w
   routine_blocks r w =
-      begun (suppose_these c (scope c) r.given w) (nj_suppose_these (scope c) r.given w)
-      ∙ ap (λ t. enter t cd.entry (suppose_these c (scope c) r.given w)) (table_append [] cd.blocks last)
-      ∙ same_runs r.body (table c [] last) to_closing (suppose_these c (scope c) r.given w)
-      ∙ closing_same r.wanted (follow_core c r.body (suppose_these c (scope c) r.given w))
-    where
-      cd : Coded
-      cd = code r.body to_closing
-
-      last : List Block
-      last = record { cmds = Check r.wanted ∷ []; exit = Leap [] } ∷ []
-
-      begun : (f : Flow) → NoJump f → enter (table c [] (cd.blocks ++ last)) index (and_then (and_then f Next) (Jumps (Behind 0))) ≡ enter (table c [] (cd.blocks ++ last)) cd.entry f
-      begun (Next w) h = refl
-      begun (Jumps p w) h = absurd h
-      begun (Over a) h = refl
+      let last = at_end r.wanted in
+      let given = suppose_these c (scope c) r.given w in
+      doing_same (Suppose r.given ∷ []) (code r.body last) (Next w) (code_fits r.body last (end_fits r.wanted))
+      ∙ ap (from_on (code r.body last)) (then_next given)
+      ∙ same_runs r.body last given (end_fits r.wanted)
+      ∙ end_same r.wanted (follow_core c r.body given)
 
 pub blocks_same : (p : Prog) (set : ℕ → Bool) (i : Interp) (k : ℕ) (m : Impl) (q : Proc) (s : State) (cs : List Choice) → slice_get p.implementations k ≡ Some m → procedure_of p m.procedure ≡ Some q → blocks_run (context Cut p set i k m q s) (blocks_of (routine_of p k m q)) (start s cs 0) ≡ induction_run p set i k s cs
 blocks_same p set i k m q s cs em eq =

@@ -1,24 +1,18 @@
 -- Blocks and the same with their loops cut have the same runs, and cutting gives the blocks that the other proofs speak of.
-use Rattle.std.proofs.Common.{◌≡◌, ℕ, zero, suc, Bool, List, [], ◌∷◌, ◌++◌, length, Some, refl, sym, ap, ◌∙◌}
+use Rattle.std.proofs.Common.{◌≡◌, ℕ, zero, suc, ◌-◌, Bool, true, false, if◌then◌else◌, List, [], ◌∷◌, ◌++◌, length, Some, refl, sym, ap, ◌∙◌, arith}
 use Rattle.std.specs.Prelude.{slice_get}
 use Rattle.bg_ast.specs.Syntax.{Guard, Prog, Proc, Impl}
 use Rattle.bg_ast.specs.Execution.{Interp, Choice, State}
-use Rattle.bg_sense.specs.Flow.{World, Flow, Next, Jumps, Over, and_then}
+use Rattle.bg_sense.specs.Flow.{World, Flow, Next, Jumps, Over, and_then, point_eq}
 use Rattle.bg_sense.specs.Context.{Cut, Ctx, scope}
 use Rattle.bg_sense.specs.Choices.{forget_all}
 use Rattle.bg_sense.specs.Run.{context, start, induction_run}
 use Rattle.bg_sense.specs.Variables.{procedure_of}
-use Rattle.bg_flow.specs.Core.{Cmd, Check, Suppose, act, act_all, check_these, suppose_these, Head, arrival, turn, Core, Nil, Seq, Mark, Do, To, Choose, Loop, Routine, routine_of}
-use Rattle.bg_flow.specs.Blocks.{Leap, Either, Block, Table, at_table, enter, index, leave, table, one, Places, past, next_one, code, to_closing, blocks_of, blocks_run}
-use Rattle.bg_flow.specs.Looped.{LoopCmd, Plain, Arrive, Turned, LoopBlock, act_loop, act_loops, loop_table, loops_run, plain_cmds, flow, flow_of, cut_cmd, cut_cmds, cut_block, cut}
-use Rattle.bg_flow.proofs.CoreRuns.{then_ext, then_next, then_assoc}
-use Rattle.bg_flow.proofs.BlockRuns.{blocks_same}
-
-acts_append : (c : Ctx) (xs ys : List Cmd) (w : World) → act_all c (xs ++ ys) w ≡ and_then (act_all c xs w) (act_all c ys)
-acts_append c [] ys w = refl
-acts_append c (x ∷ xs) ys w =
-    then_ext (act c x w) (act_all c (xs ++ ys)) (λ v. and_then (act_all c xs v) (act_all c ys)) (acts_append c xs ys)
-    ∙ sym (then_assoc (act c x w) (act_all c xs) (act_all c ys))
+use Rattle.bg_flow.specs.Core.{Cmd, Suppose, act, act_all, check_these, suppose_these, Head, arrival, Core, Nil, Seq, Mark, Do, To, Choose, Loop, Routine, routine_of}
+use Rattle.bg_flow.specs.Blocks.{Leap, Either, Table, at_table, enter, index, leave, table, Places, to_points, Coded, led, doing, closed, in_front, skipped, decided, arrived, code, blocks_of, blocks_run}
+use Rattle.bg_flow.specs.Looped.{LoopCmd, Plain, Arrive, Turned, LoopBlock, act_loop, act_loops, loop_table, loops_run, Flowed, plain_cmds, flow_led, flow_doing, flow_closed, flow_skipped, flow_decided, flow_arrived, flow_turned, flow, flow_end, flow_of, cut_cmd, cut_cmds, cut}
+use Rattle.bg_flow.proofs.CoreRuns.{then_ext, then_next}
+use Rattle.bg_flow.proofs.BlockRuns.{acts_append, blocks_same}
 
 module _ (c : Ctx) where
   cmd_cut : (k : LoopCmd) (w : World) → act_all c (cut_cmd k) w ≡ act_loop c k w
@@ -53,10 +47,6 @@ module _ (c : Ctx) where
   pub cut_same : (bs : List LoopBlock) (w : World) → blocks_run c (cut bs) w ≡ loops_run c bs w
   cut_same bs w = cut_alike bs 0 w
 
-cut_append : (xs ys : List LoopBlock) → cut (xs ++ ys) ≡ cut xs ++ cut ys
-cut_append [] ys = refl
-cut_append (x ∷ xs) ys = ap (λ l. cut_block x ∷ l) (cut_append xs ys)
-
 cut_length : (xs : List LoopBlock) → length (cut xs) ≡ length xs
 cut_length [] = refl
 cut_length (x ∷ xs) = ap suc' (cut_length xs)
@@ -64,75 +54,71 @@ cut_length (x ∷ xs) = ap suc' (cut_length xs)
     suc' : ℕ → ℕ
     suc' n = suc n
 
-cut_plain : (ks : List Cmd) → cut_cmds (plain_cmds ks) ≡ ks
-cut_plain [] = refl
-cut_plain (k ∷ ks) = ap (λ l. k ∷ l) (cut_plain ks)
+-- the blocks that are cut, with the same points
+abbrev cut_flow : Flowed → Coded
+cut_flow t = record { blocks = cut t.blocks; from_end = t.from_end; takes_in = t.takes_in }
 
-same_length : (xs : List LoopBlock) (ys : List Block) → cut xs ≡ ys → length xs ≡ length ys
-same_length xs ys e = sym (cut_length xs) ∙ ap length e
+cut_plain : (ks : List Cmd) (ls : List LoopCmd) → cut_cmds (plain_cmds ks ++ ls) ≡ ks ++ cut_cmds ls
+cut_plain [] ls = refl
+cut_plain (k ∷ ks) ls = ap (λ l. k ∷ l) (cut_plain ks ls)
 
-choose_code : (g : Guard) (fa fb : List LoopBlock) (ca cb : List Block) → cut fa ≡ ca → cut fb ≡ cb → cut (record { cmds = []; exit = Either g 0 (suc (length fa)) } ∷ (fa ++ (record { cmds = []; exit = Leap (length fb ∷ []) } ∷ fb))) ≡ record { cmds = []; exit = Either g 0 (suc (length ca)) } ∷ (ca ++ (record { cmds = []; exit = Leap (length cb ∷ []) } ∷ cb))
-choose_code g fa fb ca cb ha hb =
-    ap (λ l. first (length fa) ∷ l) (cut_append fa (record { cmds = []; exit = Leap (length fb ∷ []) } ∷ fb))
-    ∙ ap (λ n. first n ∷ (cut fa ++ (skip (length fb) ∷ cut fb))) (same_length fa ca ha)
-    ∙ ap (λ l. first (length ca) ∷ (l ++ (skip (length fb) ∷ cut fb))) ha
-    ∙ ap (λ n. first (length ca) ∷ (ca ++ (skip n ∷ cut fb))) (same_length fb cb hb)
-    ∙ ap (λ l. first (length ca) ∷ (ca ++ (skip (length cb) ∷ l))) hb
-  where
-    first : ℕ → Block
-    first n = record { cmds = []; exit = Either g 0 (suc n) }
+cut_alone : (ks : List Cmd) → cut_cmds (plain_cmds ks) ≡ ks
+cut_alone [] = refl
+cut_alone (k ∷ ks) = ap (λ l. k ∷ l) (cut_alone ks)
 
-    skip : ℕ → Block
-    skip n = record { cmds = []; exit = Leap (n ∷ []) }
+cut_led : (o : Bool) (ks : List Cmd) (bs : List LoopBlock) → cut (flow_led o (plain_cmds ks) bs) ≡ led o ks (cut bs)
+cut_led false ks bs = ap (λ l. record { cmds = l; exit = Leap (0 ∷ []) } ∷ cut bs) (cut_alone ks)
+cut_led true ks [] = ap (λ l. record { cmds = l; exit = Leap (0 ∷ []) } ∷ []) (cut_alone ks)
+cut_led true ks (b ∷ bs) = ap (λ l. record { cmds = l; exit = b.exit } ∷ cut bs) (cut_plain ks b.cmds)
 
-loop_code : (h : Head) (g : Guard) (fa : List LoopBlock) (ca : List Block) → cut fa ≡ ca → cut (record { cmds = Arrive h ∷ []; exit = Either g 0 (suc (length fa)) } ∷ (fa ++ (record { cmds = Turned h ∷ []; exit = Leap (0 ∷ []) } ∷ []))) ≡ record { cmds = arrival h; exit = Either g 0 (suc (length ca)) } ∷ (ca ++ (record { cmds = turn h; exit = Leap (0 ∷ []) } ∷ []))
-loop_code h g fa ca ha =
-    ap (λ l. first (length fa) ∷ l) (cut_append fa (record { cmds = Turned h ∷ []; exit = Leap (0 ∷ []) } ∷ []))
-    ∙ ap (λ n. first n ∷ (cut fa ++ last)) (same_length fa ca ha)
-    ∙ ap (λ l. first (length ca) ∷ (l ++ last)) ha
-  where
-    first : ℕ → Block
-    first n = record { cmds = arrival h; exit = Either g 0 (suc n) }
+cut_doing : (ks : List Cmd) (t : Flowed) → cut_flow (flow_doing ks t) ≡ doing ks (cut_flow t)
+cut_doing ks t = ap (λ l. record { blocks = l; from_end = t.from_end; takes_in = true }) (cut_led t.takes_in ks t.blocks)
 
-    last : List Block
-    last = record { cmds = turn h; exit = Leap (0 ∷ []) } ∷ []
+-- how many blocks more
+more_cut : (t u : Flowed) → length u.blocks - length t.blocks ≡ length (cut u.blocks) - length (cut t.blocks)
+more_cut t u = let long = cut_length t.blocks in let longer = cut_length u.blocks in omega (arith, long, longer)
+
+cut_skipped : (t off : Flowed) → cut_flow (flow_skipped t off) ≡ skipped (cut_flow t) (cut_flow off)
+cut_skipped t off =
+    ap (λ n. in_front (cut_flow t) (record { cmds = []; exit = Leap (n ∷ []) }) (cut_flow off)) (more_cut t off)
+
+cut_decided : (t : Flowed) (g : Guard) (off on : Flowed) → cut_flow (flow_decided t g off on) ≡ decided (cut_flow t) g (cut_flow off) (cut_flow on)
+cut_decided t g off on =
+    ap (λ n. in_front (cut_flow t) (record { cmds = []; exit = Either g 0 n }) (cut_flow on)) (more_cut off on)
+
+cut_arrived : (t : Flowed) (h : Head) (g : Guard) (body : Flowed) → cut_flow (flow_arrived t h g body) ≡ arrived (cut_flow t) h g (cut_flow body)
+cut_arrived t h g body =
+    ap (λ n. in_front (cut_flow t) (record { cmds = arrival h; exit = Either g 0 n }) (cut_flow body)) (more_cut t body)
 
 -- the blocks that are cut are those of the body, and points lie in the same places
-flow_code : (s : Core) (i : Places) → (cut (flow s i).blocks ≡ (code s i).blocks) × ((flow s i).entry ≡ (code s i).entry)
-flow_code Nil i = (refl, refl)
-flow_code (Seq a b) i =
-    let fb = flow_code b i in
-    let fa = flow_code a (flow b i).entry in (
-      cut_append (flow a (flow b i).entry).blocks (flow b i).blocks
-          ∙ ap (λ l. l ++ cut (flow b i).blocks) (fa.0 ∙ ap (λ j. (code a j).blocks) fb.1)
-          ∙ ap (λ l. (code a (code b i).entry).blocks ++ l) fb.0,
-      fa.1 ∙ ap (λ j. (code a j).entry) fb.1,
-    )
-flow_code (Mark p) i = (refl, refl)
-flow_code (Do ks) i = (ap (λ l. one l (0 ∷ [])) (cut_plain ks), refl)
-flow_code (To ps) i = (refl, refl)
-flow_code (Choose g a b) i =
-    let fb = (flow b i).blocks in
-    let cb = (code b i).blocks in
-    let hb = (flow_code b i).0 in
-    let fa = (flow a (next_one (past (length fb) i))).blocks in
-    let ca = (code a (next_one (past (length cb) i))).blocks in
-    let ha : cut fa ≡ ca = (flow_code a (next_one (past (length fb) i))).0 ∙ ap (λ n. (code a (next_one (past n i))).blocks) (same_length fb cb hb) in
-    let e = choose_code g fa fb ca cb ha hb in
-    (e, ap (λ n. past n i) (same_length (flow (Choose g a b) i).blocks (code (Choose g a b) i).blocks e))
-flow_code (Loop h g a) i =
-    let ha = (flow_code a (next_one i)).0 in
-    let e = loop_code h g (flow a (next_one i)).blocks (code a (next_one i)).blocks ha in
-    (e, ap (λ n. past n i) (same_length (flow (Loop h g a) i).blocks (code (Loop h g a) i).blocks e))
+flow_code : (s : Core) (t : Flowed) → cut_flow (flow s t) ≡ code s (cut_flow t)
+flow_code Nil t = refl
+flow_code (Seq a b) t = flow_code a (flow b t) ∙ ap (code a) (flow_code b t)
+flow_code (Mark p) t =
+    ap (λ n. record { blocks = cut t.blocks; from_end = λ q. if point_eq p q then n else t.from_end q; takes_in = false }) (sym (cut_length t.blocks))
+flow_code (Do ks) t = cut_doing ks t
+flow_code (To ps) t =
+    ap (λ n. in_front (cut_flow t) (record { cmds = []; exit = Leap (to_points (λ p. n - t.from_end p) ps) }) (cut_flow t)) (sym (cut_length t.blocks))
+flow_code (Choose g a b) t =
+    let off = flow b (flow_closed t) in
+    let on = flow a (flow_skipped t off) in
+    let there : cut_flow off ≡ code b (closed (cut_flow t)) = flow_code b (flow_closed t) in
+    let side : cut_flow on ≡ code a (skipped (cut_flow t) (cut_flow off)) =
+    flow_code a (flow_skipped t off) ∙ ap (code a) (cut_skipped t off) in
+    cut_decided t g off on
+    ∙ ap (decided (cut_flow t) g (cut_flow off)) side
+    ∙ ap (λ u. decided (cut_flow t) g u (code a (skipped (cut_flow t) u))) there
+flow_code (Loop h g a) t =
+    cut_arrived t h g (flow a (flow_turned h t)) ∙ ap (arrived (cut_flow t) h g) (flow_code a (flow_turned h t))
 
 -- cutting the blocks of an implementation
-pub cut_flow : (r : Routine) → cut (flow_of r) ≡ blocks_of r
-cut_flow r =
-    ap (λ l. record { cmds = Suppose r.given ∷ []; exit = Leap (0 ∷ []) } ∷ l) (cut_append (flow r.body to_closing).blocks (record { cmds = Plain (Check r.wanted) ∷ []; exit = Leap [] } ∷ []) ∙ ap (λ l. l ++ (record { cmds = Check r.wanted ∷ []; exit = Leap [] } ∷ [])) (flow_code r.body to_closing).0)
+pub cut_whole : (r : Routine) → cut (flow_of r) ≡ blocks_of r
+cut_whole r =
+    ap (λ u. u.blocks) (cut_doing (Suppose r.given ∷ []) (flow r.body (flow_end r.wanted)) ∙ ap (doing (Suppose r.given ∷ [])) (flow_code r.body (flow_end r.wanted)))
 
 pub loops_same : (p : Prog) (set : ℕ → Bool) (i : Interp) (k : ℕ) (m : Impl) (q : Proc) (s : State) (cs : List Choice) → slice_get p.implementations k ≡ Some m → procedure_of p m.procedure ≡ Some q → loops_run (context Cut p set i k m q s) (flow_of (routine_of p k m q)) (start s cs 0) ≡ induction_run p set i k s cs
 loops_same p set i k m q s cs em eq =
     let c = context Cut p set i k m q s in
     sym (cut_same c (flow_of (routine_of p k m q)) (start s cs 0))
-    ∙ ap (λ bs. blocks_run c bs (start s cs 0)) (cut_flow (routine_of p k m q))
+    ∙ ap (λ bs. blocks_run c bs (start s cs 0)) (cut_whole (routine_of p k m q))
     ∙ blocks_same p set i k m q s cs em eq

@@ -1,3 +1,4 @@
+pub mod Standing
 pub mod BlockRuns
 pub mod CutRuns
 pub mod CoreRuns

@@ -1,10 +1,11 @@
--- Blocks without loops, which only lead on to later blocks, and the blocks of a body whose loops are cut.
-use Rattle.std.specs.Prelude.{ℕ, suc, ◌+◌, if◌then◌else◌, List, [], ◌∷◌, ◌++◌, length, map, Option, Some, None, slice_get, unwrap_or}
+-- Blocks without loops, which only lead on to later blocks, and the blocks of a body whose loops are cut. Commands that only follow
+-- one another are in one block.
+use Rattle.std.specs.Prelude.{ℕ, suc, ◌-◌, Bool, true, false, if◌then◌else◌, List, [], ◌∷◌, ◌++◌, length, map, Option, Some, None, slice_get, unwrap_or}
 use Rattle.bg_ast.specs.Syntax.{Guard}
 use Rattle.bg_sense.specs.Flow.{World, Answer, Ended, Point, Behind, ToEnd, Flow, Next, Jumps, Over, and_then, point_eq}
 use Rattle.bg_sense.specs.Context.{Ctx}
 use Rattle.bg_sense.specs.Choices.{decide, branch}
-use Rattle.bg_flow.specs.Core.{Cmd, Check, Suppose, act_all, Head, arrival, turn, Core, Nil, Seq, Mark, Do, To, Choose, Loop, Routine}
+use Rattle.bg_flow.specs.Core.{Demand, Cmd, Check, Suppose, act_all, Head, arrival, turn, Core, Nil, Seq, Mark, Do, To, Choose, Loop, Routine}
 
 -- where a block leads, counted from the next one: to one of these, by a guard to one of two
 pub data Exit : Type 0 where
@@ -58,68 +59,91 @@ table c t (b ∷ bs) = run_block c b (table c t bs) ∷ table c t bs
 abbrev pub one : List Cmd → List ℕ → List Block
 one cmds to = record { cmds = cmds; exit = Leap to } ∷ []
 
--- where each point lies behind a body's blocks
+-- how far ahead each point lies
 abbrev pub Places : Type 0
 Places = Point → ℕ
 
-abbrev pub here : Point → Places → Places
-here p where_ q = if point_eq p q then 0 else where_ q
+-- blocks, and where points lie: so many blocks stand from there to the end. Where nothing but what stands in front of the first block
+-- leads to it, it takes in commands in front of its own
+pub record Coded : Type 0 where
+  pub blocks : List Block
+  pub from_end : Point → ℕ
+  pub takes_in : Bool
 
-abbrev pub past : ℕ → Places → Places
-past n where_ q = n + where_ q
-
-abbrev pub next_one : Places → Places
-next_one where_ q = suc (where_ q)
+abbrev pub places : Coded → Places
+places t p = length t.blocks - t.from_end p
 
 abbrev pub to_points : Places → List Point → List ℕ
 to_points where_ [] = where_ ToEnd ∷ []
 to_points where_ (p ∷ ps) = map where_ (p ∷ ps)
 
--- a body's blocks and where each point lies from their start, where the points behind the blocks lie so.
--- Both are one recursion: a pair
-pub record Coded : Type 0 where
-  pub blocks : List Block
-  pub entry : Places
+-- commands in front of those of the first block
+abbrev pub taken_in : List Cmd → List Block → List Block
+taken_in ks [] = one ks (0 ∷ [])
+taken_in ks (b ∷ bs) = record { cmds = ks ++ b.cmds; exit = b.exit } ∷ bs
 
-abbrev pub after_one : Places → List Cmd → List ℕ → Coded
-after_one where_ cmds to = record { blocks = one cmds to; entry = next_one where_ }
+-- commands in front of blocks: the first one takes them in, or else they are a block that leads on
+abbrev pub led : Bool → List Cmd → List Block → List Block
+led true ks bs = taken_in ks bs
+led false ks bs = one ks (0 ∷ []) ++ bs
 
-abbrev pub if_code : Guard → (on off : Coded) → (skip : Block) → List Block
-if_code g on off skip =
-    record { cmds = []; exit = Either g 0 (suc (length on.blocks)) } ∷ (on.blocks ++ (skip ∷ off.blocks))
+abbrev pub doing : List Cmd → Coded → Coded
+doing ks t = record { blocks = led t.takes_in ks t.blocks; from_end = t.from_end; takes_in = true }
 
-abbrev pub while_code : Guard → Head → Coded → List Block
-while_code g h body =
-    record { cmds = arrival h; exit = Either g 0 (suc (length body.blocks)) } ∷ (body.blocks ++ one (turn h) (0 ∷ []))
+-- jumps lead here
+abbrev pub closed : Coded → Coded
+closed t = record { blocks = t.blocks; from_end = t.from_end; takes_in = false }
 
-abbrev pub code : Core → Places → Coded
-code Nil where_ = record { blocks = []; entry = where_ }
-code (Seq a b) where_ =
-    let cb = code b where_ in
-    let ca = code a cb.entry in
-    record { blocks = ca.blocks ++ cb.blocks; entry = ca.entry }
-code (Mark p) where_ = record { blocks = []; entry = here p where_ }
-code (Do ks) where_ = after_one where_ ks (0 ∷ [])
-code (To ps) where_ = after_one where_ [] (to_points where_ ps)
-code (Choose g a b) where_ =
-    let cb = code b where_ in
-    let ca = code a (next_one (past (length cb.blocks) where_)) in
-    let skip : Block = record { cmds = []; exit = Leap (length cb.blocks ∷ []) } in
-    let blocks = if_code g ca cb skip in
-    record { blocks = blocks; entry = past (length blocks) where_ }
-code (Loop h g a) where_ =
-    let ca = code a (next_one where_) in
-    let blocks = while_code g h ca in
-    record { blocks = blocks; entry = past (length blocks) where_ }
+-- the point lies here
+abbrev pub lying : Point → Coded → Coded
+lying p t =
+    record {
+      blocks = t.blocks;
+      from_end = λ q. if point_eq p q then length t.blocks else t.from_end q;
+      takes_in = false;
+    }
 
-abbrev pub to_closing : Places
-to_closing p = 0
+-- a block in front of blocks u, where points lie as in t
+abbrev pub in_front : Coded → Block → Coded → Coded
+in_front t b u = record { blocks = b ∷ u.blocks; from_end = t.from_end; takes_in = true }
 
--- the blocks of an implementation without calls: the first one assumes what is given, the last one checks what is wanted
+-- one side of a conditional is there: behind the other one it is skipped
+abbrev pub skipped : Coded → Coded → Coded
+skipped t off =
+    in_front t (record { cmds = []; exit = Leap ((length off.blocks - length t.blocks) ∷ []) }) off
+
+-- both sides are there: by the guard it goes on with the first one, or else with the other one
+abbrev pub decided : Coded → Guard → Coded → Coded → Coded
+decided t g off on =
+    in_front t (record { cmds = []; exit = Either g 0 (length on.blocks - length off.blocks) }) on
+
+-- a turn of a loop is there: on arrival the guard decides between it and what is behind the loop
+abbrev pub arrived : Coded → Head → Guard → Coded → Coded
+arrived t h g body =
+    in_front t (record { cmds = arrival h; exit = Either g 0 (length body.blocks - length t.blocks) }) body
+
+-- the end of a turn
+abbrev pub turned : Head → Coded → Coded
+turned h t = in_front t (record { cmds = turn h; exit = Leap (0 ∷ []) }) t
+
+-- the blocks of a body in front of those behind it. Commands go into one block with what follows, up to a point to which jumps lead
+abbrev pub code : Core → Coded → Coded
+code Nil t = t
+code (Seq a b) t = code a (code b t)
+code (Mark p) t = lying p t
+code (Do ks) t = doing ks t
+code (To ps) t = in_front t (record { cmds = []; exit = Leap (to_points (places t) ps) }) t
+code (Choose g a b) t = let off = code b (closed t) in decided t g off (code a (skipped t off))
+code (Loop h g a) t = arrived t h g (code a (turned h t))
+
+-- the last block, which checks what is wanted: there each point lies that a body lacks
+abbrev pub at_end : List Demand → Coded
+at_end ds =
+    record { blocks = record { cmds = Check ds ∷ []; exit = Leap [] } ∷ []; from_end = λ p. 1; takes_in = false }
+
+-- the blocks of an implementation without calls: at first what is given is assumed, and at the end what is wanted is checked
 abbrev pub blocks_of : Routine → List Block
-blocks_of r =
-    record { cmds = Suppose r.given ∷ []; exit = Leap (0 ∷ []) }
-    ∷ ((code r.body to_closing).blocks ++ (record { cmds = Check r.wanted ∷ []; exit = Leap [] } ∷ []))
+blocks_of r = (doing (Suppose r.given ∷ []) (code r.body (at_end r.wanted))).blocks
 
 -- an execution of blocks, from the first one
 abbrev pub blocks_run : Ctx → List Block → World → Answer

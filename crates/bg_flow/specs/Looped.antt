@@ -1,11 +1,12 @@
 -- Blocks with loops, as they come from statements: a loop's head and the end of its turns are commands. Cutting writes out both.
-use Rattle.std.specs.Prelude.{ℕ, suc, List, [], ◌∷◌, ◌++◌, length}
-use Rattle.bg_sense.specs.Flow.{World, Answer, Flow, Next, and_then}
+use Rattle.std.specs.Prelude.{ℕ, ◌-◌, Bool, true, false, if◌then◌else◌, List, [], ◌∷◌, ◌++◌, length}
+use Rattle.bg_ast.specs.Syntax.{Guard}
+use Rattle.bg_sense.specs.Flow.{World, Answer, Point, Flow, Next, and_then, point_eq}
 use Rattle.bg_sense.specs.Context.{Ctx, scope}
 use Rattle.bg_sense.specs.Choices.{forget_all}
 use Rattle.bg_sense.specs.Loop.{end}
-use Rattle.bg_flow.specs.Core.{Cmd, Check, Suppose, act, check_these, suppose_these, Head, arrival, turn, Core, Nil, Seq, Mark, Do, To, Choose, Loop, Routine}
-use Rattle.bg_flow.specs.Blocks.{Exit, Leap, Either, Block, Table, at_table, enter, index, leave, Places, here, past, next_one, to_points, to_closing}
+use Rattle.bg_flow.specs.Core.{Demand, Cmd, Check, Suppose, act, check_these, suppose_these, Head, arrival, turn, Core, Nil, Seq, Mark, Do, To, Choose, Loop, Routine}
+use Rattle.bg_flow.specs.Blocks.{Exit, Leap, Either, Block, Table, at_table, enter, index, leave, Places, to_points}
 
 pub data LoopCmd : Type 0 where
   Plain : Cmd → LoopCmd
@@ -40,9 +41,14 @@ loop_table c t (b ∷ bs) = run_loop_block c b (loop_table c t bs) ∷ loop_tabl
 abbrev pub loops_run : Ctx → List LoopBlock → World → Answer
 loops_run c bs w = at_table (loop_table c [] bs) 0 w
 
+-- blocks, where points lie, and whether the first block takes in commands in front of its own
 pub record Flowed : Type 0 where
   pub blocks : List LoopBlock
-  pub entry : Places
+  pub from_end : Point → ℕ
+  pub takes_in : Bool
+
+abbrev pub flow_places : Flowed → Places
+flow_places t p = length t.blocks - t.from_end p
 
 abbrev pub plain_cmds : List Cmd → List LoopCmd
 plain_cmds [] = []
@@ -51,34 +57,73 @@ plain_cmds (k ∷ ks) = Plain k ∷ plain_cmds ks
 abbrev pub single : List LoopCmd → List ℕ → List LoopBlock
 single cmds to = record { cmds = cmds; exit = Leap to } ∷ []
 
--- a body's blocks, and where each point lies from their start
-abbrev pub flow : Core → Places → Flowed
-flow Nil where_ = record { blocks = []; entry = where_ }
-flow (Seq a b) where_ =
-    let cb = flow b where_ in
-    let ca = flow a cb.entry in
-    record { blocks = ca.blocks ++ cb.blocks; entry = ca.entry }
-flow (Mark p) where_ = record { blocks = []; entry = here p where_ }
-flow (Do ks) where_ = record { blocks = single (plain_cmds ks) (0 ∷ []); entry = next_one where_ }
-flow (To ps) where_ = record { blocks = single [] (to_points where_ ps); entry = next_one where_ }
-flow (Choose g a b) where_ =
-    let cb = flow b where_ in
-    let ca = flow a (next_one (past (length cb.blocks) where_)) in
-    let skip : LoopBlock = record { cmds = []; exit = Leap (length cb.blocks ∷ []) } in
-    let first : LoopBlock = record { cmds = []; exit = Either g 0 (suc (length ca.blocks)) } in
-    let blocks = first ∷ (ca.blocks ++ (skip ∷ cb.blocks)) in
-    record { blocks = blocks; entry = past (length blocks) where_ }
-flow (Loop h g a) where_ =
-    let ca = flow a (next_one where_) in
-    let first : LoopBlock = record { cmds = Arrive h ∷ []; exit = Either g 0 (suc (length ca.blocks)) } in
-    let blocks = first ∷ (ca.blocks ++ single (Turned h ∷ []) (0 ∷ [])) in
-    record { blocks = blocks; entry = past (length blocks) where_ }
+-- commands in front of those of the first block
+abbrev pub flow_in : List LoopCmd → List LoopBlock → List LoopBlock
+flow_in ks [] = single ks (0 ∷ [])
+flow_in ks (b ∷ bs) = record { cmds = ks ++ b.cmds; exit = b.exit } ∷ bs
+
+-- commands in front of blocks: the first one takes them in, or else they are a block that leads on
+abbrev pub flow_led : Bool → List LoopCmd → List LoopBlock → List LoopBlock
+flow_led true ks bs = flow_in ks bs
+flow_led false ks bs = single ks (0 ∷ []) ++ bs
+
+abbrev pub flow_doing : List Cmd → Flowed → Flowed
+flow_doing ks t = record { blocks = flow_led t.takes_in (plain_cmds ks) t.blocks; from_end = t.from_end; takes_in = true }
+
+-- jumps lead here
+abbrev pub flow_closed : Flowed → Flowed
+flow_closed t = record { blocks = t.blocks; from_end = t.from_end; takes_in = false }
+
+-- the point lies here
+abbrev pub flow_lying : Point → Flowed → Flowed
+flow_lying p t =
+    record {
+      blocks = t.blocks;
+      from_end = λ q. if point_eq p q then length t.blocks else t.from_end q;
+      takes_in = false;
+    }
+
+-- a block in front of blocks u, where points lie as in t
+abbrev pub flow_front : Flowed → LoopBlock → Flowed → Flowed
+flow_front t b u = record { blocks = b ∷ u.blocks; from_end = t.from_end; takes_in = true }
+
+-- one side of a conditional is there: behind the other one it is skipped
+abbrev pub flow_skipped : Flowed → Flowed → Flowed
+flow_skipped t off =
+    flow_front t (record { cmds = []; exit = Leap ((length off.blocks - length t.blocks) ∷ []) }) off
+
+-- both sides are there: by the guard it goes on with the first one, or else with the other one
+abbrev pub flow_decided : Flowed → Guard → Flowed → Flowed → Flowed
+flow_decided t g off on =
+    flow_front t (record { cmds = []; exit = Either g 0 (length on.blocks - length off.blocks) }) on
+
+-- a turn of a loop is there: on arrival the guard decides between it and what is behind the loop
+abbrev pub flow_arrived : Flowed → Head → Guard → Flowed → Flowed
+flow_arrived t h g body =
+    flow_front t (record { cmds = Arrive h ∷ []; exit = Either g 0 (length body.blocks - length t.blocks) }) body
+
+-- the end of a turn
+abbrev pub flow_turned : Head → Flowed → Flowed
+flow_turned h t = flow_front t (record { cmds = Turned h ∷ []; exit = Leap (0 ∷ []) }) t
+
+-- the blocks of a body in front of those behind it
+abbrev pub flow : Core → Flowed → Flowed
+flow Nil t = t
+flow (Seq a b) t = flow a (flow b t)
+flow (Mark p) t = flow_lying p t
+flow (Do ks) t = flow_doing ks t
+flow (To ps) t = flow_front t (record { cmds = []; exit = Leap (to_points (flow_places t) ps) }) t
+flow (Choose g a b) t = let off = flow b (flow_closed t) in flow_decided t g off (flow a (flow_skipped t off))
+flow (Loop h g a) t = flow_arrived t h g (flow a (flow_turned h t))
+
+-- the last block, which checks what is wanted
+abbrev pub flow_end : List Demand → Flowed
+flow_end ds =
+    record { blocks = record { cmds = Plain (Check ds) ∷ []; exit = Leap [] } ∷ []; from_end = λ p. 1; takes_in = false }
 
 -- the blocks of an implementation without calls
 abbrev pub flow_of : Routine → List LoopBlock
-flow_of r =
-    record { cmds = Plain (Suppose r.given) ∷ []; exit = Leap (0 ∷ []) }
-    ∷ ((flow r.body to_closing).blocks ++ (record { cmds = Plain (Check r.wanted) ∷ []; exit = Leap [] } ∷ []))
+flow_of r = (flow_doing (Suppose r.given ∷ []) (flow r.body (flow_end r.wanted))).blocks
 
 abbrev pub cut_cmd : LoopCmd → List Cmd
 cut_cmd (Plain k) = k ∷ []

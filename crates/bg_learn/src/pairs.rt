@@ -8,8 +8,12 @@ use bg_trail::{Engine, at_place, atom_of, is_positive, opposite};
 use std::alloc::{AllocError, Global};
 use std::collections::BTreeMap;
 
-/// The literals whose rows are true, by entries and bound.
-type Sides = BTreeMap<(Vec<(u32, i128)>, i128), Lit>;
+/// The literals whose rows are true, by entries and bound; and those whose rows say nothing over the terms that stay.
+#[derive(Drop)]
+struct Sides {
+    by_row: BTreeMap<(Vec<(u32, i128)>, i128), Lit>,
+    settled: Vec<Lit>,
+}
 
 /// The row of a literal of the formula, if it has one.
 pub fn row_of(f: &Clauses, l: Lit) -> Option<&Row> {
@@ -40,7 +44,14 @@ fn other_side(alloc: Global, sides: &Sides, row: &Row) -> Result<Option<Lit>, Al
         return Ok(None);
     };
     let k = key(alloc, &other)?;
-    Ok(sides.get(&k).copied())
+    Ok(sides.by_row.get(&k).copied())
+}
+
+/// Notes that two literals' rows say nothing over the terms that stay.
+fn settle(sides: &mut Sides, l: Lit, other: Lit) -> Result<(), AllocError> {
+    sides.settled.push(l)?;
+    sides.settled.push(other)?;
+    Ok(())
 }
 
 /// Takes in the row of a literal, and solves the equality that it makes with its opposite, if that is there.
@@ -49,19 +60,26 @@ fn take(e: &mut Engine<'_>, sides: &mut Sides, l: Lit) -> Result<(), AllocError>
     let Some(row) = row_of(f, l) else {
         return Ok(());
     };
-    sides.insert(key(e.alloc, row)?, l)?;
+    sides.by_row.insert(key(e.alloc, row)?, l)?;
     let Some(other) = other_side(e.alloc, sides, row)? else {
         return Ok(());
     };
     let Some(opposite) = row_of(f, other) else {
         return Ok(());
     };
-    learn_equality(e.alloc, &mut e.solved, l, row, other, opposite)?;
+    if learn_equality(e.alloc, &mut e.solved, l, row, other, opposite)? {
+        settle(sides, l, other)?;
+    }
     Ok(())
 }
 
 /// Solves the equality of two literals' rows, if they are opposite: whether they are.
-fn take_both(e: &mut Engine<'_>, l: Lit, other: Lit) -> Result<bool, AllocError> {
+fn take_both(
+    e: &mut Engine<'_>,
+    sides: &mut Sides,
+    l: Lit,
+    other: Lit,
+) -> Result<bool, AllocError> {
     let f = e.formula;
     let (Some(row), Some(opposite)) = (row_of(f, l), row_of(f, other)) else {
         return Ok(false);
@@ -69,7 +87,9 @@ fn take_both(e: &mut Engine<'_>, l: Lit, other: Lit) -> Result<bool, AllocError>
     if !are_opposite(row, opposite) {
         return Ok(false);
     }
-    learn_equality(e.alloc, &mut e.solved, l, row, other, opposite)?;
+    if learn_equality(e.alloc, &mut e.solved, l, row, other, opposite)? {
+        settle(sides, l, other)?;
+    }
     Ok(true)
 }
 
@@ -84,7 +104,7 @@ fn take_next(
     let Some(other) = waits else {
         return Ok(Some(l));
     };
-    if take_both(e, l, other)? {
+    if take_both(e, sides, l, other)? {
         return Ok(None);
     }
     take(e, sides, other)?;
@@ -92,9 +112,13 @@ fn take_next(
 }
 
 /// Solves the equalities whose two rows are true at the root. Clauses stand from the last block of the program back, so the literals
-/// are taken from the last on: a variable is then solved for those from which it is made.
-pub fn solve_equalities(e: &mut Engine<'_>) -> Result<(), AllocError> {
-    let mut sides = BTreeMap::new(e.alloc);
+/// are taken from the last on: a variable is then solved for those from which it is made. Answers the literals whose rows say nothing
+/// over the terms that stay: the sides of an equality that is solved, or that follows from those that are.
+pub fn solve_equalities(e: &mut Engine<'_>) -> Result<Vec<Lit>, AllocError> {
+    let mut sides = Sides {
+        by_row: BTreeMap::new(e.alloc),
+        settled: Vec::new(e.alloc),
+    };
     let mut waits = None;
     for place in (0..e.trail.len).rev() {
         if let Some(l) = at_place(&e.trail, place) {
@@ -106,5 +130,5 @@ pub fn solve_equalities(e: &mut Engine<'_>) -> Result<(), AllocError> {
     if let Some(l) = waits {
         take(e, &mut sides, l)?;
     }
-    Ok(())
+    Ok(sides.settled)
 }

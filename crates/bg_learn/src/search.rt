@@ -44,7 +44,7 @@ fn go_on(e: &mut Engine<'_>) -> Result<Option<End>, AllocError> {
     if is_spent(e) {
         return Ok(Some(End::Unknown));
     }
-    if let Some(l) = next_literal(e.formula, &e.trail) {
+    if let Some(l) = next_literal(e) {
         decide(e, l);
         return Ok(None);
     }

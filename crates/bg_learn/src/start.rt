@@ -1,19 +1,29 @@
 //! The start: the clauses and units of the formula, the equalities that hold at the root, and the columns of its rows.
 
 use crate::pairs::solve_equalities;
-use bg_formula::Atom;
+use bg_formula::{Atom, Literal};
 use bg_simplex::{Lit, Multiple};
 use bg_trail::{
     Engine, Reason, Span, add_clause, assign, atom_of, is_false, is_met, is_open, literal, named,
-    negated, numbered, propagate, seat, units,
+    negated, propagate, seat, units,
 };
 use std::alloc::AllocError;
+
+/// Puts the literals of a clause of the formula, in its order, in the place of those in a list.
+fn put_named(made: &mut Vec<Lit>, clause: &[Literal]) -> Result<(), AllocError> {
+    made.clear();
+    for l in clause {
+        made.push(named(l))?;
+    }
+    Ok(())
+}
 
 /// Adds the clauses of the formula.
 fn add_clauses(e: &mut Engine<'_>) -> Result<(), AllocError> {
     let f = e.formula;
+    let mut made = Vec::new(e.alloc);
     for clause in &f.clauses {
-        let made = numbered(e.alloc, clause)?;
+        put_named(&mut made, clause)?;
         add_clause(&mut e.base, &made)?;
     }
     Ok(())
@@ -111,17 +121,16 @@ fn leave_standing(wanted: &mut [bool], l: Lit) {
     }
 }
 
-/// Which atoms need a seat: those that a clause names which isn't true yet, and those that have a value. The two sides of a solved
-/// equality need none: over the terms that stay their rows say nothing.
-fn wanted(e: &Engine<'_>) -> Result<Vec<bool>, AllocError> {
+/// Which atoms need a seat: those that a clause names which isn't true yet, and those that have a value. Those of these literals need
+/// none: over the terms that stay their rows say nothing.
+fn wanted(e: &Engine<'_>, settled: &[Lit]) -> Result<Vec<bool>, AllocError> {
     let mut made = open_literals(e)?;
     for (a, is_wanted) in made.iter_mut().enumerate() {
         let a = u32::try_from(a).unwrap_or(u32::MAX);
         *is_wanted = *is_wanted || !is_open(&e.trail, literal(a, true));
     }
-    for equality in &e.solved.equalities {
-        leave_standing(&mut made, equality.up);
-        leave_standing(&mut made, equality.down);
+    for l in settled {
+        leave_standing(&mut made, *l);
     }
     Ok(made)
 }
@@ -149,9 +158,9 @@ fn seat_atom(e: &mut Engine<'_>, a: u32) -> Result<Option<Reason>, AllocError> {
     }
 }
 
-/// Seats the atoms that need it. Answers why one can't have its value.
-fn seat_all(e: &mut Engine<'_>) -> Result<Option<Reason>, AllocError> {
-    let wanted = wanted(e)?;
+/// Seats the atoms that need it; those of these literals don't. Answers why one can't have its value.
+fn seat_all(e: &mut Engine<'_>, settled: &[Lit]) -> Result<Option<Reason>, AllocError> {
+    let wanted = wanted(e, settled)?;
     for (a, is_wanted) in wanted.iter().enumerate() {
         if *is_wanted {
             let found = seat_atom(e, u32::try_from(a).unwrap_or(u32::MAX))?;
@@ -187,8 +196,8 @@ pub fn start(e: &mut Engine<'_>, set: &[bool]) -> Result<Option<Reason>, AllocEr
     if found.is_some() {
         return Ok(found);
     }
-    solve_equalities(e)?;
-    let found = seat_all(e)?;
+    let settled = solve_equalities(e)?;
+    let found = seat_all(e, &settled)?;
     if found.is_some() {
         return Ok(found);
     }

@@ -8,7 +8,9 @@ use crate::occurs::{Occurs, clauses_of, occurs_of};
 use crate::shared::{common_bounds, common_literals, extremes, template};
 use crate::way::{Way, gather, is_branch};
 use bg_simplex::Lit;
-use bg_trail::{Engine, at_place, go_back, is_false, is_open, is_reached, negated, numbered};
+use bg_trail::{
+    Engine, at_place, go_back, is_false, is_open, is_opening, is_reached, negated, numbered,
+};
 use std::alloc::AllocError;
 
 /// How deep alternatives within alternatives are looked at.
@@ -329,11 +331,7 @@ fn look_at(
     seen: &mut [bool],
     c: u32,
 ) -> Result<Flow, AllocError> {
-    let f = e.formula;
-    let Some(clause) = f.clauses.get(c as usize) else {
-        return Ok(Flow::Go);
-    };
-    if e.counts.looks >= MOST_LOOKS || !is_reached(f, &e.trail, clause) {
+    if e.counts.looks >= MOST_LOOKS || !is_reached(e, c as usize) {
         return Ok(Flow::Go);
     }
     let Some(is_seen) = seen.get_mut(c as usize) else {
@@ -369,11 +367,33 @@ fn look_along(
     Ok(Flow::Go)
 }
 
-/// The dilemma rule at the root: for each open clause of two to four literals that is reached, in the order in which the trail touches
-/// them.
+/// The dilemma rule for the clauses by which the entry goes on in one of several ways.
+fn look_at_entry(
+    e: &mut Engine<'_>,
+    occurs: &Occurs,
+    seen: &mut [bool],
+) -> Result<Flow, AllocError> {
+    for at in 0..e.formula.clauses.len() {
+        if is_opening(e, at) {
+            let c = u32::try_from(at).unwrap_or(u32::MAX);
+            match look_at(e, occurs, seen, c)? {
+                Flow::Go => {}
+                other => return Ok(other),
+            }
+        }
+    }
+    Ok(Flow::Go)
+}
+
+/// The dilemma rule at the root: for each open clause of two to four literals that is reached, those of the entry first, and then in
+/// the order in which the trail touches them.
 pub fn meet(e: &mut Engine<'_>) -> Result<Flow, AllocError> {
     let occurs = occurs_of(e.alloc, e.formula)?;
     let mut seen = vec![in e.alloc; false; e.formula.clauses.len()]?;
+    match look_at_entry(e, &occurs, &mut seen)? {
+        Flow::Go => {}
+        other => return Ok(other),
+    }
     for place in 0..usize::MAX {
         let Some(l) = at_place(&e.trail, place) else {
             return Ok(Flow::Go);

@@ -51,7 +51,7 @@ fn front_by(e: &Engine<'_>, occurs: &Occurs, l: Lit, best: Option<u32>) -> Optio
         };
         if is_before {
             if let Some(clause) = e.formula.clauses.get(*c as usize) {
-                if is_reached(e.formula, &e.trail, clause) && is_branch(&e.trail, clause) {
+                if is_reached(e, *c as usize) && is_branch(&e.trail, clause) {
                     best = Some(*c);
                 }
             }

@@ -11,8 +11,8 @@ use Rattle.bg_sense.specs.Run.{context}
 use Rattle.bg_sense.specs.Types.{types_of}
 use Rattle.bg_sense.specs.Typing.{Sig, HaveTypes, sig_of, IsTypedSt}
 use Rattle.bg_flow.specs.Core.{Cmd, Check, Suppose, Forget, Put, Perform, Finish, frame_decls, routine_of}
-use Rattle.bg_flow.specs.Blocks.{Block, blocks_of}
-use Rattle.bg_passive.specs.Incarnations.{Env, hold, hold_all, hold_next, after_vars, after_exs, after_decls, each_ex, each_decl, pass, pass_all, Arrival, ty_of, TypesFrom, FitsCmd, FitsCmds, Below, EnvBelow, ForBool, JoinsFit, after_joins, FitsJoin, FitEach, targets_of, FitsBlocks, IsTypedCmd, AreTypedCmds, AreTypedBlocks, entry_env, TypedNums, EnvTyped, ArrivalsTyped, incarnations, MakesPassive}
+use Rattle.bg_flow.specs.Blocks.{Block, led, code, at_end, blocks_of}
+use Rattle.bg_passive.specs.Incarnations.{Env, hold, hold_all, hold_next, after_vars, after_exs, after_decls, each_ex, each_decl, pass, pass_all, Arrival, ty_of, TypesFrom, FitsCmd, FitsCmds, Below, EnvBelow, ForBool, JoinsFit, after_joins, FitsJoin, FitEach, targets_of, FitsBlocks, IsTypedCmd, AreTypedCmds, AreTypedBlocks, entry_env, TypedNums, EnvTyped, ArrivalsTyped, incarnations, StartsAt, MakesPassive}
 use Rattle.bg_passive.specs.Arrivals.{all_begin, tails, merge, after_merge, merge_types, globals_in, frames_in, arrive_at, arrive_types, Ways, ways_here, ways_on, way_to, ways_to, cmd_types, cmds_types, arrive, arrived}
 use Rattle.bg_sense.proofs.Bools.{and_left, and_right}
 use Rattle.bg_passive.proofs.Renaming.{below_more, env_more}
@@ -431,6 +431,16 @@ count_below : (k n m : ℕ) → k + n ≤ m → Below m (count_from k n)
 count_below k zero m le = tt
 count_below k (suc n) m le = (omega arith, count_below (suc k) n m (omega arith))
 
+-- the first block is arrived at as at entry
+starts_at : (p : Prog) (ds : List Decl) (bs : List Block) → (bs ≡ [] → ⊥) → StartsAt (arrived p ds bs).arrivals (entry_env p ds)
+starts_at p ds [] some = absurd (some refl)
+starts_at p ds (b ∷ bs) some = refl
+
+led_some : (o : Bool) (ks : List Cmd) (bs : List Block) → led o ks bs ≡ [] → ⊥
+led_some false ks bs e = let bad : ⊥ = cc in bad
+led_some true ks [] e = let bad : ⊥ = cc in bad
+led_some true ks (b ∷ bs) e = let bad : ⊥ = cc in bad
+
 module _ (p : Prog) (set : ℕ → Bool) (i : Interp) (k : ℕ) (m : Impl) (q : Proc) (s : State) (typed : IsTypedSt (context Turning p set i k m q s) m.body) where
   abbrev c : Ctx
   c = context Turning p set i k m q s
@@ -465,7 +475,9 @@ module _ (p : Prog) (set : ℕ → Bool) (i : Interp) (k : ℕ) (m : Impl) (q : 
 
   pub arrived_fit : MakesPassive p ds made (arrived p ds bs).arrivals bs
   arrived_fit =
-      (refl, (arrive_fits incs p ds (sig_of c) bs [] n0 (blocks_typed c m q k refl typed) tt (first_below, first_typed) made_from).0)
+      let r = routine_of p k m q in
+      let body = code r.body (at_end r.wanted) in
+      (starts_at p ds bs (led_some body.takes_in (Suppose r.given ∷ []) body.blocks), (arrive_fits incs p ds (sig_of c) bs [] n0 (blocks_typed c m q k refl typed) tt (first_below, first_typed) made_from).0)
 
   pub arrived_typed : ArrivalsTyped incs p ds (arrived p ds bs).arrivals
   arrived_typed =

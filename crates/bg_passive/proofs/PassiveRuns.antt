@@ -17,7 +17,7 @@ use Rattle.bg_sense.specs.Typing.{AreTypedBodies, IsTypedSt, HaveTypes, sig_of}
 use Rattle.bg_flow.specs.Core.{frame_decls, routine_of}
 use Rattle.bg_flow.specs.Blocks.{Block, at_table, table, blocks_of}
 use Rattle.bg_passive.specs.Passive.{walk_at, walks, SomeWalk}
-use Rattle.bg_passive.specs.Incarnations.{Arrival, passives, ty_of, entry_env, incarnations, MakesPassive, first_state, passive_scope, ValuesFrom}
+use Rattle.bg_passive.specs.Incarnations.{Arrival, passives, ty_of, entry_env, incarnations, EnvBelow, FitsBlocks, MakesPassive, first_state, passive_scope, ValuesFrom}
 use Rattle.bg_passive.specs.ReadBack.{choices_at, walk_choices}
 use Rattle.bg_sense.proofs.Bools.{and_left, and_right, both}
 use Rattle.bg_sense.proofs.TypedRuns.{default_typed, evs_typed, suits}
@@ -57,6 +57,11 @@ nexts [] (v ∷ vs) W n e = absurd (let bad : ⊥ = cc in bad)
 nexts (d ∷ ds) [] W n e = absurd (let bad : ⊥ = cc in bad)
 nexts (d ∷ ds) (v ∷ vs) W n e =
     shift v (vs ++ W) (length ds) n ∙ nexts ds vs W n (and_right (is_of d.ty v) (are_of (types_of ds) vs) e)
+
+-- the first arrival has incarnations that were given out before
+first_below : (incs : List Ty) (tys : Var → Ty) (a : Arrival) (later : List Arrival) (bs : List Block) → FitsBlocks incs tys (a ∷ later) bs → EnvBelow a.next a.env
+first_below incs tys a later [] f = absurd f
+first_below incs tys a later (b ∷ bs) f = f.0
 
 module _ (p : Prog) (set : ℕ → Bool) (i : Interp) (k : ℕ) (m : Impl) (q : Proc) (s : State) (em : slice_get p.implementations k ≡ Some m) (eq : procedure_of p m.procedure ≡ Some q) where
   abbrev ds : List Decl
@@ -117,7 +122,7 @@ module _ (p : Prog) (set : ℕ → Bool) (i : Interp) (k : ℕ) (m : Impl) (q : 
           let run : at_table (table c [] blocks) 0 w ≡ Failed t = blocks_same p set i k m q s cs em eq ∙ x in
           let found = blocks_found incs c t (sig_of c) (ty_of p ds) same args_typed blocks (a ∷ later) f.1 tb 0 w V0 metA (state.globals, frame_typed) typed0 run in
           let V = found.0 in
-          let metV : Met c V a.env s.globals s.frame = met_agree c a.next V0 V a.env s.globals s.frame f.1.0 found.1.0 metA in
+          let metV : Met c V a.env s.globals s.frame = met_agree c a.next V0 V a.env s.globals s.frame (first_below incs (ty_of p ds) a later blocks f.1) found.1.0 metA in
           (V, (record { typed = found.1.1.0; first = met_first V (subst (λ v. Met c V v s.globals s.frame) f.0 metV) }, found.1.1.1))
 
 pub passive_same : (p : Prog) (set : ℕ → Bool) (i : Interp) (k : ℕ) (m : Impl) (q : Proc) (s : State) (t : Spot) (others : List Ty) (later : List Arrival) → slice_get p.implementations k ≡ Some m → procedure_of p m.procedure ≡ Some q → AreTypedBodies p → IsTypedSt (context Turning p set i k m q s) m.body → IsInterp p i → IsState p k s → MakesPassive p (frame_decls m q) others later (blocks_of (routine_of p k m q)) → ((cs : List Choice) × (induction_run p set i k s cs ≡ Failed t)) ↔ ((V : List Val) × (ValuesFrom p (frame_decls m q) others s V × SomeWalk set t (passive_scope p i V) (passives later (blocks_of (routine_of p k m q))) 0))

@@ -1,13 +1,12 @@
 -- The blocks of a typed body are typed.
-use Rattle.std.proofs.Common.{◌≡◌, ℕ, List, [], ◌∷◌, ◌++◌, map, Option, Some, None, refl, sym, ap, ◌∙◌, subst}
-use Rattle.std.specs.Prelude.{length}
+use Rattle.std.proofs.Common.{◌≡◌, ℕ, Bool, true, false, List, [], ◌∷◌, ◌++◌, map, Option, Some, None, refl, sym, ap, ◌∙◌, subst}
 use Rattle.bg_ast.specs.Values.{Ty}
 use Rattle.bg_ast.specs.Syntax.{Proc, Impl, Var, Global, Local, Call, St, Skip, Then, Label, Assert, Assume, Havoc, Assign, Invoke, If, While, Break, Goto, Return}
 use Rattle.bg_sense.specs.Context.{Ctx}
 use Rattle.bg_sense.specs.Variables.{type_in, decl_of, procedure_of}
 use Rattle.bg_sense.specs.Typing.{Sig, HaveTypes, sig_of, types_at, CallHasType, IsTypedSt}
-use Rattle.bg_flow.specs.Core.{Core, Nil, Seq, Mark, Do, To, Choose, Loop, calls_of, desugar, frame_decls, routine_of}
-use Rattle.bg_flow.specs.Blocks.{Block, Places, past, next_one, code, to_closing, blocks_of}
+use Rattle.bg_flow.specs.Core.{Cmd, Suppose, Core, Nil, Seq, Mark, Do, To, Choose, Loop, calls_of, desugar, frame_decls, routine_of}
+use Rattle.bg_flow.specs.Blocks.{Block, Coded, led, closed, skipped, turned, code, at_end, blocks_of}
 use Rattle.bg_passive.specs.Incarnations.{ty_of, AreTypedCmds, AreTypedBlocks}
 
 module _ (g : Sig) (tys : Var → Ty) where
@@ -18,24 +17,25 @@ module _ (g : Sig) (tys : Var → Ty) where
   TypedCore (Loop h e a) = TypedCore a
   TypedCore _ = Unit {0}
 
-  blocks_append : (xs ys : List Block) → AreTypedBlocks g tys xs → AreTypedBlocks g tys ys → AreTypedBlocks g tys (xs ++ ys)
-  blocks_append [] ys a b = b
-  blocks_append (x ∷ xs) ys a b = (a.0, blocks_append xs ys a.1 b)
+  cmds_append : (ks ls : List Cmd) → AreTypedCmds g tys ks → AreTypedCmds g tys ls → AreTypedCmds g tys (ks ++ ls)
+  cmds_append [] ls a b = b
+  cmds_append (k ∷ ks) ls a b = (a.0, cmds_append ks ls a.1 b)
 
-  code_typed : (s : Core) (i : Places) → TypedCore s → AreTypedBlocks g tys (code s i).blocks
-  code_typed Nil i h = tt
-  code_typed (Seq a b) i h =
-      let cb = code b i in
-      blocks_append (code a cb.entry).blocks cb.blocks (code_typed a cb.entry h.0) (code_typed b i h.1)
-  code_typed (Mark p) i h = tt
-  code_typed (Do ks) i h = (h, tt)
-  code_typed (To ps) i h = (tt, tt)
-  code_typed (Choose e a b) i h =
-      let cb = code b i in
-      let j = next_one (past (length cb.blocks) i) in
-      (tt, blocks_append (code a j).blocks _ (code_typed a j h.0) (tt, code_typed b i h.1))
-  code_typed (Loop hd e a) i h =
-      ((tt, (tt, (tt, (tt, tt)))), blocks_append (code a (next_one i)).blocks _ (code_typed a (next_one i) h) ((tt, (tt, tt)), tt))
+  led_typed : (o : Bool) (ks : List Cmd) (bs : List Block) → AreTypedCmds g tys ks → AreTypedBlocks g tys bs → AreTypedBlocks g tys (led o ks bs)
+  led_typed false ks bs h k = (h, k)
+  led_typed true ks [] h k = (h, tt)
+  led_typed true ks (b ∷ bs) h k = (cmds_append ks b.cmds h k.0, k.1)
+
+  code_typed : (s : Core) (t : Coded) → TypedCore s → AreTypedBlocks g tys t.blocks → AreTypedBlocks g tys (code s t).blocks
+  code_typed Nil t h k = k
+  code_typed (Seq a b) t h k = code_typed a (code b t) h.0 (code_typed b t h.1 k)
+  code_typed (Mark p) t h k = k
+  code_typed (Do ks) t h k = led_typed t.takes_in ks t.blocks h k
+  code_typed (To ps) t h k = (tt, k)
+  code_typed (Choose e a b) t h k =
+      (tt, code_typed a (skipped t (code b (closed t))) h.0 (tt, code_typed b (closed t) h.1 k))
+  code_typed (Loop hd e a) t h k =
+      ((tt, (tt, (tt, (tt, tt)))), code_typed a (turned hd t) h ((tt, (tt, tt)), k))
 
 module _ (c : Ctx) where
   abbrev tys : Var → Ty
@@ -67,4 +67,7 @@ module _ (c : Ctx) where
 
   pub blocks_typed : (m : Impl) (q : Proc) (number : ℕ) → c.variables ≡ frame_decls m q → IsTypedSt c m.body → AreTypedBlocks (sig_of c) tys (blocks_of (routine_of c.program number m q))
   blocks_typed m q number e h =
-      ((tt, tt), blocks_append (sig_of c) tys (code (desugar c.program (frame_decls m q) m.body) to_closing).blocks _ (code_typed (sig_of c) tys (desugar c.program (frame_decls m q) m.body) to_closing (subst (λ ds. TypedCore (sig_of c) tys (desugar c.program ds m.body)) e (desugar_typed m.body h))) ((tt, tt), tt))
+      let r = routine_of c.program number m q in
+      let body = subst (λ ds. TypedCore (sig_of c) tys (desugar c.program ds m.body)) e (desugar_typed m.body h) in
+      led_typed (sig_of c) tys (code r.body (at_end r.wanted)).takes_in (Suppose r.given ∷ []) (code r.body (at_end r.wanted)).blocks (tt, tt)
+      (code_typed (sig_of c) tys r.body (at_end r.wanted) body ((tt, tt), tt))

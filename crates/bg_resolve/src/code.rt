@@ -280,12 +280,12 @@ pub fn code<'a>(
     ensures next { OnOk result (next.new ≡ next.old + sts_count (v.body_of x.now.body.now).stmts) }
     ensures err { IfErr result (λ e. e ≡ Memory) }
 {
-    let body = inner(alloc, g, notes, next, x)?;
     let procedure = number_of(&g.procedures, x.name)?;
+    let name = copy_name(alloc, x.name)?;
     let params = variables(alloc, g, &x.signature.params)?;
     let results = variables(alloc, g, results(x.signature))?;
     let locals = locals(alloc, g, &x.body.locals)?;
-    let name = copy_name(alloc, x.name)?;
+    let body = inner(alloc, g, notes, next, x)?;
     Ok(Made {
         pos: x.pos,
         name,

@@ -70,15 +70,14 @@ fn procedure<'a>(
     ensures err { IfErr result (λ e. e ≡ Memory) }
 {
     note_signature(alloc, g, notes, &q.signature)?;
-    let clauses = specification(alloc, g, notes, next, q)?;
+    let name = copy_name(alloc, &q.name)?;
     let modifies = modifies(alloc, &g.values, g.globals.len(), &q.specs)?;
     let params = variables(alloc, g, &q.signature.params)?;
     let results = variables(alloc, g, results(&q.signature))?;
-    let name = copy_name(alloc, &q.name)?;
     let Clauses {
         requires_,
         ensures_,
-    } = clauses;
+    } = specification(alloc, g, notes, next, q)?;
     Ok(Made {
         pos: q.pos,
         name,

@@ -60,8 +60,14 @@ pub fn plus(a: Fraction, b: Fraction) -> Fraction {
     lowest(num, a.den.checked_mul(b.den))
 }
 
-/// The product.
+/// The product. Mostly the first is 1 or -1.
 pub fn times(a: Fraction, b: Fraction) -> Fraction {
+    if a.den == 1 && a.num == 1 {
+        return b;
+    }
+    if a.den == 1 && a.num == -1 {
+        return negated(b);
+    }
     let num = a.num.checked_mul(b.num);
     if a.den == 1 && b.den == 1 {
         return of(num, Some(1));

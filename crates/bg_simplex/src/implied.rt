@@ -97,6 +97,19 @@ fn is_wanted(wanted: &[u32], column: u32) -> bool {
     }
 }
 
+/// Whether a column is wanted of which a line tells: of this one, where it tells of one alone.
+fn is_asked(line: &Line, only: Option<u32>, wanted: &[u32]) -> bool {
+    if let Some(column) = only {
+        return is_wanted(wanted, column);
+    }
+    for at in 0..count_parts(line) {
+        if is_wanted(wanted, part_at(line, at).column) {
+            return true;
+        }
+    }
+    false
+}
+
 /// What a line tells by the greatest value of its parts' sum, or by the least, of the columns that are wanted.
 fn tell_side(
     s: &Simplex,
@@ -111,6 +124,9 @@ fn tell_side(
         Missing::One(column) => Some(column),
         Missing::Several => return Ok(()),
     };
+    if !is_asked(line, only, wanted) {
+        return Ok(());
+    }
     let sum = total(s, line, greatest);
     for at in 0..count_parts(line) {
         let part = part_at(line, at);

@@ -23,6 +23,7 @@ mod refute;
 mod simplex;
 mod sums;
 mod tableau;
+mod users;
 
 pub use bound::{Bound, Lit};
 pub use feasible::check;

@@ -1,10 +1,11 @@
 //! Lines.
 use crate::fraction::{Fraction, whole};
 
-/// So many times a column.
+/// So many times a column, and the seat that the line has among those of the column.
 #[derive(Clone, Copy)]
 pub struct Part {
     pub column: u32,
+    pub seat: u32,
     pub by: Fraction,
 }
 
@@ -37,6 +38,7 @@ pub fn part_at(line: &Line, at: usize) -> Part {
         Some(part) => *part,
         None => Part {
             column: line.basic,
+            seat: 0,
             by: whole(-1),
         },
     }

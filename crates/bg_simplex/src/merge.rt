@@ -19,6 +19,7 @@ fn next(a: &[Part], k: Fraction, b: &[Part], read: &mut Read) -> Option<Part> {
             read.second = read.second.saturating_add(1);
             Some(Part {
                 column: p.column,
+                seat: p.seat,
                 by: plus(p.by, times(k, q.by)),
             })
         }
@@ -34,20 +35,15 @@ fn next(a: &[Part], k: Fraction, b: &[Part], read: &mut Read) -> Option<Part> {
             read.second = read.second.saturating_add(1);
             Some(Part {
                 column: q.column,
+                seat: q.seat,
                 by: times(k, q.by),
             })
         }
     }
 }
 
-/// The first sum without a column, and k times the second. Takes time for each part.
-pub fn merged(
-    alloc: Global,
-    a: &[Part],
-    without: Option<u32>,
-    k: Fraction,
-    b: &[Part],
-) -> Result<Vec<Part>, AllocError> {
+/// The first sum and k times the second, with the first one's seats. Takes time for each part.
+pub fn merged(alloc: Global, a: &[Part], k: Fraction, b: &[Part]) -> Result<Vec<Part>, AllocError> {
     let most = a.len().saturating_add(b.len());
     let mut made = Vec::with_capacity(alloc, most)?;
     let mut read = Read {
@@ -58,7 +54,7 @@ pub fn merged(
         let Some(part) = next(a, k, b, &mut read) else {
             break;
         };
-        if Some(part.column) != without && (part.by.num != 0 || is_lost(part.by)) {
+        if part.by.num != 0 || is_lost(part.by) {
             made.push(part)?;
         }
     }

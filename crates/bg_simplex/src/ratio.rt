@@ -2,7 +2,7 @@
 use crate::bound::bound_at;
 use crate::fraction::{Fraction, inverse, minus, negated, times, whole};
 use crate::simplex::Simplex;
-use crate::tableau::{count_users, use_of, user_at, value_at};
+use crate::tableau::{count_seats, use_of, user_at, value_at};
 
 /// How far a column may move, and the line whose basic column is at its bound then, with that bound; no line where it is at its own.
 #[derive(Clone, Copy)]
@@ -47,8 +47,8 @@ pub fn limit_of(s: &Simplex, column: u32, up: bool) -> Option<Limit> {
         }),
         None => None,
     };
-    for at in 0..count_users(&s.tableau, column) {
-        if let Some(line) = user_at(&s.tableau, column, at) {
+    for seat in 0..count_seats(&s.tableau, column) {
+        if let Some(line) = user_at(&s.tableau, column, seat) {
             found = nearer(found, limit_by(s, line, column, up));
         }
     }

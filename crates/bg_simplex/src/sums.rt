@@ -4,6 +4,7 @@ use crate::line::{Line, Part};
 use crate::merge::{has_lost, merged};
 use crate::numbers::widen;
 use crate::tableau::{Tableau, line_at, push_column, value_at};
+use crate::users::join;
 use bg_rows::Entry;
 use std::alloc::{AllocError, Global};
 
@@ -28,13 +29,14 @@ fn with_entry(
 ) -> Result<Vec<Part>, AllocError> {
     let by = whole(entry.by);
     match basic_line(t, entry.variable) {
-        Some(line) => merged(alloc, parts, None, by, &line.parts),
+        Some(line) => merged(alloc, parts, by, &line.parts),
         None => {
             let alone = [Part {
                 column: entry.variable,
+                seat: 0,
                 by: whole(1),
             }];
-            merged(alloc, parts, None, by, &alone)
+            merged(alloc, parts, by, &alone)
         }
     }
 }
@@ -50,12 +52,10 @@ fn sum_of(alloc: Global, t: &Tableau, entries: &[Entry]) -> Result<Sum, AllocErr
     Ok(Sum { parts, value })
 }
 
-/// The line stands among those of each of its columns.
-fn use_columns(t: &mut Tableau, line: u32, parts: &[Part]) -> Result<(), AllocError> {
-    for part in parts {
-        if let Some(users) = t.users.get_mut(part.column as usize) {
-            users.push(line)?;
-        }
+/// The line takes a seat among those of each of its columns.
+fn use_columns(t: &mut Tableau, line: u32, parts: &mut [Part]) -> Result<(), AllocError> {
+    for part in parts.iter_mut() {
+        part.seat = join(&mut t.users, part.column, line)?;
     }
     Ok(())
 }
@@ -69,11 +69,11 @@ pub fn push_line(
     line: u32,
     entries: &[Entry],
 ) -> Result<bool, AllocError> {
-    let Sum { parts, value } = sum_of(alloc, t, entries)?;
+    let Sum { mut parts, value } = sum_of(alloc, t, entries)?;
     if is_lost(value) || has_lost(&parts) {
         return Ok(false);
     }
-    use_columns(t, line, &parts)?;
+    use_columns(t, line, &mut parts)?;
     t.lines.push(Line { basic, parts })?;
     widen(&mut t.touched)?;
     push_column(alloc, t, value, Some(line))?;

@@ -1,8 +1,9 @@
 //! Rows are rewritten over the terms that stay.
 use crate::equality::{Dep, Solved, solved_for};
 use crate::equation::made_row;
-use bg_rows::{Entry, Row, common_divisor, copy, tighten};
+use bg_rows::{Entry, Row, common_divisor, tighten};
 use std::alloc::{AllocError, Global};
+use std::mem;
 
 /// A row without terms that are eliminated, and the equalities that were taken from it, in order.
 #[derive(Drop)]
@@ -93,77 +94,88 @@ fn next_sum(a: &[Entry], b: &[Entry], times: i128, read: &mut Read) -> Option<En
     }
 }
 
-/// The entries of a row and so many times another; none where a number leaves 128 bits.
-fn entries_of(
-    alloc: Global,
+/// Puts the entries of a row and so many times another behind those made. False where a number leaves 128 bits.
+fn push_sum(
     a: &[Entry],
     b: &[Entry],
     times: i128,
-) -> Result<Option<Vec<Entry>>, AllocError> {
-    let most = a.len().saturating_add(b.len());
-    let mut made = Vec::with_capacity(alloc, most)?;
+    made: &mut Vec<Entry>,
+) -> Result<bool, AllocError> {
     let mut read = Read {
         first: 0,
         second: 0,
     };
-    for _ in 0..most {
+    for _ in 0..a.len().saturating_add(b.len()) {
         if read.first >= a.len() && read.second >= b.len() {
             break;
         }
         let Some(t) = next_sum(a, b, times, &mut read) else {
-            return Ok(None);
+            return Ok(false);
         };
         if t.by != 0 {
             made.push(t)?;
         }
     }
-    Ok(Some(made))
+    Ok(true)
 }
 
-/// The sum of a row and a multiple of another, if it is within 128 bits.
-fn sum(alloc: Global, a: &Row, b: &Row, times: i128) -> Result<Option<Row>, AllocError> {
-    let Some(more) = b.bound.checked_mul(times) else {
-        return Ok(None);
-    };
-    let Some(bound) = a.bound.checked_add(more) else {
-        return Ok(None);
-    };
-    match entries_of(alloc, &a.entries, &b.entries, times)? {
-        Some(entries) => Ok(made_row(entries, bound)),
-        None => Ok(None),
-    }
+/// A row on the way: its entries and its bound, and room in which the next ones are made.
+#[derive(Drop)]
+struct Way {
+    entries: Vec<Entry>,
+    bound: i128,
+    room: Vec<Entry>,
 }
 
-/// The row without so many times an equality, if it is within 128 bits.
-fn without(alloc: Global, s: &Solved, row: &Row, dep: Dep) -> Result<Option<Row>, AllocError> {
-    match (
-        s.equalities.get(dep.equality as usize),
-        dep.times.checked_abs(),
-    ) {
-        (Some(e), Some(times)) => {
-            let half = if dep.times < 0 { &e.row } else { &e.opposite };
-            sum(alloc, row, half, times)
-        }
-        _ => Ok(None),
-    }
+/// The half of an equality that is added where it is taken so many times, and how often.
+fn half_of(s: &Solved, dep: Dep) -> Option<(&Row, i128)> {
+    let e = s.equalities.get(dep.equality as usize)?;
+    let times = dep.times.checked_abs()?;
+    Some((if dep.times < 0 { &e.row } else { &e.opposite }, times))
+}
+
+/// The bound of a sum.
+fn bound_of(bound: i128, half: &Row, times: i128) -> Option<i128> {
+    bound.checked_add(half.bound.checked_mul(times)?)
+}
+
+/// Takes so many times an equality from a row. False where a number leaves 128 bits.
+fn take(s: &Solved, way: &mut Way, dep: Dep) -> Result<bool, AllocError> {
+    let Some((half, times)) = half_of(s, dep) else {
+        return Ok(false);
+    };
+    let Some(bound) = bound_of(way.bound, half, times) else {
+        return Ok(false);
+    };
+    way.bound = bound;
+    way.room.clear();
+    let is_made = push_sum(&way.entries, &half.entries, times, &mut way.room)?;
+    mem::swap(&mut way.entries, &mut way.room);
+    Ok(is_made)
 }
 
 /// The row without terms that are eliminated; none where a number leaves 128 bits. The equality that is taken is always the earliest
 /// one, so that each is taken once.
 pub fn rewrite(alloc: Global, s: &Solved, row: &Row) -> Result<Option<Rewritten>, AllocError> {
-    let mut row = copy(alloc, row)?;
     let mut deps = Vec::new(alloc);
+    let mut way = Way {
+        entries: row.entries.to_vec(alloc)?,
+        bound: row.bound,
+        room: Vec::new(alloc),
+    };
     for _ in 0..s.equalities.len() {
-        let Some(dep) = next(s, &row.entries) else {
+        let Some(dep) = next(s, &way.entries) else {
             break;
         };
-        let Some(made) = without(alloc, s, &row, dep)? else {
+        if !take(s, &mut way, dep)? {
             return Ok(None);
-        };
-        row = made;
+        }
         deps.push(dep)?;
     }
-    Ok(Some(Rewritten { row, deps }))
+    match made_row(way.entries, way.bound) {
+        Some(row) => Ok(Some(Rewritten { row, deps })),
+        None => Ok(None),
+    }
 }
 
 /// The opposite of what was taken from a row; none where a number leaves 128 bits.
@@ -215,7 +227,11 @@ pub fn reduce(alloc: Global, s: &Solved, row: &Row) -> Result<Option<Reduced>, A
     match rewrite(alloc, s, row)? {
         Some(Rewritten { row, deps }) => {
             let divisor = common_divisor(&row.entries).max(1);
-            let row = tighten(alloc, &row)?;
+            let row = if divisor > 1 {
+                tighten(alloc, &row)?
+            } else {
+                row
+            };
             Ok(Some(Reduced { row, deps, divisor }))
         }
         None => Ok(None),

@@ -63,8 +63,8 @@ fn other_side(
     }
 }
 
-/// Learns that two literals' rows, which hold for good, say that a sum is a number: true where they do and a term stands in it once, so
-/// that it is eliminated from now on. Only want of memory is an error.
+/// Learns that two literals' rows, which hold for good, say that a sum is a number. True where over the terms that stay they say nothing
+/// from now on: a term stands in the sum once, and is eliminated, or the sum has no terms left and is 0. Only want of memory is an error.
 pub fn learn_equality(
     alloc: Global,
     s: &mut Solved,
@@ -83,7 +83,7 @@ pub fn learn_equality(
         return Ok(false);
     }
     let Some(unit) = last_unit(&a.row.entries) else {
-        return Ok(false);
+        return Ok(a.row.entries.is_empty() && a.row.bound == 0);
     };
     let equality = if unit.by > 0 {
         solved(unit.variable, up, a, down, b)

@@ -24,8 +24,8 @@ fn counts(alloc: Global, names: &Names<'_>, blocks: &[FormBlock]) -> Result<(usi
 const TEXT: &[u8] = b"const {:existential true} c: bool;
 procedure P(p: bool, q: bool) { goto A, B; A: assume q; goto B, C; B: assert c ==> p; C: assert p; }";
 
-/// Atom 3 stands for the block of the check, atom 4 for that of `q`, atom 5 for the one that leads to both; the last block has
-/// none, since the check isn't reached from there. The first two have two clauses each, the third has one beside its denial.
+/// Atom 3 stands for the block of the check, atom 4 for that of `q`; the first block, which leads to both, has none, nor has the last
+/// one, since the check isn't reached from there. The blocks with an atom have two clauses each, the first one has one.
 #[test]
 fn clauses_of_blocks_that_meet_again(rt: HostRuntime) -> Result<(), Fail> {
     let alloc = rt.alloc();
@@ -37,7 +37,7 @@ fn clauses_of_blocks_that_meet_again(rt: HostRuntime) -> Result<(), Fail> {
         terms: a.terms,
         rows: &a.rows,
     };
-    assert!(rt; counts(alloc, &names, &a.blocks)? == (6, 6));
+    assert!(rt; counts(alloc, &names, &a.blocks)? == (5, 5));
     Ok(())
 }
 
@@ -64,13 +64,13 @@ fn units(alloc: Global) -> Result<(Vec<Option<u32>>, usize), Fail> {
     }
 }
 
-/// Atom 0 is the variable, atom 1 the one candidate that guards a command that counts; atom 2 stands for the block of its check, and
-/// atom 3 for the one that leads there where `p` is false.
+/// Atom 0 is the variable, atom 1 the one candidate that guards a command that counts; atom 2 stands for the block of its check. The
+/// first block, which leads there where `p` is false, has none.
 #[test]
 fn a_candidate_has_an_atom_where_it_counts(rt: HostRuntime) -> Result<(), Fail> {
     let (candidates, many) = units(rt.alloc())?;
     assert!(rt; candidates.as_slice() == &[None, Some(1), None][..]);
-    assert!(rt; many == 4);
+    assert!(rt; many == 3);
     Ok(())
 }
 

@@ -4,6 +4,7 @@ use crate::base::{Base, grow_base, new_base};
 use crate::columns::{Columns, count_open, grow_columns, new_columns};
 use crate::lemmas::{Lemmas, new_lemmas};
 use crate::literals::atom_of;
+use crate::order::{Front, new_front};
 use crate::reason::{Reason, Reasons, new_reasons};
 use crate::table::{Table, new_table};
 use crate::trail::{Start, Trail, grow_trail, new_trail, pop, put, rise};
@@ -40,7 +41,7 @@ pub struct Counts {
     pub has_met: bool,
 }
 
-/// A search: the formula, and how many atoms there may be with those of rows of the certificate's own; the values on its path, the clauses known, and why each value came; what rows say, by columns; what was
+/// A search: the formula, and how many atoms there may be with those of rows of the certificate's own; the values on its path, where the next clause to decide is searched, the clauses known, and why each value came; what rows say, by columns; what was
 /// learned; and how much was done, and may be.
 #[derive(Drop)]
 pub struct Engine<'a> {
@@ -48,6 +49,7 @@ pub struct Engine<'a> {
     pub formula: &'a Clauses,
     pub room: usize,
     pub trail: Trail,
+    pub front: Front,
     pub base: Base,
     pub reasons: Reasons,
     pub columns: Columns,
@@ -88,6 +90,7 @@ pub fn new_engine(alloc: Global, f: &Clauses, limits: Limits) -> Result<Engine<'
         formula: f,
         room: room(f),
         trail: new_trail(alloc, atoms)?,
+        front: new_front(alloc, f)?,
         base: new_base(alloc, atoms)?,
         reasons: new_reasons(alloc, atoms)?,
         columns: new_columns(alloc, f.terms, atoms)?,
@@ -132,6 +135,8 @@ pub fn decide(e: &mut Engine<'_>, l: Lit) {
         place: e.trail.len,
         mark: mark(&e.simplex),
         parts: e.reasons.parts.len(),
+        from: e.front.from,
+        seen: e.front.seen,
     };
     rise(&mut e.trail, start);
     assign(e, l, Reason::Decision);
@@ -154,6 +159,8 @@ pub fn go_back(e: &mut Engine<'_>, level: usize) {
     e.trail.level = level;
     e.trail.head = start.place;
     e.trail.rows = e.trail.rows.min(start.place);
+    e.front.from = start.from;
+    e.front.seen = start.seen;
     e.reasons.parts.truncate(start.parts);
     take_back(&mut e.simplex, start.mark);
 }

@@ -28,7 +28,7 @@ pub use engine::{
 pub use learning::learn;
 pub use lemmas::{Lemma, Lemmas, Link, keep};
 pub use literals::{atom_of, is_positive, literal, named, negated, numbered};
-pub use order::{is_met, is_reached, next_literal};
+pub use order::{Front, is_met, is_opening, is_reached, next_literal};
 pub use propagation::propagate;
 pub use reason::{Reason, Reasons, needed, reason_of, size_of, top_level};
 pub use seats::{row_atom, seat};

@@ -13,12 +13,15 @@ pub struct Standing {
     pub place: usize,
 }
 
-/// Where a level begins: how long the trail was, the simplex's list of changes, and the list of rows that reasons add up.
+/// Where a level begins: how long the trail was, the simplex's list of changes, and the list of rows that reasons add up; from which
+/// clause on one to decide was searched, and how many literals of the trail were seen for that.
 #[derive(Clone, Copy)]
 pub struct Start {
     pub place: usize,
     pub mark: usize,
     pub parts: usize,
+    pub from: usize,
+    pub seen: usize,
 }
 
 /// The atoms' values; the true literals in their order, `len` of them; where each of the `level` levels above the root begins; and how
@@ -46,6 +49,8 @@ const NO_START: Start = Start {
     place: 0,
     mark: 0,
     parts: 0,
+    from: 0,
+    seen: 0,
 };
 
 /// The trail of no values, with room for so many atoms.

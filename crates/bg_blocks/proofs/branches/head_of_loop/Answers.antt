@@ -7,8 +7,8 @@ use Rattle.bg_blocks.specs.Emitted.{pushed}
 use Rattle.bg_blocks.specs.EmittedViews.{state_of}
 use Rattle.bg_blocks.proofs.branches.head_of_loop.Goals as goal
 
-pub returns-clause-state : goal.returns-clause-state
-returns-clause-state c =
+pub returns : goal.returns
+returns c =
     on_ok_weaker c.push.result
     (λ h p. h p ∙ ap (λ l. pushed (record { cmds = l; exit = Either (m.guard_of (guard_of c.args.head.guard.now)) 0 c.args.count }) (state_of p c.args.state.now)) (c.in_ok-cmds.ensures p))
-    c.push.ensures.state
+    c.push.ensures

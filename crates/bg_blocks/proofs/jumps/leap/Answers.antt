@@ -4,11 +4,11 @@ use Rattle.bg_flow.specs.Blocks.{Leap}
 use Rattle.bg_blocks.specs.Views.{cmd_of}
 use Rattle.bg_blocks.specs.Emitted.{pushed}
 use Rattle.bg_blocks.specs.EmittedViews.{state_of}
-use Rattle.bg_blocks.proofs.Soundness.{emits_leap}
+use Rattle.bg_blocks.proofs.Reading.{emits_leap}
 use Rattle.bg_blocks.proofs.jumps.leap.Goals as goal
 
-pub returns-clause-emits : goal.returns-clause-emits
-returns-clause-emits c =
+pub returns : goal.returns
+returns c =
     on_ok_weaker c.push.result
-    (λ h p ps is. emits_leap p ps c.args.to.items c.args.state.now c.push.new.state c.requires is (h p ∙ ap (λ l. pushed (record { cmds = map (cmd_of p) l; exit = Leap c.args.to.items }) (state_of p c.args.state.now)) c.new.ensures.items))
-    c.push.ensures.state
+    (λ h p ps is. emits_leap p ps c.args.to.items c.args.state.now c.push.new.state is (h p ∙ ap (λ l. pushed (record { cmds = map (cmd_of p) l; exit = Leap c.args.to.items }) (state_of p c.args.state.now)) c.new.ensures.items))
+    c.push.ensures

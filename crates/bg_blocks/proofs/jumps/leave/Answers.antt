@@ -3,5 +3,5 @@ use Rattle.bg_sense.specs.Flow.{Behind}
 use Rattle.std.proofs.lemmas.Result.{on_ok_weaker}
 use Rattle.bg_blocks.proofs.jumps.leave.Goals as goal
 
-pub returns-clause-emits : goal.returns-clause-emits
-returns-clause-emits c = on_ok_weaker c.leap.result (λ h p frame rs n. h p (Behind c.args.number ∷ []) (c.in_ok-to.ensures ∙ ap (λ n. n ∷ []) c.behind_ahead.ensures)) c.leap.ensures.emits
+pub returns : goal.returns
+returns c = on_ok_weaker c.leap.result (λ h p frame rs n. h p (Behind c.args.number ∷ []) (c.in_ok-to.ensures ∙ ap (λ n. n ∷ []) c.behind_ahead.ensures)) c.leap.ensures

@@ -1,4 +1,4 @@
-use Rattle.std.proofs.Common.{◌≡◌, ◌+◌, ◌-◌, [], map, length, sym, subst, ap, ◌∙◌, arith}
+use Rattle.std.proofs.Common.{◌≡◌, ◌+◌, ◌-◌, map, length, sym, subst, ap, ◌∙◌, arith}
 use Rattle.std.proofs.lemmas.List.{length-map}
 use Rattle.std.proofs.lemmas.Result.{on_ok_weaker}
 use Rattle.bg_ast.specs.Syntax as s
@@ -9,9 +9,8 @@ use Rattle.bg_flow.specs.Core.{Seq, Mark, Loop, desugar, head_of}
 use Rattle.bg_blocks.specs.Views.{clauses_in, target_variable}
 use Rattle.bg_blocks.specs.Emitted.{Emits, marked_at, marked_each}
 use Rattle.bg_blocks.specs.EmittedViews.{state_of, EmitsBody, frame_of}
-use Rattle.bg_blocks.proofs.Branching.{frame_of_size, each_blocks, each_undo, each_bounded}
-use Rattle.bg_blocks.proofs.Soundness.{long, sound_bounded}
-use Rattle.bg_blocks.proofs.TakenBack.{left_of}
+use Rattle.bg_blocks.proofs.Branching.{each_blocks, each_undo, each_closed}
+use Rattle.bg_blocks.proofs.Reading.{long}
 use Rattle.bg_blocks.proofs.Forms.{st-If, st-While}
 use Rattle.bg_blocks.proofs.Sizes.{size_sts, size_at, size_arm, size_If, size_While}
 use Rattle.bg_blocks.proofs.Bodies.{same_body, arm_emits, loop_emits, arms_step, arms_whole, sts_step}
@@ -20,48 +19,33 @@ use Rattle.bg_blocks.proofs.stmts.+stmts.Goals as goal
 pub arm-stmts-requires : goal.arm-stmts-requires
 arm-stmts-requires t c =
     let same = ap (λ l. size_sts (sts_in l)) c.deref.ensures.value in
-    (omega (arith, same, c.decreases), (c.requires.modified, c.in_ok-skip_side.ensures.sound))
+    (omega (arith, same, c.decreases), c.requires)
 
-pub arm-decide-requires : goal.arm-decide-requires
-arm-decide-requires t c =
+pub arm-returns : goal.arm-returns
+arm-returns t c =
     let p = program_of c.args.around.program.now in
-    let f = frame_of_size c.args.around.frame in
-    left_of p _ (state_of p c.skip_side.new.state) c.stmts.new.state c.args.first (sound_bounded p c.skip_side.new.state c.in_ok-skip_side.ensures.sound) (c.in_ok-stmts.ensures.emits f.0 f.1) c.in_ok-skip_side.ensures.undo
-
-pub arm-returns-clause-emits : goal.arm-returns-clause-emits
-arm-returns-clause-emits t c =
-    let p = program_of c.args.around.program.now in
+    let e0 = c.args.state.now in
     let e1 = c.skip_side.new.state in
     let e2 = c.stmts.new.state in
-    let here : length (state_of p e1).blocks ≡ c.len-from.result = omega (arith, long p e1, c.len-from.ensures, e1.blocks.ok.0) in
+    let here : length (state_of p e0).blocks ≡ c.len-from.result = omega (arith, long p e0, c.len-from.ensures, e0.blocks.ok.0) in
     let body : EmitsBody p c.args.around.frame (m.sts_of (sts_in c.args.a.now.body.items)) e1 e2 =
-    subst (λ l. EmitsBody p c.args.around.frame (m.sts_of (sts_in l)) e1 e2) c.deref.ensures.value c.in_ok-stmts.ensures.emits in
+    subst (λ l. EmitsBody p c.args.around.frame (m.sts_of (sts_in l)) e1 e2) c.deref.ensures.value c.in_ok-stmts.ensures in
     on_ok_weaker c.decide.result
     (λ last before b rs n h l u x.
     let a = desugar (m.meaning_of p) (frame_of p rs) (m.sts_of (sts_in c.args.a.now.body.items)) in
-    arm_emits p (m.guard_of (guard_of c.args.a.now.guard)) a b before c.args.state.now e1 e2 c.decide.new.state h x
-    (c.in_ok-skip_side.ensures.state p b before l u x)
+    let skip = c.in_ok-skip_side.ensures p b before l u x in
+    arm_emits p (m.guard_of (guard_of c.args.a.now.guard)) a b before e0 e1 e2 c.decide.new.state h x skip
     (body rs n)
-    (last p a (state_of p e1) here c.in_ok-skip_side.ensures.undo (body rs n)))
-    c.decide.ensures.state
+    (last p a (state_of p e0) (state_of p e1) here (ap (λ s. length s.undo) skip ∙ u) (body rs n)))
+    c.decide.ensures
 
 pub branch-stmts-requires : goal.branch-stmts-requires
-branch-stmts-requires t c = (omega (arith, c.decreases), (c.requires.modified, c.in_ok-mark_arms.ensures.sound c.requires.sound))
+branch-stmts-requires t c = (omega (arith, c.decreases), c.requires)
 
 pub branch-arm-requires : goal.branch-arm-requires
 branch-arm-requires t c =
-    let p = program_of c.args.around.program.now in
-    let f = frame_of_size c.args.around.frame in
-    let s0 = state_of p c.args.state.now in
-    let bounded = each_bounded c.args.number c.loop-i.i s0 (sound_bounded p c.args.state.now c.requires.sound) in
-    let undo = each_undo c.args.number c.loop-i.i s0 in
-    let falls = size_arm c.args.arms.now (c.loop-i.i - 1) c.index-arms-i.result (omega (arith, c.loop-i.invariant.0, c.loop-i-test.true)) c.index-arms-i.is in (
-      omega (arith, falls, c.decreases),
-      (
-        c.requires.modified,
-        left_of p _ (marked_each c.args.number c.loop-i.i s0) c.loop-i.state _ bounded (c.loop-i.invariant.2 f.0 f.1) (omega (arith, undo, c.len-first.ensures, c.args.state.now.marks.undo.ok.0, c.loop-i-test.true)),
-      ),
-    )
+    let falls = size_arm c.args.arms.now (c.loop-i.i - 1) c.index-arms-i.result (omega (arith, c.loop-i.invariant.0, c.loop-i-test.true)) c.index-arms-i.is in
+    (omega (arith, falls, c.decreases), c.requires)
 
 pub branch-loop-i-preserved : goal.branch-loop-i-preserved
 branch-loop-i-preserved t c =
@@ -70,80 +54,78 @@ branch-loop-i-preserved t c =
     let s0 = state_of p e0 in
     let i = c.loop-i.i in
     let j = c.loop-i.i - 1 in
-    let sound = sound_bounded p e0 c.requires.sound in
     let before = marked_each c.args.number i s0 in
     let blocks : length before.blocks ≡ c.len-start.result = ap length (each_blocks c.args.number i s0) ∙ omega (arith, long p e0, c.len-start.ensures, e0.blocks.ok.0) in
     let undo : length before.undo ≡ c.len-first.result + j + 1 = let more = each_undo c.args.number i s0 in omega (arith, more, c.len-first.ensures, e0.marks.undo.ok.0, c.loop-i-test.true) in (
       omega (arith, c.loop-i.invariant.0),
-      c.in_ok-arm.ensures.sound,
       λ rs n.
-          arms_step (m.meaning_of p) (frame_of p rs) c.args.number i j c.index-arms-i.result c.args.arms.now (m.sts_of (sts_in c.args.otherwise.now)) s0 (state_of p c.arm.new.state) (omega (arith, c.loop-i-test.true)) sound (omega (arith, c.loop-i.invariant.0, c.loop-i-test.true)) c.index-arms-i.is
-          (c.in_ok-arm.ensures.emits before _ rs n (each_bounded c.args.number i s0 sound) blocks undo (c.loop-i.invariant.2 rs n)),
+          arms_step (m.meaning_of p) (frame_of p rs) c.args.number i j c.index-arms-i.result c.args.arms.now (m.sts_of (sts_in c.args.otherwise.now)) s0 (state_of p c.arm.new.state) (omega (arith, c.loop-i-test.true)) (omega (arith, c.loop-i.invariant.0, c.loop-i-test.true)) c.index-arms-i.is
+          (c.in_ok-arm.ensures before _ rs n (each_closed c.args.number i j s0 (omega (arith, c.loop-i-test.true))) blocks undo (c.loop-i.invariant.1 rs n)),
     )
 
-pub branch-returns-clause-emits : goal.branch-returns-clause-emits
-branch-returns-clause-emits t c = λ rs n.
+pub branch-returns : goal.branch-returns
+branch-returns t c = λ rs n.
     let p = program_of c.args.around.program.now in
     let none : c.loop-i.i ≡ 0 = omega (arith, c.loop-i-test.false) in
-    arms_whole (m.meaning_of p) (frame_of p rs) c.args.number c.loop-i.i c.args.arms.now (m.sts_of (sts_in c.args.otherwise.now)) (state_of p c.args.state.now) (state_of p c.loop-i.state) none (omega (arith, none)) (c.loop-i.invariant.2 rs n)
+    arms_whole (m.meaning_of p) (frame_of p rs) c.args.number c.loop-i.i c.args.arms.now (m.sts_of (sts_in c.args.otherwise.now)) (state_of p c.args.state.now) (state_of p c.loop-i.state) none (omega (arith, none)) (c.loop-i.invariant.1 rs n)
 
 pub stmt-branch-around-requires : goal.stmt-branch-around-requires
 stmt-branch-around-requires t c =
     let falls = size_If c.args.a.now c.in-If.n c.in-If.arms c.in-If.otherwise c.deref-in-If.result.now c.deref-in-If-2.result.now c.in-If.is c.deref-in-If.ensures.value c.deref-in-If-2.ensures.value in
-    (omega (arith, falls, c.decreases), (c.requires.modified, c.requires.sound))
+    (omega (arith, falls, c.decreases), c.requires)
 
 pub stmt-turns-requires : goal.stmt-turns-requires
 stmt-turns-requires t c =
     let falls = size_While c.args.a.now c.in-While.n c.in-While.field-1 c.in-While.g c.in-While.is' c.in-While.body c.deref-in-While-2.result.now c.in-While.is c.deref-in-While-2.ensures.value in
-    (omega (arith, falls, c.decreases), (c.requires.modified, c.requires.sound))
+    (omega (arith, falls, c.decreases), c.requires)
 
-pub stmt-returns-in-Label-clause-emits : goal.stmt-returns-in-Label-clause-emits
-stmt-returns-in-Label-clause-emits t c =
+pub stmt-returns-in-Label : goal.stmt-returns-in-Label
+stmt-returns-in-Label t c =
     let p = program_of c.args.around.program.now in
-    on_ok_weaker c.label.result (λ h. same_body p c.args.around.frame _ _ c.args.state.now c.label.new.state (ap (λ a. m.st_of (st_of a)) c.in-Label.is) (h p c.args.around.frame)) c.label.ensures.emits
+    on_ok_weaker c.label.result (λ h. same_body p c.args.around.frame _ _ c.args.state.now c.label.new.state (ap (λ a. m.st_of (st_of a)) c.in-Label.is) (h p c.args.around.frame)) c.label.ensures
 
-pub stmt-returns-in-Assert-clause-emits : goal.stmt-returns-in-Assert-clause-emits
-stmt-returns-in-Assert-clause-emits t c =
+pub stmt-returns-in-Assert : goal.stmt-returns-in-Assert
+stmt-returns-in-Assert t c =
     let p = program_of c.args.around.program.now in
-    on_ok_weaker c.assertion.result (λ h. same_body p c.args.around.frame _ _ c.args.state.now c.assertion.new.state (ap (λ a. m.st_of (st_of a)) c.in-Assert.is) (h p c.args.around.frame)) c.assertion.ensures.emits
+    on_ok_weaker c.assertion.result (λ h. same_body p c.args.around.frame _ _ c.args.state.now c.assertion.new.state (ap (λ a. m.st_of (st_of a)) c.in-Assert.is) (h p c.args.around.frame)) c.assertion.ensures
 
-pub stmt-returns-in-Assume-clause-emits : goal.stmt-returns-in-Assume-clause-emits
-stmt-returns-in-Assume-clause-emits t c =
+pub stmt-returns-in-Assume : goal.stmt-returns-in-Assume
+stmt-returns-in-Assume t c =
     let p = program_of c.args.around.program.now in
-    on_ok_weaker c.assumption.result (λ h. same_body p c.args.around.frame _ _ c.args.state.now c.assumption.new.state (ap (λ a. m.st_of (st_of a)) c.in-Assume.is) (h p c.args.around.frame)) c.assumption.ensures.emits
+    on_ok_weaker c.assumption.result (λ h. same_body p c.args.around.frame _ _ c.args.state.now c.assumption.new.state (ap (λ a. m.st_of (st_of a)) c.in-Assume.is) (h p c.args.around.frame)) c.assumption.ensures
 
-pub stmt-returns-in-Havoc-clause-emits : goal.stmt-returns-in-Havoc-clause-emits
-stmt-returns-in-Havoc-clause-emits t c =
+pub stmt-returns-in-Havoc : goal.stmt-returns-in-Havoc
+stmt-returns-in-Havoc t c =
     let p = program_of c.args.around.program.now in
     let is = ap (λ a. m.st_of (st_of a)) c.in-Havoc.is ∙ ap (λ l. s.Havoc (map m.variable_of (map placed_of l))) (sym c.deref.ensures.value) in
-    on_ok_weaker c.havoc.result (λ h. same_body p c.args.around.frame _ _ c.args.state.now c.havoc.new.state is (h p c.args.around.frame)) c.havoc.ensures.emits
+    on_ok_weaker c.havoc.result (λ h. same_body p c.args.around.frame _ _ c.args.state.now c.havoc.new.state is (h p c.args.around.frame)) c.havoc.ensures
 
-pub stmt-returns-in-Assign-clause-emits : goal.stmt-returns-in-Assign-clause-emits
-stmt-returns-in-Assign-clause-emits t c =
+pub stmt-returns-in-Assign : goal.stmt-returns-in-Assign
+stmt-returns-in-Assign t c =
     let p = program_of c.args.around.program.now in
     let is =
     ap (λ a. m.st_of (st_of a)) c.in-Assign.is
     ∙ (ap (λ l. s.Assign (map target_variable (map target_of l)) (m.values_of (map target_of l) (exs_in c.in-Assign.es.items))) (sym c.deref-in-Assign.ensures.value)
     ∙ ap (λ l. s.Assign (map target_variable (map target_of c.deref-in-Assign.result.now)) (m.values_of (map target_of c.deref-in-Assign.result.now) (exs_in l))) (sym c.deref-in-Assign-2.ensures.value)) in
-    on_ok_weaker c.assignment.result (λ h. same_body p c.args.around.frame _ _ c.args.state.now c.assignment.new.state is (h p c.args.around.frame)) c.assignment.ensures.emits
+    on_ok_weaker c.assignment.result (λ h. same_body p c.args.around.frame _ _ c.args.state.now c.assignment.new.state is (h p c.args.around.frame)) c.assignment.ensures
 
-pub stmt-returns-in-Invoke-clause-emits : goal.stmt-returns-in-Invoke-clause-emits
-stmt-returns-in-Invoke-clause-emits t c =
+pub stmt-returns-in-Invoke : goal.stmt-returns-in-Invoke
+stmt-returns-in-Invoke t c =
     let p = program_of c.args.around.program.now in
-    on_ok_weaker c.call.result (λ h. same_body p c.args.around.frame _ _ c.args.state.now c.call.new.state (ap (λ a. m.st_of (st_of a)) c.in-Invoke.is) (h c.args.around.frame)) c.call.ensures.emits
+    on_ok_weaker c.call.result (λ h. same_body p c.args.around.frame _ _ c.args.state.now c.call.new.state (ap (λ a. m.st_of (st_of a)) c.in-Invoke.is) (h c.args.around.frame)) c.call.ensures
 
-pub stmt-returns-in-If-clause-emits : goal.stmt-returns-in-If-clause-emits
-stmt-returns-in-If-clause-emits t c =
+pub stmt-returns-in-If : goal.stmt-returns-in-If
+stmt-returns-in-If t c =
     let p = program_of c.args.around.program.now in
     let is =
     ap (λ a. m.st_of (st_of a)) c.in-If.is
     ∙ (st-If c.in-If.n c.in-If.arms c.in-If.otherwise
     ∙ (ap (λ l. m.arms_of c.in-If.n (arms_from (map arm_view l)) (m.sts_of (sts_in c.in-If.otherwise.items))) (sym c.deref-in-If.ensures.value)
     ∙ ap (λ l. m.arms_of c.in-If.n (arms_from (map arm_view c.deref-in-If.result.now)) (m.sts_of (sts_in l))) (sym c.deref-in-If-2.ensures.value))) in
-    on_ok_weaker c.branch-around.result (λ h. same_body p c.args.around.frame _ _ c.args.state.now c.branch-around.new.state is h) c.branch-around.ensures.emits
+    on_ok_weaker c.branch-around.result (λ h. same_body p c.args.around.frame _ _ c.args.state.now c.branch-around.new.state is h) c.branch-around.ensures
 
-pub stmt-returns-in-While-clause-emits : goal.stmt-returns-in-While-clause-emits
-stmt-returns-in-While-clause-emits t c =
+pub stmt-returns-in-While : goal.stmt-returns-in-While
+stmt-returns-in-While t c =
     let p = program_of c.args.around.program.now in
     let g = m.guard_of (guard_of c.in-While.g) in
     let is =
@@ -151,53 +133,42 @@ stmt-returns-in-While-clause-emits t c =
     ∙ (st-While c.in-While.n c.in-While.field-1 c.in-While.g c.in-While.is' c.in-While.body
     ∙ (ap (λ l. s.While c.in-While.n g (map m.clause_of (map clause_of l)) (m.sts_of (sts_in c.in-While.body.items))) (sym c.deref-in-While.ensures.value)
     ∙ ap (λ l. s.While c.in-While.n g (map m.clause_of (map clause_of c.deref-in-While.result.now)) (m.sts_of (sts_in l))) (sym c.deref-in-While-2.ensures.value))) in
-    on_ok_weaker c.turns.result (λ h. same_body p c.args.around.frame _ _ c.args.state.now c.turns.new.state is h) c.turns.ensures.emits
+    on_ok_weaker c.turns.result (λ h. same_body p c.args.around.frame _ _ c.args.state.now c.turns.new.state is h) c.turns.ensures
 
-pub stmt-returns-in-Break-clause-emits : goal.stmt-returns-in-Break-clause-emits
-stmt-returns-in-Break-clause-emits t c =
+pub stmt-returns-in-Break : goal.stmt-returns-in-Break
+stmt-returns-in-Break t c =
     let p = program_of c.args.around.program.now in
-    on_ok_weaker c.leave.result (λ h. same_body p c.args.around.frame _ _ c.args.state.now c.leave.new.state (ap (λ a. m.st_of (st_of a)) c.in-Break.is) (h p c.args.around.frame)) c.leave.ensures.emits
+    on_ok_weaker c.leave.result (λ h. same_body p c.args.around.frame _ _ c.args.state.now c.leave.new.state (ap (λ a. m.st_of (st_of a)) c.in-Break.is) (h p c.args.around.frame)) c.leave.ensures
 
-pub stmt-returns-in-Goto-clause-emits : goal.stmt-returns-in-Goto-clause-emits
-stmt-returns-in-Goto-clause-emits t c =
+pub stmt-returns-in-Goto : goal.stmt-returns-in-Goto
+stmt-returns-in-Goto t c =
     let p = program_of c.args.around.program.now in
     let is = ap (λ a. m.st_of (st_of a)) c.in-Goto.is ∙ ap s.Goto (sym c.deref-in-Goto.ensures.value) in
-    on_ok_weaker c.jump.result (λ h. same_body p c.args.around.frame _ _ c.args.state.now c.jump.new.state is (h p c.args.around.frame)) c.jump.ensures.emits
+    on_ok_weaker c.jump.result (λ h. same_body p c.args.around.frame _ _ c.args.state.now c.jump.new.state is (h p c.args.around.frame)) c.jump.ensures
 
-pub stmt-returns-in-Return-clause-emits : goal.stmt-returns-in-Return-clause-emits
-stmt-returns-in-Return-clause-emits t c =
+pub stmt-returns-in-Return : goal.stmt-returns-in-Return
+stmt-returns-in-Return t c =
     let p = program_of c.args.around.program.now in
-    on_ok_weaker c.finish.result (λ h. same_body p c.args.around.frame _ _ c.args.state.now c.finish.new.state (ap (λ a. m.st_of (st_of a)) c.in-Return.is) (h p c.args.around.frame)) c.finish.ensures.emits
+    on_ok_weaker c.finish.result (λ h. same_body p c.args.around.frame _ _ c.args.state.now c.finish.new.state (ap (λ a. m.st_of (st_of a)) c.in-Return.is) (h p c.args.around.frame)) c.finish.ensures
 
 pub stmts-stmt-requires : goal.stmts-stmt-requires
 stmts-stmt-requires t c =
     let falls = size_at c.args.ss.now (c.loop-i.i - 1) c.index-ss-i.result (omega (arith, c.loop-i.invariant.0, c.loop-i-test.true)) c.index-ss-i.is in
-    (omega (arith, falls, c.decreases), (c.requires.modified, c.loop-i.invariant.1))
+    (omega (arith, falls, c.decreases), c.requires)
 
 pub stmts-loop-i-preserved : goal.stmts-loop-i-preserved
 stmts-loop-i-preserved t c =
     let p = program_of c.args.around.program.now in (
       omega (arith, c.loop-i.invariant.0),
-      c.in_ok-stmt.ensures.sound,
       λ rs n.
-          sts_step (m.meaning_of p) (frame_of p rs) c.args.ss.now c.loop-i.i (c.loop-i.i - 1) c.index-ss-i.result (state_of p c.args.state.now) (state_of p c.loop-i.state) (state_of p c.stmt.new.state) (omega (arith, c.loop-i-test.true)) (omega (arith, c.loop-i.invariant.0, c.loop-i-test.true)) c.index-ss-i.is (c.loop-i.invariant.2 rs n) (c.in_ok-stmt.ensures.emits rs n),
+          sts_step (m.meaning_of p) (frame_of p rs) c.args.ss.now c.loop-i.i (c.loop-i.i - 1) c.index-ss-i.result (state_of p c.args.state.now) (state_of p c.loop-i.state) (state_of p c.stmt.new.state) (omega (arith, c.loop-i-test.true)) (omega (arith, c.loop-i.invariant.0, c.loop-i-test.true)) c.index-ss-i.is (c.loop-i.invariant.1 rs n) (c.in_ok-stmt.ensures rs n),
     )
 
 pub turns-stmts-requires : goal.turns-stmts-requires
-turns-stmts-requires t c = (omega (arith, c.decreases), (c.requires.modified, c.in_ok-turn_of_loop.ensures.sound (c.in_ok-mark_behind.ensures.sound c.requires.sound)))
+turns-stmts-requires t c = (omega (arith, c.decreases), c.requires)
 
-pub turns-close_loop-requires : goal.turns-close_loop-requires
-turns-close_loop-requires t c =
-    let p = program_of c.args.around.program.now in
-    let f = frame_of_size c.args.around.frame in
-    let e1 = c.mark_behind.new.state in
-    let e2 = c.turn_of_loop.new.state in
-    let sound = c.in_ok-turn_of_loop.ensures.sound (c.in_ok-mark_behind.ensures.sound c.requires.sound) in
-    let undo : length (state_of p e2).undo ≡ c.len-first.result = ap (λ s. length s.undo) (c.in_ok-turn_of_loop.ensures.state p []) ∙ omega (arith, c.len-first.ensures, e1.marks.undo.ok.0) in
-    left_of p _ (state_of p e2) c.stmts.new.state c.len-first.result (sound_bounded p e2 sound) (c.in_ok-stmts.ensures.emits f.0 f.1) undo
-
-pub turns-returns-clause-emits : goal.turns-returns-clause-emits
-turns-returns-clause-emits t c =
+pub turns-returns : goal.turns-returns
+turns-returns t c =
     let p = program_of c.args.around.program.now in
     let e1 = c.mark_behind.new.state in
     let e2 = c.turn_of_loop.new.state in
@@ -212,8 +183,8 @@ turns-returns-clause-emits t c =
     let ds = frame_of p rs in
     let body = m.sts_of (sts_in c.args.body.now) in
     let a = desugar (m.meaning_of p) ds body in
-    let turn = subst (λ s2. Emits a s2 (state_of p e3)) (c.in_ok-turn_of_loop.ensures.state p xs) (c.in_ok-stmts.ensures.emits rs n) in
+    let turn = subst (λ s2. Emits a s2 (state_of p e3)) (c.in_ok-turn_of_loop.ensures p xs) (c.in_ok-stmts.ensures rs n) in
     subst (λ ys. Emits (Seq (Loop (head_of is ys) g a) (Mark (Behind c.args.number))) (state_of p c.args.state.now) (state_of p c.close_loop.new.state)) (c.in_ok-forgotten.ensures ds (length-map rs _ ∙ n))
-    (loop_emits p (head_of is xs) g a c.args.number c.args.state.now e1 e3 c.close_loop.new.state c.requires.sound (c.in_ok-mark_behind.ensures.state p ∙ ap (λ k. marked_at (Behind k) (state_of p c.args.state.now)) c.from.ensures) turn
+    (loop_emits p (head_of is xs) g a c.args.number c.args.state.now e1 e3 c.close_loop.new.state (c.in_ok-mark_behind.ensures p ∙ ap (λ k. marked_at (Behind k) (state_of p c.args.state.now)) c.from.ensures) turn
     (last p a (state_of p e1) blocks undo turn)))
-    c.close_loop.ensures.state
+    c.close_loop.ensures

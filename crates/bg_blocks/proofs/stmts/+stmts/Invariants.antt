@@ -4,7 +4,7 @@ use Rattle.bg_ast.specs.Meaning as m
 use Rattle.bg_ast.specs.Views.{program_of, st_of, sts_in, arms_from, arm_view}
 use Rattle.bg_flow.specs.Core.{desugar}
 use Rattle.bg_blocks.specs.Emitted.{Emits, marked_each}
-use Rattle.bg_blocks.specs.EmittedViews.{state_of, IsSound, EmitsBody, frame_of}
+use Rattle.bg_blocks.specs.EmittedViews.{state_of, EmitsBody, frame_of}
 use Rattle.bg_blocks.proofs.Sizes.{size_st, size_sts, size_arms}
 use Rattle.bg_blocks.proofs.stmts.+stmts.Given as goal
 
@@ -26,7 +26,6 @@ decreases-stmts l = 4 * size_sts (sts_in l.ss.now)
 abbrev pub invariant-branch-loop-i : goal.invariant-branch-loop-i
 invariant-branch-loop-i l =
     (l.i ≤ length l.arms)
-    × IsSound l.state
     × ((rs : List r.Declared) → length rs ≡ l.around.frame →
     Emits
     (desugar (m.meaning_of (program_of l.around.program.now)) (frame_of (program_of l.around.program.now) rs) (m.arms_of (l.number + l.i) (arms_from (map arm_view (drop l.i l.arms))) (m.sts_of (sts_in l.otherwise))))
@@ -39,7 +38,6 @@ decreases-branch-loop-i l = l.i
 abbrev pub invariant-stmts-loop-i : goal.invariant-stmts-loop-i
 invariant-stmts-loop-i l =
     (l.i ≤ length l.ss)
-    × IsSound l.state
     × EmitsBody (program_of l.around.program.now) l.around.frame (m.sts_of (sts_in (drop l.i l.ss))) l.fn.state l.state
 
 abbrev pub decreases-stmts-loop-i : goal.decreases-stmts-loop-i

@@ -5,11 +5,10 @@ use Rattle.bg_flow.specs.Core.{Mark}
 use Rattle.bg_blocks.specs.Emitted.{Emits}
 use Rattle.bg_blocks.specs.EmittedViews.{state_of}
 use Rattle.bg_blocks.proofs.Emission.{emits_mark}
-use Rattle.bg_blocks.proofs.Soundness.{sound_bounded}
 use Rattle.bg_blocks.proofs.stmts.label.Goals as goal
 
-pub returns-clause-emits : goal.returns-clause-emits
-returns-clause-emits c =
+pub returns : goal.returns
+returns c =
     on_ok_weaker c.mark.result
-    (λ h p frame rs n. subst (Emits (Mark (ToLabel c.args.l)) (state_of p c.args.state.now)) (sym (h p (ToLabel c.args.l) c.label_key.ensures)) (emits_mark (ToLabel c.args.l) (state_of p c.args.state.now) (sound_bounded p c.args.state.now c.requires)))
-    c.mark.ensures.state
+    (λ h p frame rs n. subst (Emits (Mark (ToLabel c.args.l)) (state_of p c.args.state.now)) (sym (h p (ToLabel c.args.l) c.label_key.ensures)) (emits_mark (ToLabel c.args.l) (state_of p c.args.state.now)))
+    c.mark.ensures

@@ -1,5 +1,5 @@
--- The proof takes some nine seconds: the functions of one cycle are proved at once, and the forms of an expression without a list have goals without an answer.
-use Rattle.std.proofs.Common.{◌≡◌, ℕ, List, ◌++◌, flat_map, sym, ap, ◌∙◌, append_assoc, refl}
+use Rattle.std.proofs.Common.{◌≡◌, ℕ, List, ◌++◌, flat_map, sym, ap, ◌∙◌, append_assoc, append-nil, refl}
+use Rattle.std.proofs.lemmas.List.{at_drop_all}
 use Rattle.std.proofs.lemmas.Result.{on_ok_weaker}
 use Rattle.bg_names.specs.Spaces.{place}
 use Rattle.bg_resolve.specs.Calls.{called, tree_calls, link_calls, bracket_calls}
@@ -52,3 +52,18 @@ of_brackets-loop-b-preserved t c =
 pub of_links-loop-l-preserved : goal.of_links-loop-l-preserved
 of_links-loop-l-preserved t c =
     calls_step (link_calls (listed c.args.functions.now)) c.loop-l.out.items _ c.args.ls.now c.loop-l.l-index c.l-item.result _ c.loop-l-test.true c.l-item.is c.loop-l.invariant c.in_ok-push_calls.ensures.ok
+
+pub of_exprs-returns-clause-ok : goal.of_exprs-returns-clause-ok
+of_exprs-returns-clause-ok t c =
+    let old = c.loop-e.out.items in
+    sym (append-nil old) ∙ sym (at_drop_all (λ l. old ++ flat_map (tree_calls (listed c.args.functions.now)) l) c.args.es.now c.loop-e.e-index c.loop-e-test.false) ∙ c.loop-e.invariant
+
+pub of_brackets-returns-clause-ok : goal.of_brackets-returns-clause-ok
+of_brackets-returns-clause-ok t c =
+    let old = c.loop-b.out.items in
+    sym (append-nil old) ∙ sym (at_drop_all (λ l. old ++ flat_map (bracket_calls (listed c.args.functions.now)) l) c.args.bs.now c.loop-b.b-index c.loop-b-test.false) ∙ c.loop-b.invariant
+
+pub of_links-returns-clause-ok : goal.of_links-returns-clause-ok
+of_links-returns-clause-ok t c =
+    let old = c.loop-l.out.items in
+    sym (append-nil old) ∙ sym (at_drop_all (λ l. old ++ flat_map (link_calls (listed c.args.functions.now)) l) c.args.ls.now c.loop-l.l-index c.loop-l-test.false) ∙ c.loop-l.invariant

@@ -10,4 +10,4 @@ pub returns-clause-first : goal.returns-clause-first
 returns-clause-first c =
     let g = spaces_in c.args.g.now in
     let s = v.sig_of c.args.q.now.signature in
-    after _ _ _ (sig_faults g s) (flat_map (spec_faults g s) (map v.spec_of c.args.q.now.specs.items)) c.in_ok-note_signature.ensures.first c.in_ok-clauses.ensures.first
+    after _ _ _ (sig_faults g s) (flat_map (spec_faults g s) (map v.spec_of c.args.q.now.specs.items)) c.in_ok-note_signature.ensures.first c.in_ok-requires_.ensures.first

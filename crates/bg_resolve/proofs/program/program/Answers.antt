@@ -1,7 +1,9 @@
-use Rattle.std.proofs.Common.{◌+◌, map, drop, ap, sym, ◌∙◌}
+use Rattle.std.proofs.Common.{◌+◌, map, flat_map, drop, ap, sym, ◌∙◌}
 use Rattle.std.proofs.lemmas.List.{at_drop_all}
 use Rattle.bg_text.specs.Views as v
 use Rattle.bg_ast.specs.Views.{program_of}
+use Rattle.bg_names.specs.Faults.{better}
+use Rattle.bg_names.specs.Views.{first_of}
 use Rattle.bg_resolve.specs.Program.{decl_faults}
 use Rattle.bg_spaces.specs.SpaceViews.{spaces_in}
 use Rattle.bg_resolve.specs.Parts.{joined, parts_from}
@@ -30,3 +32,7 @@ returns-clause-made c =
     ∙ sym (at_drop_all (λ l. joined p (parts_from g c.loop-d.next (map v.decl_of l))) c.args.decls.now c.loop-d.d-index c.loop-d-test.false)
     ∙ c.loop-d.invariant.made
     ∙ parts-are g 0 ds
+
+pub returns-clause-first : goal.returns-clause-first
+returns-clause-first c =
+    sym (at_drop_all (λ l. better (first_of c.loop-d.notes) (flat_map (decl_faults (spaces_in c.args.g.now)) (map v.decl_of l))) c.args.decls.now c.loop-d.d-index c.loop-d-test.false) ∙ c.loop-d.invariant.first

@@ -1,4 +1,4 @@
-use Rattle.std.proofs.Common.{◌≡◌, ℕ, Option, ◌≤◌, ◌++◌, [], ◌∷◌, length, take, drop, subst, sym, ap, ◌∙◌, arith}
+use Rattle.std.proofs.Common.{◌≡◌, ℕ, Option, ◌≤◌, ◌++◌, [], ◌∷◌, length, take, drop, ap, ◌∙◌, arith}
 use Rattle.bg_blocks.specs.Marks.{undone}
 use Rattle.bg_blocks.specs.MarkViews.{marked}
 use Rattle.bg_blocks.proofs.Undoing.{one_back, front_back, long_enough}
@@ -13,7 +13,6 @@ loop-self-preserved-in-Continue-1 c =
     let is : us ≡ vs ++ e ∷ [] = c.in-Some.ensures.items in
     let same : c.undo_one.new.self.undo.items ≡ vs = ap (λ v. v.items) c.in_ok-undo_one.ensures.undo in
     let long : n ≤ length vs = long_enough n us vs e is (omega (arith, c.loop-self-test.true, c.len.ensures, c.loop-self.self.undo.ok.0)) in (
-      subst (λ l. n ≤ length l) (sym same) long,
-      ap (λ l. undone (drop n l) (marked c.undo_one.new.self)) same ∙ (one_back n us vs e (marked c.loop-self.self) (marked c.undo_one.new.self) long is c.in_ok-undo_one.ensures.marks ∙ c.loop-self.invariant.1),
-      ap (take n) same ∙ (front_back n us vs e long is ∙ c.loop-self.invariant.2),
+      ap (λ l. undone (drop n l) (marked c.undo_one.new.self)) same ∙ (one_back n us vs e (marked c.loop-self.self) (marked c.undo_one.new.self) long is c.in_ok-undo_one.ensures.marks ∙ c.loop-self.invariant.0),
+      ap (take n) same ∙ (front_back n us vs e long is ∙ c.loop-self.invariant.1),
     )
