@@ -301,7 +301,11 @@ class Run:
 
 
 def meets(program, constants):
-    """Whether all axioms are true where the constants have these values."""
+    """Whether the unique constants of each type differ and all axioms are true where the constants have these values."""
+    for kind in ("int", "bool"):
+        values = [constants[it.name] for it in program.uniques if it.type == kind]
+        if len(set(values)) < len(values):
+            return False
     scope = {**constants, FUNCTIONS: program.functions}
     return all(evaluate(scope, scope, says) for says in program.axioms)
 

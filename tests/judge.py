@@ -230,8 +230,9 @@ class Asked:
 
 
 def check_axioms(program, report, asked):
-    """Where the axioms are called contradictory, no values at random meet them; and without axioms they are consistent."""
-    if not program.axioms and report.axioms != "consistent":
+    """Where the axioms are called contradictory, no values at random meet them; and without axioms they are consistent, but for three unique truths."""
+    truths = [it for it in program.uniques if it.type == "bool"]
+    if not program.axioms and report.axioms != ("contradictory" if len(truths) > 2 else "consistent"):
         raise Wrong(f"there are no axioms, and they are {report.axioms}")
     for number in range(asked.runs if report.axioms == "contradictory" else 0):
         constants = interpretation(program, RandomChoices(f"{asked.seed} axioms {number}", asked.pool))

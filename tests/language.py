@@ -139,6 +139,7 @@ class Statement:
 class Program:
     candidates: list = field(default_factory=list)
     constants: list = field(default_factory=list)
+    uniques: list = field(default_factory=list)  # those of the constants that are unique
     functions: dict = field(default_factory=dict)
     axioms: list = field(default_factory=list)
     globals: list = field(default_factory=list)
@@ -207,14 +208,19 @@ class Reader:
 
     def constants(self, _):
         is_candidate = [":", "existential", "true"] in self.attributes()
+        is_unique = self.accept("unique") is not None
         names = self.commas(self.name)
         self.take(":")
         kind = self.type()
         self.take(";")
         if is_candidate:
+            if is_unique:
+                raise TextFault("a candidate is not unique")
             self.program.candidates += names
-        else:
-            self.program.constants += [Variable(name, kind) for name in names]
+            return
+        made = [Variable(name, kind) for name in names]
+        self.program.constants += made
+        self.program.uniques += made if is_unique else []
 
     def function(self, pos):
         name = self.name()

@@ -4,8 +4,8 @@
 usage: random_programs.py --bg COMMAND [--count N] [--seed K] [--runs N] [--truths] [--constants] [--candidates] [--workers N..] [--budget N] [--jobs N]
                           [--keep FOLDER]
 
-Of each implementation N runs are tried. With --truths there are no whole numbers. With --constants most programs have constants, functions
-with a body and axioms. With --candidates most programs declare some; what
+Of each implementation N runs are tried. With --truths there are no whole numbers. With --constants most programs have constants, of which
+some are unique, functions with a body and axioms. With --candidates most programs declare some; what
 `annotate` writes of them, with guesses and without, has the same words for its implementations, and is annotated as it is. With --workers
 each program is judged once with each of these numbers of workers: where no report has an unknown, their verdict lines are the same. With
 --budget the program gets as many inner nodes and rows. With --keep programs and reports are written to a folder, and left there. The last
@@ -190,9 +190,10 @@ class Program:
     """A program: candidates, at most as many as asked, constants, functions and axioms where asked, globals, procedures and implementations."""
 
     def __init__(self, rng, numbers, candidates=0, constants=False):
-        self.numbers, self.constants, self.functions, self.axioms = numbers, [], [], []
+        self.numbers, self.constants, self.uniques, self.functions, self.axioms = numbers, [], [], [], []
         if constants:
             self.constants = some_names(rng, "k", 4, numbers)
+            self.uniques = [name for name in self.constants if rng.random() < 0.35]
             for k in range(rng.randrange(4)):
                 self.functions.append(Function(rng, self, k))
             self.axioms = [self.formula(rng, self.constants, 2) for _ in range(rng.randrange(3)) if self.constants or rng.random() < 0.2]
@@ -281,7 +282,7 @@ class Program:
 
     def lines(self, rng):
         lines = [f"const {{:existential true}} {name}: bool;" for name in self.candidates]
-        lines += [f"const {name}: {type_of(name)};" for name in self.constants]
+        lines += [f"const {'unique ' if name in self.uniques else ''}{name}: {type_of(name)};" for name in self.constants]
         lines += [f.line() for f in self.functions]
         lines += [f"axiom {says};" for says in self.axioms]
         lines += [f"var {name}: {type_of(name)};" for name in self.names]

@@ -157,13 +157,13 @@ module _ (depth : ℕ) (p : r.Program) (h : IsOpenable depth (meaning_of p)) (se
       by_candidate None f g = f refl
       by_candidate (Some b) f g = g b refl
 
-  one_of : (k : ℕ) (m : r.Impl) (js : List Judged) → slice_get p.implementations k ≡ Some m → IsTrueOf (w.opened_program depth p) set k (w.opened_impl E p.axioms m) js → IsTrueOf p set k m (map (carried_one P) js)
+  one_of : (k : ℕ) (m : r.Impl) (js : List Judged) → slice_get p.implementations k ≡ Some m → IsTrueOf (w.opened_program depth p) set k (w.opened_impl E (w.claims p) m) js → IsTrueOf p set k m (map (carried_one P) js)
   one_of k m js at t =
-      let there = same_placed P js ∙ t.places ∙ ap (filter is_ordinary) (impl_placed E p.procedures p.axioms k m) in
+      let there = same_placed P js ∙ t.places ∙ ap (filter is_ordinary) (impl_placed E p.procedures (w.claims p) k m) in
       let right = all_true_at depth P h set js (subst (λ q. AreTrueAt q set js) (program_means depth p) t.right) in
       record { places = there; right = right; safe = λ word. one_safe k m (map (carried_one P) js) at there right word }
 
-  all_of : (ms : List r.Impl) (k : ℕ) (os : List (List Judged)) → ((j : ℕ) (m : r.Impl) → slice_get ms j ≡ Some m → slice_get p.implementations (k + j) ≡ Some m) → AreTrueFrom (w.opened_program depth p) set k (map (w.opened_impl E p.axioms) ms) os → AreTrueFrom p set k ms (map (map (carried_one P)) os)
+  all_of : (ms : List r.Impl) (k : ℕ) (os : List (List Judged)) → ((j : ℕ) (m : r.Impl) → slice_get ms j ≡ Some m → slice_get p.implementations (k + j) ≡ Some m) → AreTrueFrom (w.opened_program depth p) set k (map (w.opened_impl E (w.claims p)) ms) os → AreTrueFrom p set k ms (map (map (carried_one P)) os)
   all_of [] k [] at t = tt
   all_of [] k (js ∷ os) at t = absurd t
   all_of (m ∷ ms) k [] at t = absurd t

@@ -9,6 +9,7 @@ use Rattle.bg_replay.specs.Moments.{Moment, Around, Out, and_so, seen_at}
 use Rattle.bg_replay.specs.Said.{Said, Fine, Stops, Leaves, Unsaid, on_said, checks, supposes}
 use Rattle.bg_replay.specs.Ways.{acts_each, leaves, enters, ran, runs}
 use Rattle.bg_opened.specs.Exprs.{opened}
+use Rattle.bg_opened.specs.Unique.{claims}
 use Rattle.bg_opened.specs.Programs.{supposing, opened_st, bodies_of}
 use Rattle.bg_opened.specs.Axioms.{claims_false, of_axioms}
 use Rattle.bg_confirm.proofs.Candidates.{BareSayings, BareCmds, A, M, Q}
@@ -126,4 +127,4 @@ module _ (depth : ℕ) (p : Prog) where
   blocks_straight =
       let r = routine_of (A depth p) 0 (M depth p) (Q depth p) in
       straight_led (code r.body (at_end r.wanted)).takes_in (Suppose r.given ∷ []) (code r.body (at_end r.wanted)).blocks (bare_plain (wheres_of ((A depth p).globals ++ frame_decls (M depth p) (Q depth p))), tt)
-      (body_straight (map (opened 0 (bodies_of depth (of_axioms p))) p.axioms) (at_end r.wanted) (((tt, tt), tt), tt))
+      (body_straight (map (opened 0 (bodies_of depth (of_axioms p))) (claims p)) (at_end r.wanted) (((tt, tt), tt), tt))

@@ -15,6 +15,7 @@ use Rattle.bg_replay.specs.Acts.{acts}
 use Rattle.bg_replay.specs.Endings.{moment_in}
 use Rattle.bg_replay.specs.Ways.{Way, On, Off, Beyond, Nowhere, leaves, acts_each, enters, ran, runs}
 use Rattle.bg_opened.specs.Exprs.{opened}
+use Rattle.bg_opened.specs.Unique.{claims}
 use Rattle.bg_opened.specs.Programs.{supposing, opened_st, opened_impl, opened_proc, bodies_of}
 use Rattle.bg_opened.specs.Axioms.{bare, claims_false, of_axioms, axiom_program}
 use Rattle.bg_confirm.specs.Met.{run_in}
@@ -136,7 +137,7 @@ module _ (depth : ℕ) (p : Prog) where
   A = axiom_program depth p
 
   abbrev pub M : Impl
-  M = opened_impl 0 (bodies_of depth (of_axioms p)) p.axioms claims_false
+  M = opened_impl 0 (bodies_of depth (of_axioms p)) (claims p) claims_false
 
   abbrev pub Q : Proc
   Q = opened_proc 0 (bodies_of depth (of_axioms p)) bare
@@ -159,7 +160,7 @@ module _ (depth : ℕ) (p : Prog) where
   bare_blocks =
       let r = routine_of A 0 M Q in
       bare_led (code r.body (at_end r.wanted)).takes_in (Suppose r.given ∷ []) (code r.body (at_end r.wanted)).blocks (bare_plain (wheres_of (A.globals ++ frame_decls M Q)), tt)
-      (body_bare (map (opened 0 (bodies_of depth (of_axioms p))) p.axioms) (at_end r.wanted) (((tt, tt), tt), tt))
+      (body_bare (map (opened 0 (bodies_of depth (of_axioms p))) (claims p)) (at_end r.wanted) (((tt, tt), tt), tt))
 
   -- what it says doesn't depend on the set
   pub alike : (set other : ℕ → Bool) (xs : List Scalar) → run_in A set 0 M Q xs ≡ run_in A other 0 M Q xs

@@ -5,7 +5,7 @@ use Rattle.std.proofs.lemmas.Option.{slice_get-map}
 use Rattle.bg_ast.specs.Resolved as r
 use Rattle.bg_lines.specs.Lines.{line}
 use Rattle.bg_lines.specs.Places.{place_text}
-use Rattle.bg_opened.specs.Written.{opened_impl, opened_in, opened_program}
+use Rattle.bg_opened.specs.Written.{claims, opened_impl, opened_in, opened_program}
 use Rattle.bg_accept.specs.Answers.{AnswerOf, Accepted, NoInterp, NotRetained, NotShown, NotRequired}
 use Rattle.bg_accept.specs.Texts.{name_text, answer_text}
 
@@ -18,8 +18,8 @@ text_alike depth p Accepted = refl
 text_alike depth p NoInterp = refl
 text_alike depth p (NotRetained name) = refl
 text_alike depth p (NotShown a) =
-    let f = opened_impl (opened_in depth p) p.axioms in
+    let f = opened_impl (opened_in depth p) (claims p) in
     ap (λ n. line (codes "rejected: " ++ (n ++ place_text a)))
     (ap name_text (slice_get-map f p.implementations a.place.implementation)
-    ∙ name_alike (opened_in depth p) p.axioms (slice_get p.implementations a.place.implementation))
+    ∙ name_alike (opened_in depth p) (claims p) (slice_get p.implementations a.place.implementation))
 text_alike depth p (NotRequired k i) = refl

@@ -13,3 +13,4 @@ pub mod Counted
 pub mod Whole
 pub mod Meant
 pub mod Openable
+pub mod PairNodes

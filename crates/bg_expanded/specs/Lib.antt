@@ -4,3 +4,4 @@ pub mod Applied
 pub mod Ranked
 pub mod Weights
 pub mod Bodies
+pub mod Pairs

@@ -1,17 +1,19 @@
 //! Whether too many nodes stand together, once bodies of functions are put in.
-ghost use Rattle.std.specs.Prelude.{◌≡◌, [], map, nat_lt, IfOk};
+ghost use Rattle.std.specs.Prelude.{◌≡◌, [], map, nat_lt, IfOk, OnOk};
 ghost use Rattle.bg_ast.specs.Resolved.{Ex};
-ghost use Rattle.bg_ast.specs.Views.{exs_in, proc_of, impl_of, program_of};
+ghost use Rattle.bg_ast.specs.Views.{exs_of, proc_of, impl_of, program_of};
 ghost use Rattle.bg_places.specs.Counts.{most_expanded, capped, nodes_of, spec_nodes, expanded_count, is_any_above};
-ghost use Rattle.bg_opened.specs.Written.{all_opened, opened_proc, opened_impl};
+ghost use Rattle.bg_opened.specs.Written.{all_opened, claims, opened_proc, opened_impl};
 ghost use Rattle.bg_expanded.specs.Chains.{most_bodies};
 ghost use Rattle.bg_expanded.specs.Counts.{opened_counts};
-ghost use Rattle.bg_expanded.specs.Bodies.{IsCountOf};
+ghost use Rattle.bg_expanded.specs.Bodies.{IsCountOf, AddsNodes};
 
 use crate::bodies::bodies;
 use crate::count::{Count, add_own, nodes_in, nothing, read_at};
+use crate::pairs::add_pairs;
 use crate::sized::{add_clauses, add_exprs, add_stmts};
-use bg_ast::resolved::{Expr, Implementation, Procedure, Resolved};
+use bg_ast::resolved::{Implementation, Procedure, Resolved};
+use bg_opening::{Scalar, uniques_of};
 use bg_places::MOST_EXPANDED;
 use std::alloc::{AllocError, Global};
 
@@ -41,12 +43,32 @@ fn sizes(
     Ok(made)
 }
 
-/// Whether these expressions together have too many nodes.
-fn are_too_large(alloc: Global, table: &[Option<Count>], es: &[Expr]) -> Result<bool, AllocError>
-    ensures { IfOk result (λ b. (o : Ex → Ex) → IsCountOf table.now o → b ≡ nat_lt most_expanded (nodes_of (all_opened o (exs_in es.now)))) }
+/// Adds the nodes of what is claimed of the constants of a program.
+fn add_claims(
+    alloc: Global,
+    count: &mut Count,
+    table: &[Option<Count>],
+    program: &Resolved,
+) -> Result<(), AllocError>
+    ensures { OnOk result (AddsNodes table.now count.old count.new (λ o. nodes_of (all_opened o (exs_of (claims (program_of program.now)))))) }
+{
+    let numbers = uniques_of(alloc, &program.types, &program.constants, Scalar::Int)?;
+    let truths = uniques_of(alloc, &program.types, &program.constants, Scalar::Bool)?;
+    add_pairs(count, numbers.len());
+    add_pairs(count, truths.len());
+    add_exprs(count, table, &program.axioms)
+}
+
+/// Whether the claims together have too many nodes.
+fn are_claims_too_large(
+    alloc: Global,
+    table: &[Option<Count>],
+    program: &Resolved,
+) -> Result<bool, AllocError>
+    ensures { IfOk result (λ b. (o : Ex → Ex) → IsCountOf table.now o → b ≡ nat_lt most_expanded (nodes_of (all_opened o (exs_of (claims (program_of program.now)))))) }
 {
     let mut count = nothing(alloc);
-    add_exprs(&mut count, table, es)?;
+    add_claims(alloc, &mut count, table, program)?;
     Ok(nodes_in(&count) > MOST_EXPANDED as u64)
 }
 
@@ -82,16 +104,17 @@ fn is_any_of(
     Ok(false)
 }
 
-/// Whether the axioms together, or an implementation, have too many expression nodes, once the bodies of functions stand in the place of
+/// Whether the claims on constants together, that unique ones differ and the axioms, or an implementation, have too many expression nodes, once the bodies of functions stand in the place of
 /// their applications: an implementation those of its body, of its procedure's clauses, and for each call of the callee's clauses. No
-/// body is put in to count them; time and memory are linear in the program's text.
+/// body is put in to count them; no pair of unique
+/// constants is made; time and memory are linear in the program's text.
 ///
 /// Only want of memory is an error.
 pub fn is_any_too_large(alloc: Global, program: &Resolved) -> Result<bool, AllocError>
     ensures { IfOk result (λ b. b ≡ is_any_above most_expanded (opened_counts most_bodies (program_of program.now))) }
 {
     let table = bodies(alloc, &program.functions)?;
-    if are_too_large(alloc, &table, &program.axioms)? {
+    if are_claims_too_large(alloc, &table, program)? {
         return Ok(true);
     }
     let sizes = sizes(alloc, &table, &program.procedures)?;

@@ -9,6 +9,7 @@ mod count;
 mod expanded;
 pub mod laws;
 mod nodes;
+mod pairs;
 mod ranked;
 mod sized;
 

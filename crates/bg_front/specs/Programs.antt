@@ -38,8 +38,8 @@ size_limit (Some places) chain large = Some (f.Places places)
 size_limit None chain large =
     if nat_lt most_bodies chain then Some (f.Bodies chain) else if large then Some f.Expanded else None
 
--- the places of the implementations of a program, the longest chain of its bodies, and the expression nodes of its axioms and of its
--- implementations, with bodies in the place of applications
+-- the places of the implementations of a program, the longest chain of its bodies, and the expression nodes of what is claimed of its
+-- constants and of its implementations, with bodies in the place of applications
 abbrev pub too_large : r.Program → Option f.Refusal
 too_large p =
     size_limit (first_above most_places (place_counts p)) (longest_chain p) (is_any_above most_expanded (opened_counts most_bodies p))

@@ -20,8 +20,6 @@ fn is_unjudged(kind: Kind) -> bool
     match kind {
         // declared types
         Kind::Type => true,
-        // constants that differ
-        Kind::Unique => true,
         // maps
         Kind::OpenBracket => true,
         _ => false,

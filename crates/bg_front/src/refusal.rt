@@ -38,8 +38,8 @@ pub enum Refusal<'a> {
     Places(usize),
     /// The longest chain of functions, each applied in the body of the next, has so many, more than `MOST_BODIES`.
     Bodies(usize),
-    /// With bodies in the place of applications, the axioms together have more expression nodes than `MOST_EXPANDED`, or an
-    /// implementation has with the clauses of what it calls.
+    /// With bodies in the place of applications, the axioms together, with the claims that unique constants differ, have more
+    /// expression nodes than `MOST_EXPANDED`, or an implementation has with the clauses of what it calls.
     Expanded,
 }
 

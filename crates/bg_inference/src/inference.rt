@@ -60,8 +60,9 @@ fn judge_axioms<R: Threads + Sync, G: Gate>(
 
 /// The candidates of a program that hold together, inferred with `workers` workers in threads, and the verdicts on its ordinary places
 /// under them. Constants, functions with a body and axioms are opened first: a constant is a variable that nothing changes, a body stands
-/// in the place of each application, 16 deep, and the axioms are assumed in front of each body (K. R. M. Leino, This is Boogie 2, 2008).
-/// Beside that a program of the axioms alone is judged: whether some interpretation meets them.
+/// in the place of each application, 16 deep, and in front of each body it is assumed that unique constants differ, and the axioms
+/// (K. R. M. Leino, This is Boogie 2, 2008). Beside that a program of these assumptions alone is judged: whether some interpretation
+/// meets them.
 ///
 /// Only want of memory is an error; what `bg_houdini::infer` counts as such counts here too.
 pub fn infer<R: Threads + Sync, G: Gate>(

@@ -38,10 +38,10 @@ TailGood specs b = Each SpecGood specs × IfThere BodyGood b
 abbrev pub ArgGood : t.FunArg → Type 0
 ArgGood a = TypeGood a.ty
 
--- a declaration made of what may stand, of which no constant is unique, and each function has a body
+-- a declaration made of what may stand, of which each function has a body
 abbrev pub DeclGood : t.Decl → Type 0
 DeclGood (t.Types p attrs ds) = ⊥
-DeclGood (t.Constants c) = TypeGood c.group.ty × (c.is_unique ≡ false)
+DeclGood (t.Constants c) = TypeGood c.group.ty
 DeclGood (t.Function f) =
     Each ArgGood f.args × TypeGood (result_type f.result) × IfThere Says f.body × (has_body f ≡ true)
 DeclGood (t.Axiom p attrs e) = Says e
@@ -121,11 +121,11 @@ on_head ys x s more rest h =
     let b = on_attrs ys (named ++ (more ++ rest)) (assoc (flat false) attrs named (more ++ rest) a) in
     on_sig s (more ++ rest) b.1
 
-on_unique : (b : Bool) (rest : List Mark) → Judged (flat false) (unique_marks b ++ rest) → (b ≡ false) × Judged (flat false) rest
-on_unique true rest h = never (h.0 refl)
-on_unique false rest h = (refl, h)
+on_unique : (b : Bool) (rest : List Mark) → Judged (flat false) (unique_marks b ++ rest) → Judged (flat false) rest
+on_unique true rest h = h.1
+on_unique false rest h = h
 
-on_constants : (c : t.Consts) (rest : List Mark) → Judged (flat false) (decl_marks (t.Constants c) ++ rest) → (TypeGood c.group.ty × (c.is_unique ≡ false)) × Judged (flat false) rest
+on_constants : (c : t.Consts) (rest : List Mark) → Judged (flat false) (decl_marks (t.Constants c) ++ rest) → TypeGood c.group.ty × Judged (flat false) rest
 on_constants c rest h =
     let attrs = each attr_marks c.group.attrs in
     let unique = unique_marks c.is_unique in
@@ -139,9 +139,9 @@ on_constants c rest h =
     let d = assoc (flat false) (attrs ++ unique) names (typed ++ more) b in
     let e = assoc (flat false) attrs unique (names ++ (typed ++ more)) d in
     let f = on_unique c.is_unique (names ++ (typed ++ more)) (on_attrs c.group.attrs (unique ++ (names ++ (typed ++ more))) e) in
-    let g = on_ids c.group.names (typed ++ more) f.1 in
+    let g = on_ids c.group.names (typed ++ more) f in
     let k = on_ty c.group.ty more g.1 in
-    ((k.0, f.0), k.1.1)
+    (k.0, k.1.1)
 
 on_arg_name : (o : Option t.Id) (rest : List Mark) → Judged (flat false) (if_there (λ x. id_mark x ∷ sign kinds.Colon ∷ []) o ++ rest) → Judged (flat false) rest
 on_arg_name None rest h = h

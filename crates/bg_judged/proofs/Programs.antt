@@ -109,10 +109,9 @@ module _ (g : Spaces) (none : g.types ≡ []) (many : ℕ) (names_fit : (frame :
   abbrev pub AxiomGood : r.Ex → Type 0
   AxiomGood e = is_judged_ex (m.ex_of e) ≡ true
 
-  constants_good : (c : t.Consts) → TypeGood c.group.ty → c.is_unique ≡ false → ty_faults g.types c.group.ty ≡ [] → (xs : List t.Id) → Each ConstGood (map (constant_as g c) xs)
-  constants_good c good plain ok [] = tt
-  constants_good c good plain ok (y ∷ ys) =
-      (both (is_scalar_type true (m.type_in types (named_ty g.types c.group.ty))) (not c.is_unique) (good g.types none types ok) (ap not plain), constants_good c good plain ok ys)
+  constants_good : (c : t.Consts) → TypeGood c.group.ty → ty_faults g.types c.group.ty ≡ [] → (xs : List t.Id) → Each ConstGood (map (constant_as g c) xs)
+  constants_good c good ok [] = tt
+  constants_good c good ok (y ∷ ys) = (good g.types none types ok, constants_good c good ok ys)
 
   unless_candidates : (c : t.Consts) → Each ConstGood (map (constant_as g c) c.group.names) → (b : Bool) → Each ConstGood (if b then [] else map (constant_as g c) c.group.names)
   unless_candidates c good true = tt
@@ -146,7 +145,7 @@ module _ (g : Spaces) (none : g.types ≡ []) (many : ℕ) (names_fit : (frame :
   constants_kept (t.Types p attrs ds) k = tt
   constants_kept (t.Constants c) k =
       let ok = split_nil (group_faults g c.group) (flat_map (candidate_faults c) c.group.names) k.1 in
-      unless_candidates c (constants_good c k.0.0 k.0.1 ok.0 c.group.names) (are_candidates c)
+      unless_candidates c (constants_good c k.0 ok.0 c.group.names) (are_candidates c)
   constants_kept (t.Function f) k = tt
   constants_kept (t.Axiom p attrs e) k = tt
   constants_kept (t.Globals x) k = tt

@@ -11,7 +11,7 @@ ghost use Rattle.bg_front.specs.Bodiless.{HaveBodies};
 ghost use Rattle.bg_front.specs.Programs.{IsMeaningOf, IsProgramOf};
 
 /// A program of which each token is judged, and each function has a body, is one of judged parts: its variables, constants, parameters and
-/// results are truth values and whole numbers, no constant is unique, and no map is read or changed.
+/// results are truth values and whole numbers, and no map is read or changed.
 pub fn judged_tokens_spell_judged_programs()
     ensures { (bytes : List ℕ) (ts : List Tok) (p : Program) → (m : IsMeaningOf bytes ts p) → AreJudged ts → HaveBodies m.decls → is_judged (meaning_of p) ≡ true }
 {}

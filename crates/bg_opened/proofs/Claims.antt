@@ -11,7 +11,7 @@ use Rattle.bg_sense.specs.Flow.{Answer, Failed, Blocked}
 use Rattle.bg_sense.specs.Context.{Cut, Ctx, scope}
 use Rattle.bg_sense.specs.Types.{are_of, types_of, const_types}
 use Rattle.bg_sense.specs.Tables.{is_table_of, are_tables, has_body}
-use Rattle.bg_sense.specs.Interps.{differs, are_distinct, all_hold, Meets}
+use Rattle.bg_sense.specs.Interps.{are_distinct, all_hold, Meets}
 use Rattle.bg_sense.specs.Variables.{procedure_of, wheres_of}
 use Rattle.bg_sense.specs.Typing.{Sig, HasType, HaveTypes, sig_in}
 use Rattle.bg_sense.specs.Typed.{HasNoOld, IsFormula, IsTypedProc, IsTypedImpl, IsTyped, around}
@@ -24,12 +24,15 @@ use Rattle.bg_sense.proofs.Bools.{and_left, and_right, both, bool_cases}
 use Rattle.bg_sense.proofs.TypedRuns.{default_typed}
 use Rattle.bg_fits.specs.Scalars.{is_scalar, is_scalar_type, st_passes, clause_passes, decls_pass, proc_passes, impl_passes, is_over_scalars}
 use Rattle.bg_opened.specs.Exprs.{opened}
+use Rattle.bg_opened.specs.Unique.{claims}
+use Rattle.bg_opened.specs.Judged.{const_judged}
 use Rattle.bg_opened.specs.Programs.{global_for, supposing, opened_clause, opened_st, opened_decl, opened_proc, opened_impl, bodies_of, opened_program}
 use Rattle.bg_opened.specs.Moments.{nothing, with_constants, blank, interp_in, without_constants}
 use Rattle.bg_opened.proofs.Places.{at_mapped}
 use Rattle.bg_opened.proofs.Worths.{typed_reads, sides}
 use Rattle.bg_opened.proofs.Runs.{Each, Fair, FairDecl, FairSt, FairProc, body_alike, body_blocked}
 use Rattle.bg_opened.proofs.Resolves.{map_append, each_all}
+use Rattle.bg_opened.proofs.Uniques.{claims_typed, claims_hold}
 use Rattle.bg_opened.proofs.Fairs.{types_length, each_weaker, each_append, list_all_left, list_all_at, reads_more, fair_clauses, fair_decls, fair_modified, fair_st, its_procedure, modified_alike, targets_alike, decls_alike, decl_fair, worth}
 
 -- ---- what reads no variable is worth the same at each moment
@@ -169,17 +172,6 @@ blank_tables (f ∷ fs) = both (is_table_of f (blank f)) (are_tables fs (map bla
     blank_one f =
         both (is_of f.result (default_for f.result) && true) (not (has_body f.body) || val_eq (default_for f.result) (default_for f.result)) (both (is_of f.result (default_for f.result)) true (default_typed f.result) refl) (or_right_true (not (has_body f.body)) (val_eq (default_for f.result) (default_for f.result)) (default_same f.result))
 
--- where no constant is unique
-pub none_unique : (cs : List Const) (vs : List Val) → list_all (λ c. not c.is_unique) cs ≡ true → are_distinct cs vs ≡ true
-none_unique [] vs h = refl
-none_unique (c ∷ cs) [] h = refl
-none_unique (c ∷ cs) (v ∷ vs) h =
-    both (not c.is_unique || differs c v cs vs) (are_distinct cs vs) (or_true (not c.is_unique) (differs c v cs vs) (and_left (not c.is_unique) (list_all (λ x. not x.is_unique) cs) h)) (none_unique cs vs (and_right (not c.is_unique) (list_all (λ x. not x.is_unique) cs) h))
-  where
-    or_true : (a e : Bool) → a ≡ true → (a || e) ≡ true
-    or_true true e h = refl
-    or_true false e h = absurd (let bad : ⊥ = cc in bad)
-
 pub at_all : {A : Type 0} (P : A → Type 0) (xs : List A) (k : ℕ) (x : A) → All P xs → slice_get xs k ≡ Some x → P x
 at_all P [] k x h e = absurd (let bad : ⊥ = cc in bad)
 at_all P (y ∷ xs) zero x h e = let same : y ≡ x = cc in subst P same (h 0 y (omega arith))
@@ -260,8 +252,8 @@ module _ (depth : ℕ) (p : Prog) (i : Interp) (typed : IsTyped p) (res : IsReso
         axiom_fair set k ds b0 es h.1 (and_right (is_scalar true (opened g b e)) rest t),
       )
 
-  its_implementation : (k : ℕ) (m : Impl) → slice_get p.implementations k ≡ Some m → slice_get o.implementations k ≡ Some (opened_impl g b p.axioms m)
-  its_implementation k m e = at_mapped (opened_impl g b p.axioms) p.implementations k ∙ ap (option_map (opened_impl g b p.axioms)) e
+  its_implementation : (k : ℕ) (m : Impl) → slice_get p.implementations k ≡ Some m → slice_get o.implementations k ≡ Some (opened_impl g b (claims p) m)
+  its_implementation k m e = at_mapped (opened_impl g b (claims p)) p.implementations k ∙ ap (option_map (opened_impl g b (claims p))) e
 
   module _ (set : ℕ → Bool) (k : ℕ) (m : Impl) (q : Proc) (s : State) (choices : List Choice) (im : slice_get p.implementations k ≡ Some m) (iq : procedure_of p m.procedure ≡ Some q) (len : length s.globals ≡ g) where
     abbrev ds : List Decl
@@ -273,19 +265,19 @@ module _ (depth : ℕ) (p : Prog) (i : Interp) (typed : IsTyped p) (res : IsReso
     its_own : its_type.procedure ≡ q
     its_own = let e = sym its_type.is_there ∙ iq in cc
 
-    its_pass : impl_passes n (is_scalar_type true) (is_scalar true) (opened_impl g b p.axioms m) ≡ true
+    its_pass : impl_passes n (is_scalar_type true) (is_scalar true) (opened_impl g b (claims p) m) ≡ true
     its_pass =
-        list_all_at (impl_passes n (is_scalar_type true) (is_scalar true)) o.implementations k (opened_impl g b p.axioms m) impls_pass (its_implementation k m im)
+        list_all_at (impl_passes n (is_scalar_type true) (is_scalar true)) o.implementations k (opened_impl g b (claims p) m) impls_pass (its_implementation k m im)
 
     abbrev Locals : Bool
     Locals = decls_pass (is_scalar_type true) (is_scalar true) (map (opened_decl g b) m.locals)
 
     abbrev Whole : St
-    Whole = supposing (map (opened g b) p.axioms) (opened_st g b m.body)
+    Whole = supposing (map (opened g b) (claims p)) (opened_st g b m.body)
 
-    parts : (list_all (is_scalar true) (map (opened g b) p.axioms) ≡ true) × (st_passes n (is_scalar true) (opened_st g b m.body) ≡ true)
+    parts : (list_all (is_scalar true) (map (opened g b) (claims p)) ≡ true) × (st_passes n (is_scalar true) (opened_st g b m.body) ≡ true)
     parts =
-        supposing_passes n (is_scalar true) (map (opened g b) p.axioms) (opened_st g b m.body) (and_right Locals (st_passes n (is_scalar true) Whole) its_pass)
+        supposing_passes n (is_scalar true) (map (opened g b) (claims p)) (opened_st g b m.body) (and_right Locals (st_passes n (is_scalar true) Whole) its_pass)
 
     its_proc : FairProc g b cs p o q
     its_proc = procs_fair m.procedure q iq
@@ -327,33 +319,33 @@ module _ (depth : ℕ) (p : Prog) (i : Interp) (typed : IsTyped p) (res : IsReso
           loops = Cut;
         }
 
-    opened_run : induction_run o set nothing k (with_constants i s) choices ≡ run_body by_specification (there (map (opened_decl g b) ds)) (opened_impl g b p.axioms m) (opened_proc g b q) (start (with_constants i s) choices 0)
+    opened_run : induction_run o set nothing k (with_constants i s) choices ≡ run_body by_specification (there (map (opened_decl g b) ds)) (opened_impl g b (claims p) m) (opened_proc g b q) (start (with_constants i s) choices 0)
     opened_run =
         ap (λ x. run x Cut o set nothing k (with_constants i s) choices 0) (its_implementation k m im)
-        ∙ ap (λ x. run_of x Cut o set nothing k (opened_impl g b p.axioms m) (with_constants i s) choices 0) (its_procedure depth p cs m.procedure ∙ ap (option_map (opened_proc g b)) iq)
-        ∙ ap (λ vs. run_body by_specification (there vs) (opened_impl g b p.axioms m) (opened_proc g b q) (start (with_constants i s) choices 0)) (frame_opened g b q m)
+        ∙ ap (λ x. run_of x Cut o set nothing k (opened_impl g b (claims p) m) (with_constants i s) choices 0) (its_procedure depth p cs m.procedure ∙ ap (option_map (opened_proc g b)) iq)
+        ∙ ap (λ vs. run_body by_specification (there vs) (opened_impl g b (claims p) m) (opened_proc g b q) (start (with_constants i s) choices 0)) (frame_opened g b q m)
 
     own_run : induction_run p set i k s choices ≡ run_body by_specification (context Cut p set i k m q s) m q (start s choices 0)
     own_run =
         ap (λ x. run x Cut p set i k s choices 0) im ∙ ap (λ x. run_of x Cut p set i k m s choices 0) iq
 
-    same_runs : all_hold p i p.axioms ≡ true → induction_run o set nothing k (with_constants i s) choices ≡ induction_run p set i k s choices
+    same_runs : all_hold p i (claims p) ≡ true → induction_run o set nothing k (with_constants i s) choices ≡ induction_run p set i k s choices
     same_runs t =
         opened_run
-        ∙ body_alike g b cs p o i set k ds s.globals (worth depth p i typed none) len (decls_alike depth p cs ds) (λ x h. decl_fair depth p cs ds globals_fair ds_fair x) (its_procedure depth p cs) procs_fair (λ a h. targets_alike depth p cs ds a res h) m q p.axioms body_fair its_proc.ensures_ (axiom_fair set k ds s.globals p.axioms (each_all (λ e. IsFormula (sig_in (record p { globals = [] }) []) e × HasNoOld e) p.axioms typed.axioms) parts.0) begins (wheres_fair (p.globals ++ ds) (each_append (FairDecl g b cs) p.globals ds globals_fair ds_fair)) its_proc.requires_ (start s choices 0) len t
+        ∙ body_alike g b cs p o i set k ds s.globals (worth depth p i typed none) len (decls_alike depth p cs ds) (λ x h. decl_fair depth p cs ds globals_fair ds_fair x) (its_procedure depth p cs) procs_fair (λ a h. targets_alike depth p cs ds a res h) m q (claims p) body_fair its_proc.ensures_ (axiom_fair set k ds s.globals (claims p) (claims_typed p typed.axioms) parts.0) begins (wheres_fair (p.globals ++ ds) (each_append (FairDecl g b cs) p.globals ds globals_fair ds_fair)) its_proc.requires_ (start s choices 0) len t
         ∙ sym own_run
 
-    blocked_run : all_hold p i p.axioms ≡ false → induction_run o set nothing k (with_constants i s) choices ≡ Blocked
+    blocked_run : all_hold p i (claims p) ≡ false → induction_run o set nothing k (with_constants i s) choices ≡ Blocked
     blocked_run t =
         opened_run
-        ∙ body_blocked g b cs p o i set k ds s.globals (worth depth p i typed none) len (decls_alike depth p cs ds) (λ x h. decl_fair depth p cs ds globals_fair ds_fair x) (its_procedure depth p cs) procs_fair (λ a h. targets_alike depth p cs ds a res h) m q p.axioms body_fair its_proc.ensures_ (axiom_fair set k ds s.globals p.axioms (each_all (λ e. IsFormula (sig_in (record p { globals = [] }) []) e × HasNoOld e) p.axioms typed.axioms) parts.0) begins (wheres_fair (p.globals ++ ds) (each_append (FairDecl g b cs) p.globals ds globals_fair ds_fair)) its_proc.requires_ (start s choices 0) len t
+        ∙ body_blocked g b cs p o i set k ds s.globals (worth depth p i typed none) len (decls_alike depth p cs ds) (λ x h. decl_fair depth p cs ds globals_fair ds_fair x) (its_procedure depth p cs) procs_fair (λ a h. targets_alike depth p cs ds a res h) m q (claims p) body_fair its_proc.ensures_ (axiom_fair set k ds s.globals (claims p) (claims_typed p typed.axioms) parts.0) begins (wheres_fair (p.globals ++ ds) (each_append (FairDecl g b cs) p.globals ds globals_fair ds_fair)) its_proc.requires_ (start s choices 0) len t
 
   no_such : (set : ℕ → Bool) (k : ℕ) (s : State) (choices : List Choice) → slice_get p.implementations k ≡ None → induction_run o set nothing k (with_constants i s) choices ≡ induction_run p set i k s choices
   no_such set k s choices e =
-      ap (λ x. run x Cut o set nothing k (with_constants i s) choices 0) (at_mapped (opened_impl g b p.axioms) p.implementations k ∙ ap (option_map (opened_impl g b p.axioms)) e)
+      ap (λ x. run x Cut o set nothing k (with_constants i s) choices 0) (at_mapped (opened_impl g b (claims p)) p.implementations k ∙ ap (option_map (opened_impl g b (claims p))) e)
       ∙ sym (ap (λ x. run x Cut p set i k s choices 0) e)
 
-  pub runs_alike : (set : ℕ → Bool) (k : ℕ) (s : State) (choices : List Choice) → all_hold p i p.axioms ≡ true → length s.globals ≡ g → induction_run o set nothing k (with_constants i s) choices ≡ induction_run p set i k s choices
+  pub runs_alike : (set : ℕ → Bool) (k : ℕ) (s : State) (choices : List Choice) → all_hold p i (claims p) ≡ true → length s.globals ≡ g → induction_run o set nothing k (with_constants i s) choices ≡ induction_run p set i k s choices
   runs_alike set k s choices t len = on (slice_get p.implementations k) refl
     where
       on : (x : Option Impl) → slice_get p.implementations k ≡ x → induction_run o set nothing k (with_constants i s) choices ≡ induction_run p set i k s choices
@@ -362,13 +354,13 @@ module _ (depth : ℕ) (p : Prog) (i : Interp) (typed : IsTyped p) (res : IsReso
           let t' = at_all (IsTypedImpl p) p.implementations k m typed.implementations e in
           same_runs set k m t'.procedure s choices e t'.is_there len t
 
-  pub failing_runs_meet : (set : ℕ → Bool) (k : ℕ) (s : State) (choices : List Choice) (spot : Spot) → length s.globals ≡ g → induction_run o set nothing k (with_constants i s) choices ≡ Failed spot → all_hold p i p.axioms ≡ true
+  pub failing_runs_meet : (set : ℕ → Bool) (k : ℕ) (s : State) (choices : List Choice) (spot : Spot) → length s.globals ≡ g → induction_run o set nothing k (with_constants i s) choices ≡ Failed spot → all_hold p i (claims p) ≡ true
   failing_runs_meet set k s choices spot len f =
-      ⊎_elim (λ t. t) (λ t. absurd (on (slice_get p.implementations k) refl t)) (bool_cases (all_hold p i p.axioms))
+      ⊎_elim (λ t. t) (λ t. absurd (on (slice_get p.implementations k) refl t)) (bool_cases (all_hold p i (claims p)))
     where
-      on : (x : Option Impl) → slice_get p.implementations k ≡ x → all_hold p i p.axioms ≡ false → ⊥
+      on : (x : Option Impl) → slice_get p.implementations k ≡ x → all_hold p i (claims p) ≡ false → ⊥
       on None e t =
-          let r = sym (ap (λ x. run x Cut o set nothing k (with_constants i s) choices 0) (at_mapped (opened_impl g b p.axioms) p.implementations k ∙ ap (option_map (opened_impl g b p.axioms)) e)) ∙ f in
+          let r = sym (ap (λ x. run x Cut o set nothing k (with_constants i s) choices 0) (at_mapped (opened_impl g b (claims p)) p.implementations k ∙ ap (option_map (opened_impl g b (claims p))) e)) ∙ f in
           let bad : ⊥ = cc in
           bad
       on (Some m) e t =
@@ -382,7 +374,7 @@ module _ (depth : ℕ) (p : Prog) (i : Interp) (typed : IsTyped p) (res : IsReso
 -- the types of an opened program's frames
 frame_types : (depth : ℕ) (p : Prog) (k : ℕ) → types_of (frame_of (opened_program depth p) (slice_get (opened_program depth p).implementations k)) ≡ types_of (frame_of p (slice_get p.implementations k))
 frame_types depth p k =
-    ap (λ m. types_of (frame_of o m)) (at_mapped (opened_impl g b p.axioms) p.implementations k) ∙ on (slice_get p.implementations k)
+    ap (λ m. types_of (frame_of o m)) (at_mapped (opened_impl g b (claims p)) p.implementations k) ∙ on (slice_get p.implementations k)
   where
     g : ℕ
     g = length p.globals
@@ -393,20 +385,20 @@ frame_types depth p k =
     o : Prog
     o = opened_program depth p
 
-    by : (m : Impl) (q : Option Proc) → types_of (frame_with (option_map (opened_proc (length p.globals) (bodies_of depth p)) q) (opened_impl (length p.globals) (bodies_of depth p) p.axioms m)) ≡ types_of (frame_with q m)
+    by : (m : Impl) (q : Option Proc) → types_of (frame_with (option_map (opened_proc (length p.globals) (bodies_of depth p)) q) (opened_impl (length p.globals) (bodies_of depth p) (claims p) m)) ≡ types_of (frame_with q m)
     by m None = types_opened (length p.globals) (bodies_of depth p) m.locals
     by m (Some q) =
         ap types_of (frame_opened (length p.globals) (bodies_of depth p) q m) ∙ types_opened (length p.globals) (bodies_of depth p) (q.params ++ (q.results ++ m.locals))
 
-    on : (m : Option Impl) → types_of (frame_of (opened_program depth p) (option_map (opened_impl (length p.globals) (bodies_of depth p) p.axioms) m)) ≡ types_of (frame_of p m)
+    on : (m : Option Impl) → types_of (frame_of (opened_program depth p) (option_map (opened_impl (length p.globals) (bodies_of depth p) (claims p)) m)) ≡ types_of (frame_of p m)
     on None = refl
     on (Some m) =
-        ap (λ q. types_of (frame_with q (opened_impl (length p.globals) (bodies_of depth p) p.axioms m))) (its_procedure depth p [] m.procedure) ∙ by m (procedure_of p m.procedure)
+        ap (λ q. types_of (frame_with q (opened_impl (length p.globals) (bodies_of depth p) (claims p) m))) (its_procedure depth p [] m.procedure) ∙ by m (procedure_of p m.procedure)
 
 nothing_meets : (depth : ℕ) (p : Prog) → Meets (opened_program depth p) nothing
 nothing_meets depth p = record { interp = record { constants = refl; tables = refl }; unique = refl; axioms = refl }
 
-module _ (depth : ℕ) (p : Prog) (typed : IsTyped p) (res : IsResolved p) (none : HasNoRecursion p) (test : is_over_scalars true (opened_program depth p) ≡ true) where
+module _ (depth : ℕ) (p : Prog) (typed : IsTyped p) (res : IsResolved p) (none : HasNoRecursion p) (test : is_over_scalars true (opened_program depth p) ≡ true) (judged : list_all const_judged p.constants ≡ true) where
   in_length : (s : State) → are_of (types_of p.globals) s.globals ≡ true → length s.globals ≡ length p.globals
   in_length s h = are_of_length (types_of p.globals) s.globals h ∙ types_length p.globals
 
@@ -418,10 +410,10 @@ module _ (depth : ℕ) (p : Prog) (typed : IsTyped p) (res : IsResolved p) (none
           globals = ap (λ ts. are_of ts (s.globals ++ i.constants)) (global_types depth p) ∙ are_of_both (types_of p.globals) (const_types p.constants) s.globals i.constants f.state.globals f.meets.interp.constants;
           frame = ap (λ ts. are_of ts s.frame) (frame_types depth p t.implementation) ∙ f.state.frame;
         };
-        fails = runs_alike depth p i typed res none test set t.implementation s choices f.meets.axioms (in_length s f.state.globals) ∙ f.fails;
+        fails = runs_alike depth p i typed res none test set t.implementation s choices (claims_hold p i judged (are_of_length (const_types p.constants) i.constants f.meets.interp.constants) ∙ both (are_distinct p.constants i.constants) (all_hold p i p.axioms) f.meets.unique f.meets.axioms) (in_length s f.state.globals) ∙ f.fails;
       }
 
-  module _ (set : ℕ → Bool) (t : Place) (s : State) (choices : List Choice) (distinct : list_all (λ c. not c.is_unique) p.constants ≡ true) (f : Fails (opened_program depth p) set t nothing s choices) where
+  module _ (set : ℕ → Bool) (t : Place) (s : State) (choices : List Choice) (f : Fails (opened_program depth p) set t nothing s choices) where
     abbrev i : Interp
     i = interp_in p s
 
@@ -445,16 +437,19 @@ module _ (depth : ℕ) (p : Prog) (typed : IsTyped p) (res : IsResolved p) (none
     as_joined : induction_run (opened_program depth p) set nothing t.implementation (with_constants i own) choices ≡ Failed t.spot
     as_joined = ap (λ x. induction_run (opened_program depth p) set nothing t.implementation x choices) joined ∙ f.fails
 
-    holds : all_hold p i p.axioms ≡ true
+    holds : all_hold p i (claims p) ≡ true
     holds = failing_runs_meet depth p i typed res none test set t.implementation own choices t.spot (in_length own globals_typed) as_joined
+
+    both_hold : (are_distinct p.constants i.constants && all_hold p i p.axioms) ≡ true
+    both_hold = sym (claims_hold p i judged (are_of_length (const_types p.constants) i.constants constants_typed)) ∙ holds
 
     pub program_fails : Fails p set t i own choices
     program_fails =
         record {
           meets = record {
             interp = record { constants = constants_typed; tables = blank_tables p.functions };
-            unique = none_unique p.constants i.constants distinct;
-            axioms = holds;
+            unique = and_left (are_distinct p.constants i.constants) (all_hold p i p.axioms) both_hold;
+            axioms = and_right (are_distinct p.constants i.constants) (all_hold p i p.axioms) both_hold;
           };
           state = record {
             globals = globals_typed;

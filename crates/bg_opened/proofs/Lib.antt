@@ -4,6 +4,7 @@ pub mod Typing
 pub mod Runs
 pub mod Resolves
 pub mod Fairs
+pub mod Uniques
 pub mod Claims
 pub mod Programs
 pub mod Scalars

@@ -5,6 +5,7 @@ use Rattle.bg_ast.specs.Syntax.{Ex, Clause, St, Skip, Then, Label, Assert, Assum
 use Rattle.bg_ast.specs.Execution.{Spot, AtAssert, AtCall, AtEntry, AfterTurn, AtReturn, Place}
 use Rattle.bg_sense.specs.Variables.{procedure_of}
 use Rattle.bg_sense.specs.Places.{checks_of, requires_in, ensures_in, places_in, places_from, places}
+use Rattle.bg_opened.specs.Unique.{claims}
 use Rattle.bg_opened.specs.Programs.{supposing, opened_clause, opened_st, opened_proc, opened_impl, bodies_of, opened_program}
 
 pub at_mapped : {A B : Type 0} (f : A → B) (xs : List A) (k : ℕ) → slice_get (map f xs) k ≡ option_map f (slice_get xs k)
@@ -70,4 +71,4 @@ module _ (g : ℕ) (bodies : ℕ → Option Ex) where
 
 pub places_alike : (depth : ℕ) (p : Prog) → places (opened_program depth p) ≡ places p
 places_alike depth p =
-    from_alike (Rattle.std.proofs.Common.length p.globals) (bodies_of depth p) p (opened_program depth p) refl p.axioms 0 p.implementations
+    from_alike (Rattle.std.proofs.Common.length p.globals) (bodies_of depth p) p (opened_program depth p) refl (claims p) 0 p.implementations

@@ -13,6 +13,7 @@ use Rattle.bg_sense.specs.Resolved.{IsResolved}
 use Rattle.bg_sense.proofs.Bools.{and_left, and_right}
 use Rattle.bg_fits.specs.Scalars.{is_scalar, is_scalar_type, exs_pass, clause_passes, guard_passes, st_passes, decl_passes, decls_pass, proc_passes, impl_passes, is_declared, is_over_scalars}
 use Rattle.bg_opened.specs.Exprs.{opened, all_opened, bodies_to}
+use Rattle.bg_opened.specs.Unique.{claims}
 use Rattle.bg_opened.specs.Programs.{global_for, supposing, opened_clause, opened_guard, opened_call, opened_st, opened_decl, opened_proc, opened_impl, bodies_of, opened_program}
 use Rattle.bg_opened.specs.Moments.{nothing}
 use Rattle.bg_opened.proofs.Places.{at_mapped}
@@ -21,6 +22,7 @@ use Rattle.bg_opened.proofs.Typing.{op_map, opened_typed, bodies_typed, BodiesTy
 use Rattle.bg_opened.proofs.Runs.{Each, FairVar}
 use Rattle.bg_opened.proofs.Resolves.{map_append, map_length, each_all, all_each, each_map}
 use Rattle.bg_opened.proofs.Fairs.{types_length, each_append, list_all_left, list_all_at, its_procedure, modified_alike, fair_vars, decls_alike}
+use Rattle.bg_opened.proofs.Uniques.{claims_typed}
 use Rattle.bg_opened.proofs.Claims.{at_all, types_opened, frame_opened, global_types, supposing_passes, globals_pass, procs_pass, impls_pass}
 
 -- ---- what reads no variable is typed in each frame
@@ -309,20 +311,20 @@ module _ (depth : ℕ) (p : Prog) (typed : IsTyped p) (res : IsResolved p) (none
         ensures_ = all_each (λ c. IsFormula (sig_in o (map OD q.params ++ map OD q.results)) c.says) (map (opened_clause g b) q.ensures_) (subst (λ l. Each (λ c. IsFormula (sig_in o l) c.says) (map (opened_clause g b) q.ensures_)) joined (clauses_typed (q.params ++ q.results) q.ensures_ (each_all (λ c. IsFormula (sig_in p (q.params ++ q.results)) c.says) q.ensures_ t.ensures_) (and_right (Clauses q.requires_) (Clauses q.ensures_) s2)));
       }
 
-  impl_typed : (k : ℕ) (m : Impl) → slice_get p.implementations k ≡ Some m → IsTypedImpl o (opened_impl g b p.axioms m)
+  impl_typed : (k : ℕ) (m : Impl) → slice_get p.implementations k ≡ Some m → IsTypedImpl o (opened_impl g b (claims p) m)
   impl_typed k m e =
       let t = at_all (IsTypedImpl p) p.implementations k m typed.implementations e in
       let q = t.procedure in
       let ds = q.params ++ (q.results ++ m.locals) in
-      let whole = supposing (map O p.axioms) (opened_st g b m.body) in
-      let s = list_all_at (impl_passes n (is_scalar_type true) (is_scalar true)) o.implementations k (opened_impl g b p.axioms m) (impls_pass depth p nothing typed res none test) (at_mapped (opened_impl g b p.axioms) p.implementations k ∙ ap (option_map (opened_impl g b p.axioms)) e) in
-      let parts = supposing_passes n (is_scalar true) (map O p.axioms) (opened_st g b m.body) (and_right (Decls m.locals) (st_passes n (is_scalar true) whole) s) in
+      let whole = supposing (map O (claims p)) (opened_st g b m.body) in
+      let s = list_all_at (impl_passes n (is_scalar_type true) (is_scalar true)) o.implementations k (opened_impl g b (claims p) m) (impls_pass depth p nothing typed res none test) (at_mapped (opened_impl g b (claims p)) p.implementations k ∙ ap (option_map (opened_impl g b (claims p))) e) in
+      let parts = supposing_passes n (is_scalar true) (map O (claims p)) (opened_st g b m.body) (and_right (Decls m.locals) (st_passes n (is_scalar true) whole) s) in
       let same = sym (frame_opened g b q m) in
       record {
         procedure = opened_proc g b q;
         is_there = its_procedure depth p [] m.procedure ∙ ap (option_map (opened_proc g b)) t.is_there;
         locals = all_each (λ d. All (IsFormula (sig_in o (map OD q.params ++ (map OD q.results ++ map OD m.locals)))) d.wheres) (map OD m.locals) (subst (λ l. Each (λ d. All (IsFormula (sig_in o l)) d.wheres) (map OD m.locals)) same (decls_typed ds m.locals (each_all (λ d. All (IsFormula (sig_in p ds)) d.wheres) m.locals t.locals) (and_left (Decls m.locals) (st_passes n (is_scalar true) whole) s)));
-        body = subst (λ l. IsTypedStatement (record { program = o; procedure = opened_proc g b q; variables = l }) [] [] whole) same (supposing_typed m.procedure q t.is_there ds p.axioms (opened_st g b m.body) (each_all (λ x. IsFormula (sig_in (record p { globals = [] }) []) x × HasNoOld x) p.axioms typed.axioms) parts.0 (st_typed m.procedure q t.is_there ds [] [] m.body t.body parts.1));
+        body = subst (λ l. IsTypedStatement (record { program = o; procedure = opened_proc g b q; variables = l }) [] [] whole) same (supposing_typed m.procedure q t.is_there ds (claims p) (opened_st g b m.body) (claims_typed p typed.axioms) parts.0 (st_typed m.procedure q t.is_there ds [] [] m.body t.body parts.1));
       }
 
   -- ---- the program
@@ -344,5 +346,5 @@ module _ (depth : ℕ) (p : Prog) (typed : IsTyped p) (res : IsResolved p) (none
         bodies = λ f fn e q s. absurd (let bad : ⊥ = cc in bad);
         plain_bodies = λ f fn e q s. absurd (let bad : ⊥ = cc in bad);
         procedures = all_each (IsTypedProc o) o.procedures (each_map (IsTypedProc o) (λ q. IsTypedProc o (opened_proc g b q)) (opened_proc g b) p.procedures (λ q h. h) (each_of (λ q. IsTypedProc o (opened_proc g b q)) p.procedures proc_typed));
-        implementations = all_each (IsTypedImpl o) o.implementations (each_map (IsTypedImpl o) (λ m. IsTypedImpl o (opened_impl g b p.axioms m)) (opened_impl g b p.axioms) p.implementations (λ m h. h) (each_of (λ m. IsTypedImpl o (opened_impl g b p.axioms m)) p.implementations impl_typed));
+        implementations = all_each (IsTypedImpl o) o.implementations (each_map (IsTypedImpl o) (λ m. IsTypedImpl o (opened_impl g b (claims p) m)) (opened_impl g b (claims p)) p.implementations (λ m h. h) (each_of (λ m. IsTypedImpl o (opened_impl g b (claims p) m)) p.implementations impl_typed));
       }

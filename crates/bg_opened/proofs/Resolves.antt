@@ -5,6 +5,7 @@ use Rattle.bg_ast.specs.Syntax.{Ex, Clause, St, Skip, Then, Label, Assert, Assum
 use Rattle.bg_sense.specs.Resolved.{AreDifferent, Rise, clauses_in, calls_in, called_in, branches_in, labels_in, specified, in_bodies, clauses_of, HasCandidate, IsResolved}
 use Rattle.bg_sense.proofs.Members.{In, member, contained}
 use Rattle.bg_opened.specs.Exprs.{opened}
+use Rattle.bg_opened.specs.Unique.{claims}
 use Rattle.bg_opened.specs.Programs.{global_for, supposing, opened_clause, opened_st, opened_decl, opened_proc, opened_impl, bodies_of, opened_program}
 use Rattle.bg_opened.proofs.Runs.{Each}
 
@@ -177,7 +178,7 @@ module _ (depth : ℕ) (p : Prog) (h : IsResolved p) where
   all_clauses : clauses_of o ≡ map (opened_clause (length p.globals) b) (clauses_of p)
   all_clauses =
       ap (λ l. l ++ in_bodies clauses_in o.implementations) (specified_alike (length p.globals) b p.procedures)
-      ∙ ap (λ l. map (opened_clause (length p.globals) b) (specified p.procedures) ++ l) (in_bodies_alike (length p.globals) b clauses_in (λ e s. refl) (map (opened_clause (length p.globals) b)) p.axioms (map_append (opened_clause (length p.globals) b)) refl (clauses_alike (length p.globals) b) p.implementations)
+      ∙ ap (λ l. map (opened_clause (length p.globals) b) (specified p.procedures) ++ l) (in_bodies_alike (length p.globals) b clauses_in (λ e s. refl) (map (opened_clause (length p.globals) b)) (claims p) (map_append (opened_clause (length p.globals) b)) refl (clauses_alike (length p.globals) b) p.implementations)
       ∙ sym (map_append (opened_clause (length p.globals) b) (specified p.procedures) (in_bodies clauses_in p.implementations))
 
   all_ids : map (λ k. k.id) (clauses_of o) ≡ map (λ k. k.id) (clauses_of p)
@@ -185,7 +186,7 @@ module _ (depth : ℕ) (p : Prog) (h : IsResolved p) where
 
   numbers : (some : St → List ℕ) → ((e : Ex) (s : St) → some (Then (Assume e) s) ≡ some s) → ((s : St) → some (opened_st (length p.globals) b s) ≡ some s) → in_bodies some o.implementations ≡ in_bodies some p.implementations
   numbers some skips same =
-      in_bodies_alike (length p.globals) b some skips (λ l. l) p.axioms (λ xs ys. refl) refl same p.implementations
+      in_bodies_alike (length p.globals) b some skips (λ l. l) (claims p) (λ xs ys. refl) refl same p.implementations
 
   fewer : length p.procedures ≡ length o.procedures
   fewer = sym (map_length (opened_proc (length p.globals) b) p.procedures)
@@ -213,12 +214,12 @@ module _ (depth : ℕ) (p : Prog) (h : IsResolved p) where
   pub resolved : IsResolved o
   resolved =
       record {
-        implemented = all_each (λ m. m.procedure < length o.procedures) o.implementations (each_map (λ m. m.procedure < length o.procedures) (λ m. m.procedure < length p.procedures) (opened_impl (length p.globals) b p.axioms) p.implementations (λ m l. subst (λ n. m.procedure < n) fewer l) (each_all (λ m. m.procedure < length p.procedures) p.implementations h.implemented));
+        implemented = all_each (λ m. m.procedure < length o.procedures) o.implementations (each_map (λ m. m.procedure < length o.procedures) (λ m. m.procedure < length p.procedures) (opened_impl (length p.globals) b (claims p)) p.implementations (λ m l. subst (λ n. m.procedure < n) fewer l) (each_all (λ m. m.procedure < length p.procedures) p.implementations h.implemented));
         called = subst (λ l. All (λ k. k < length o.procedures) l) (sym (numbers called_in (λ e s. refl) (called_alike (length p.globals) b))) (subst (λ n. All (λ k. k < n) (in_bodies called_in p.implementations)) fewer h.called);
         clauses = subst AreDifferent (sym all_ids) h.clauses;
         calls = subst AreDifferent (sym (numbers calls_in (λ e s. refl) (calls_alike (length p.globals) b))) h.calls;
         branches = subst AreDifferent (sym (numbers branches_in (λ e s. refl) (branches_alike (length p.globals) b))) h.branches;
-        labels = all_each (λ m. AreDifferent (labels_in m.body)) o.implementations (each_map (λ m. AreDifferent (labels_in m.body)) (λ m. AreDifferent (labels_in m.body)) (opened_impl (length p.globals) b p.axioms) p.implementations (λ m l. subst AreDifferent (sym (supposing_alike (length p.globals) b labels_in (λ e s. refl) (map (opened (length p.globals) b) p.axioms) (opened_st (length p.globals) b m.body) ∙ labels_alike (length p.globals) b m.body)) l) (each_all (λ m. AreDifferent (labels_in m.body)) p.implementations h.labels));
+        labels = all_each (λ m. AreDifferent (labels_in m.body)) o.implementations (each_map (λ m. AreDifferent (labels_in m.body)) (λ m. AreDifferent (labels_in m.body)) (opened_impl (length p.globals) b (claims p)) p.implementations (λ m l. subst AreDifferent (sym (supposing_alike (length p.globals) b labels_in (λ e s. refl) (map (opened (length p.globals) b) (claims p)) (opened_st (length p.globals) b m.body) ∙ labels_alike (length p.globals) b m.body)) l) (each_all (λ m. AreDifferent (labels_in m.body)) p.implementations h.labels));
         modifies = modifies_rise;
         candidates = guards;
       }

@@ -1,6 +1,6 @@
 -- An opened program of judged parts is over truth values and whole numbers.
 use Rattle.std.proofs.Common.{◌≡◌, ◌<◌, ◌≤◌, ℕ, zero, suc, arith, Bool, true, List, [], ◌∷◌, ◌++◌, length, map, Option, Some, None, refl, ap, ◌∙◌, subst}
-use Rattle.std.specs.Prelude.{◌&&◌, not, slice_get, All}
+use Rattle.std.specs.Prelude.{◌&&◌, slice_get, All}
 use Rattle.std.specs.List.{list_all}
 use Rattle.bg_ast.specs.Values.{Ty, IntTy, BoolTy}
 use Rattle.bg_ast.specs.Syntax.{Global, Local, Ex, Exs, Number, Fact, Constant, Read, Not, Negative, Binary, Apply, Select, Update, Old, NoMore, More, Clause, Guard, Star, Test, St, Skip, Then, Label, Assert, Assume, Havoc, Assign, Invoke, If, While, Break, Goto, Return, Decl, Const, Fun, Proc, Impl, Prog}
@@ -11,12 +11,14 @@ use Rattle.bg_sense.specs.Recursion.{AppliesBelow, EachAppliesBelow, HasNoRecurs
 use Rattle.bg_sense.proofs.Bools.{and_left, and_right, both}
 use Rattle.bg_fits.specs.Scalars.{is_scalar, is_scalar_type, exs_pass, clause_passes, guard_passes, st_passes, decl_passes, decls_pass, proc_passes, impl_passes, is_declared, is_over_scalars}
 use Rattle.bg_opened.specs.Exprs.{ex_at, put_in, applied, opened, all_opened, opened_fun, opened_body, bodies_to}
+use Rattle.bg_opened.specs.Unique.{claims}
 use Rattle.bg_opened.specs.Programs.{global_for, supposing, opened_clause, opened_guard, opened_st, opened_decl, opened_proc, opened_impl, bodies_of, opened_program}
 use Rattle.bg_opened.specs.Judged.{is_judged_ex, are_judged, const_judged, fun_judged, body_judged, is_judged}
 use Rattle.bg_opened.proofs.Worths.{sides}
 use Rattle.bg_opened.proofs.Runs.{Each}
 use Rattle.bg_opened.proofs.Resolves.{each_all}
 use Rattle.bg_opened.proofs.Fairs.{list_all_at}
+use Rattle.bg_opened.proofs.Uniques.{claims_typed, claims_judged}
 
 -- ---- arguments in the place of the frame
 
@@ -238,7 +240,7 @@ module _ (p : Prog) (typed : IsTyped p) (none : HasNoRecursion p) (funs : list_a
     constants_scalar [] j = refl
     constants_scalar (c ∷ cs) j =
         let one = and_left (const_judged c) (list_all const_judged cs) j in
-        both (is_scalar_type true c.ty && true) (decls_pass (is_scalar_type true) (is_scalar true) (map global_for cs)) (both (is_scalar_type true c.ty) true (and_left (is_scalar_type true c.ty) (not c.is_unique) one) refl) (constants_scalar cs (and_right (const_judged c) (list_all const_judged cs) j))
+        both (is_scalar_type true c.ty && true) (decls_pass (is_scalar_type true) (is_scalar true) (map global_for cs)) (both (is_scalar_type true c.ty) true one refl) (constants_scalar cs (and_right (const_judged c) (list_all const_judged cs) j))
 
 list_all_both : {A : Type 0} (f : A → Bool) (xs ys : List A) → list_all f xs ≡ true → list_all f ys ≡ true → list_all f (xs ++ ys) ≡ true
 list_all_both f [] ys h k = k
@@ -291,14 +293,6 @@ module _ (p : Prog) (judged : is_judged p ≡ true) where
   pub impls_judged : Impls ≡ true
   impls_judged = and_right Procs Impls (and_right Axioms (Procs && Impls) rest3)
 
-  pub none_unique : list_all (λ c. not c.is_unique) p.constants ≡ true
-  none_unique = each p.constants constants_judged
-    where
-      each : (cs : List Const) → list_all const_judged cs ≡ true → list_all (λ c. not c.is_unique) cs ≡ true
-      each [] j = refl
-      each (c ∷ cs) j =
-          both (not c.is_unique) (list_all (λ x. not x.is_unique) cs) (and_right (is_scalar_type true c.ty) (not c.is_unique) (and_left (const_judged c) (list_all const_judged cs) j)) (each cs (and_right (const_judged c) (list_all const_judged cs) j))
-
 pub over_scalars : (depth : ℕ) (p : Prog) (typed : IsTyped p) (none : HasNoRecursion p) → is_judged p ≡ true → ((f : ℕ) (fn : Fun) → slice_get p.functions f ≡ Some fn → none.rank f < depth) → is_over_scalars true (opened_program depth p) ≡ true
 over_scalars depth p typed none j high =
     let funs = functions_judged p j in
@@ -308,4 +302,4 @@ over_scalars depth p typed none j high =
     let decls = decl_passes (is_scalar_type true) (is_scalar true) in
     let procs = list_all (proc_passes p.candidates (is_scalar_type true) (is_scalar true)) o.procedures in
     let impls = list_all (impl_passes p.candidates (is_scalar_type true) (is_scalar true)) o.implementations in
-    both (list_all decls o.globals) (procs && impls) (list_all_both decls (map (opened_decl g b) p.globals) (map global_for p.constants) (decls_scalar p typed none funs depth high [] p.globals (each_all (λ d. All (IsFormula (sig_in p [])) d.wheres) p.globals typed.globals) (globals_judged p j)) (constants_scalar p typed none funs depth high p.constants (constants_judged p j))) (both procs impls (procs_scalar p typed none funs depth high p.candidates p.procedures (each_all (IsTypedProc p) p.procedures typed.procedures) (procs_judged p j)) (impls_scalar p typed none funs depth high p.candidates p.axioms p.implementations (axioms_scalar p typed none funs depth high p.axioms (each_all (λ e. IsFormula (sig_in (record p { globals = [] }) []) e × HasNoOld e) p.axioms typed.axioms) (axioms_judged p j)) (each_all (IsTypedImpl p) p.implementations typed.implementations) (impls_judged p j)))
+    both (list_all decls o.globals) (procs && impls) (list_all_both decls (map (opened_decl g b) p.globals) (map global_for p.constants) (decls_scalar p typed none funs depth high [] p.globals (each_all (λ d. All (IsFormula (sig_in p [])) d.wheres) p.globals typed.globals) (globals_judged p j)) (constants_scalar p typed none funs depth high p.constants (constants_judged p j))) (both procs impls (procs_scalar p typed none funs depth high p.candidates p.procedures (each_all (IsTypedProc p) p.procedures typed.procedures) (procs_judged p j)) (impls_scalar p typed none funs depth high p.candidates (claims p) p.implementations (axioms_scalar p typed none funs depth high (claims p) (claims_typed p typed.axioms) (claims_judged p (axioms_judged p j))) (each_all (IsTypedImpl p) p.implementations typed.implementations) (impls_judged p j)))

@@ -6,9 +6,9 @@ use Rattle.bg_ast.specs.Values.{Val, BoolTy}
 use Rattle.bg_ast.specs.Syntax.{Ex, Const, Fun, Prog}
 use Rattle.bg_ast.specs.Execution.{Interp, State, Choice, Place}
 use Rattle.bg_sense.specs.Eval.{holds_alone}
-use Rattle.bg_sense.specs.Types.{are_of, types_of}
+use Rattle.bg_sense.specs.Types.{are_of, types_of, const_types}
 use Rattle.bg_sense.specs.Tables.{are_tables}
-use Rattle.bg_sense.specs.Interps.{all_hold, IsInterp, Meets}
+use Rattle.bg_sense.specs.Interps.{are_distinct, all_hold, IsInterp, Meets}
 use Rattle.bg_sense.specs.Typed.{IsTypedProc, IsTypedImpl, IsTyped}
 use Rattle.bg_sense.specs.Resolved.{IsResolved}
 use Rattle.bg_sense.specs.Clauses.{is_kept}
@@ -26,9 +26,10 @@ use Rattle.bg_opened.specs.Axioms.{bare, claims_false, of_axioms, axiom_program,
 use Rattle.bg_opened.proofs.Places.{places_alike}
 use Rattle.bg_opened.proofs.Resolves.{resolved, all_each}
 use Rattle.bg_opened.proofs.Fairs.{types_length}
+use Rattle.bg_opened.proofs.Uniques.{claims_hold}
 use Rattle.bg_opened.proofs.Claims.{are_of_length, runs_alike, opened_fails, program_fails, program_runs}
 use Rattle.bg_opened.proofs.Programs.{program_typed}
-use Rattle.bg_opened.proofs.Scalars.{over_scalars, none_unique, constants_judged, functions_judged, axioms_judged}
+use Rattle.bg_opened.proofs.Scalars.{over_scalars, constants_judged, functions_judged, axioms_judged}
 
 module _ (depth : ℕ) (p : Prog) (h : IsOpenable depth p) where
   abbrev o : Prog
@@ -45,10 +46,10 @@ module _ (depth : ℕ) (p : Prog) (h : IsOpenable depth p) where
 
   pub runs : (set : ℕ → Bool) (i : Interp) (k : ℕ) (s : State) (choices : List Choice) → Meets p i → IsState p k s → induction_run o set nothing k (with_constants i s) choices ≡ induction_run p set i k s choices
   runs set i k s choices m st =
-      runs_alike depth p i h.typed h.resolved h.recursion scalars set k s choices m.axioms (are_of_length (types_of p.globals) s.globals st.globals ∙ types_length p.globals)
+      runs_alike depth p i h.typed h.resolved h.recursion scalars set k s choices (claims_hold p i (constants_judged p h.judged) (are_of_length (const_types p.constants) i.constants m.interp.constants) ∙ both (are_distinct p.constants i.constants) (all_hold p i p.axioms) m.unique m.axioms) (are_of_length (types_of p.globals) s.globals st.globals ∙ types_length p.globals)
 
   pub opens : (set : ℕ → Bool) (t : Place) (i : Interp) (s : State) (choices : List Choice) → Fails p set t i s choices → Fails o set t nothing (with_constants i s) choices
-  opens set t i s choices f = opened_fails depth p h.typed h.resolved h.recursion scalars set t i s choices f
+  opens set t i s choices f = opened_fails depth p h.typed h.resolved h.recursion scalars (constants_judged p h.judged) set t i s choices f
 
   -- the opened program has one interpretation
   no_values : (vs : List Val) → are_of [] vs ≡ true → vs ≡ []
@@ -69,11 +70,11 @@ module _ (depth : ℕ) (p : Prog) (h : IsOpenable depth p) where
 
   pub closes : (set : ℕ → Bool) (t : Place) (i : Interp) (s : State) (choices : List Choice) → Fails o set t i s choices → Fails p set t (interp_in p s) (without_constants p s) choices
   closes set t i s choices f =
-      program_fails depth p h.typed h.resolved h.recursion scalars set t s choices (none_unique p h.judged) (by_nothing set t i s choices f)
+      program_fails depth p h.typed h.resolved h.recursion scalars (constants_judged p h.judged) set t s choices (by_nothing set t i s choices f)
 
   pub closed_runs : (set : ℕ → Bool) (t : Place) (i : Interp) (s : State) (choices others : List Choice) → Fails o set t i s choices → induction_run p set (interp_in p s) t.implementation (without_constants p s) others ≡ induction_run o set i t.implementation s others
   closed_runs set t i s choices others f =
-      program_runs depth p h.typed h.resolved h.recursion scalars set t s choices (none_unique p h.judged) (by_nothing set t i s choices f) others
+      program_runs depth p h.typed h.resolved h.recursion scalars (constants_judged p h.judged) set t s choices (by_nothing set t i s choices f) others
       ∙ ap (λ j. induction_run o set j t.implementation s others) (sym (is_nothing i f.meets.interp))
 
   same_places : places o ≡ places p

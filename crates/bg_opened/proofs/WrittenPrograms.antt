@@ -6,6 +6,7 @@ use Rattle.bg_ast.specs.Syntax as s
 use Rattle.bg_ast.specs.Resolved as r
 use Rattle.bg_ast.specs.Meaning as m
 use Rattle.bg_opened.specs.Exprs as e
+use Rattle.bg_opened.specs.Unique as u
 use Rattle.bg_opened.specs.Programs as o
 use Rattle.bg_opened.specs.Changed.{opened_within}
 use Rattle.bg_opened.specs.Written as w
@@ -124,6 +125,15 @@ module _ (g : ℕ) (b : ℕ → Option s.Ex) (O : r.Ex → r.Ex) (is : (x : r.Ex
 constants_mean : (named : ℕ → v.Ty) (cs : List r.Const) → map (m.decl_of named) (map w.global_for cs) ≡ map o.global_for (map (m.const_of named) cs)
 constants_mean named = map_twice (m.decl_of named) w.global_for o.global_for (m.const_of named) (λ c. refl)
 
+apart_means : (qs : List (ℕ × ℕ)) → map m.ex_of (map w.apart qs) ≡ map u.apart qs
+apart_means [] = refl
+apart_means (x ∷ qs) = ap (λ l. u.apart x ∷ l) (apart_means qs)
+
+claims_mean : (p : r.Program) → map m.ex_of (w.claims p) ≡ u.claims (m.meaning_of p)
+claims_mean p =
+    map_append m.ex_of (map w.apart (u.unique_pairs (w.constants_of p))) p.axioms
+    ∙ ap (λ l. l ++ map m.ex_of p.axioms) (apart_means (u.unique_pairs (w.constants_of p)))
+
 pub program_means : (depth : ℕ) (p : r.Program) → m.meaning_of (w.opened_program depth p) ≡ o.opened_program depth (m.meaning_of p)
 program_means depth p =
     let named = m.named_of p.types in
@@ -138,7 +148,9 @@ program_means depth p =
     ∙ ap (λ l. l ++ map (m.decl_of named) (map w.global_for p.constants)) (decls_kept g b (w.opened_in depth p) is named p.globals)
     ∙ ap (λ l. map (o.opened_decl g b) (map (m.decl_of named) p.globals) ++ l) (constants_mean named p.constants) in
     let procs = map_twice (m.proc_of named) (w.opened_proc (w.opened_in depth p)) (o.opened_proc g b) (m.proc_of named) (proc_means g b (w.opened_in depth p) is named) p.procedures in
-    let impls = map_twice (m.impl_of named) (w.opened_impl (w.opened_in depth p) p.axioms) (o.opened_impl g b (map m.ex_of p.axioms)) (m.impl_of named) (impl_means g b (w.opened_in depth p) is named p.axioms) p.implementations in
+    let impls : map (m.impl_of named) (map (w.opened_impl (w.opened_in depth p) (w.claims p)) p.implementations) ≡ map (o.opened_impl g b (u.claims q)) (map (m.impl_of named) p.implementations) =
+    map_twice (m.impl_of named) (w.opened_impl (w.opened_in depth p) (w.claims p)) (o.opened_impl g b (map m.ex_of (w.claims p))) (m.impl_of named) (impl_means g b (w.opened_in depth p) is named (w.claims p)) p.implementations
+    ∙ ap (λ es. map (o.opened_impl g b es) (map (m.impl_of named) p.implementations)) (claims_mean p) in
     same_program _ _ _ _ _ _ (length p.candidates) globals procs impls
   where
     same_program : (ds es : List s.Decl) (ps qs : List s.Proc) (ms ns : List s.Impl) (n : ℕ) → ds ≡ es → ps ≡ qs → ms ≡ ns → record { globals = ds; constants = []; functions = []; axioms = []; procedures = ps; implementations = ms; candidates = n } ≡ (let q : s.Prog = record { globals = es; constants = []; functions = []; axioms = []; procedures = qs; implementations = ns; candidates = n } in q)

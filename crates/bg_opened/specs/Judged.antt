@@ -1,5 +1,5 @@
--- Programs that are judged: over truth values and whole numbers, with constants of which none is unique, functions with a body, and axioms.
-use Rattle.std.specs.Prelude.{Bool, true, false, not, ◌&&◌, Option, Some, None}
+-- Programs that are judged: over truth values and whole numbers, with constants, functions with a body, and axioms.
+use Rattle.std.specs.Prelude.{Bool, true, false, ◌&&◌, Option, Some, None}
 use Rattle.std.specs.List.{list_all}
 use Rattle.bg_ast.specs.Syntax.{Ex, Exs, Number, Fact, Constant, Read, Not, Negative, Binary, Apply, Old, NoMore, More, Const, Fun, Prog}
 use Rattle.bg_fits.specs.Scalars.{is_scalar_type, decls_pass, proc_passes, impl_passes}
@@ -22,9 +22,9 @@ abbrev mutual
   are_judged NoMore = true
   are_judged (More e es) = is_judged_ex e && are_judged es
 
--- a constant, which isn't unique
+-- a constant, unique or not
 abbrev pub const_judged : Const → Bool
-const_judged c = is_scalar_type true c.ty && not c.is_unique
+const_judged c = is_scalar_type true c.ty
 
 -- there is a body that passes
 abbrev pub body_judged : Option Ex → Bool

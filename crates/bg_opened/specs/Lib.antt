@@ -1,4 +1,5 @@
 pub mod Exprs
+pub mod Unique
 pub mod Programs
 pub mod Moments
 pub mod Judged

@@ -1,8 +1,10 @@
 -- Opened programs: without constants, functions and axioms. Constants are globals that no procedure modifies, bodies of functions stand
--- in the place of their applications, and axioms are assumed in front of each body.
+-- in the place of their applications, and what is claimed of the constants is assumed in front of each body: that the unique ones differ,
+-- and the axioms.
 use Rattle.std.specs.Prelude.{ℕ, List, [], ◌∷◌, ◌++◌, map, length, Option}
 use Rattle.bg_ast.specs.Syntax.{Ex, Clause, Guard, Star, Test, Call, St, Skip, Then, Label, Assert, Assume, Havoc, Assign, Invoke, If, While, Break, Goto, Return, Decl, Const, Proc, Impl, Prog}
 use Rattle.bg_opened.specs.Exprs.{opened, all_opened, bodies_to}
+use Rattle.bg_opened.specs.Unique.{claims}
 
 -- a constant as a variable
 abbrev pub global_for : Const → Decl
@@ -52,13 +54,13 @@ module _ (g : ℕ) (bodies : ℕ → Option Ex) where
         ensures_ = map opened_clause q.ensures_;
       }
 
-  -- where these axioms are assumed in front of the body
+  -- where these are assumed in front of the body
   abbrev pub opened_impl : List Ex → Impl → Impl
-  opened_impl axioms m =
+  opened_impl es m =
       record {
         procedure = m.procedure;
         locals = map opened_decl m.locals;
-        body = supposing (map (opened g bodies) axioms) (opened_st m.body);
+        body = supposing (map (opened g bodies) es) (opened_st m.body);
       }
 
 -- the bodies of a program's functions, in which bodies are opened so deep
@@ -79,6 +81,6 @@ opened_program depth p =
       functions = [];
       axioms = [];
       procedures = map (opened_proc (length p.globals) (bodies_of depth p)) p.procedures;
-      implementations = map (opened_impl (length p.globals) (bodies_of depth p) p.axioms) p.implementations;
+      implementations = map (opened_impl (length p.globals) (bodies_of depth p) (claims p)) p.implementations;
       candidates = p.candidates;
     }

@@ -1,7 +1,11 @@
 -- Programs as they are written, opened.
 use Rattle.std.specs.Prelude.{ℕ, List, [], ◌∷◌, ◌++◌, map, length}
 use Rattle.bg_base.specs.declared.pos.Pos.{Pos}
+use Rattle.bg_text.specs.declared.expr.InfixSign.TheVariants as op
+use Rattle.bg_ast.specs.Syntax.{Const}
 use Rattle.bg_ast.specs.Resolved as r
+use Rattle.bg_ast.specs.Meaning.{named_of, const_of}
+use Rattle.bg_opened.specs.Unique.{unique_pairs}
 use Rattle.bg_opened.specs.Changed.{opened_within}
 
 -- a constant as a variable
@@ -63,9 +67,25 @@ module _ (o : r.Ex → r.Ex) where
   abbrev pub opened_proc : r.Proc → r.Proc
   opened_proc q = record q { requires_ = map opened_clause q.requires_; ensures_ = map opened_clause q.ensures_ }
 
-  -- where these axioms are assumed in front of the body
+  -- where these are assumed in front of the body
   abbrev pub opened_impl : List r.Ex → r.Impl → r.Impl
-  opened_impl axioms m = record m { body = supposing (map o axioms) (opened_sts m.body) }
+  opened_impl es m = record m { body = supposing (map o es) (opened_sts m.body) }
+
+-- where what no text says stands
+abbrev pub nowhere : Pos
+nowhere = record { line = 0; column = 0 }
+
+-- two constants are different
+abbrev pub apart : ℕ × ℕ → r.Ex
+apart q = r.Chain (r.Constant nowhere q.0) (r.Link nowhere op.Unequal (r.Constant nowhere q.1) r.NoLink)
+
+-- the constants of a program, with their types
+abbrev pub constants_of : r.Program → List Const
+constants_of p = map (const_of (named_of p.types)) p.constants
+
+-- unique constants of each type are pairwise different, and the axioms are true
+abbrev pub claims : r.Program → List r.Ex
+claims p = map apart (unique_pairs (constants_of p)) ++ p.axioms
 
 -- the expressions of a program, in which bodies are put in so often
 abbrev pub opened_in : ℕ → r.Program → r.Ex → r.Ex
@@ -82,5 +102,5 @@ opened_program depth p =
       functions = [];
       axioms = [];
       procedures = map (opened_proc (opened_in depth p)) p.procedures;
-      implementations = map (opened_impl (opened_in depth p) p.axioms) p.implementations;
+      implementations = map (opened_impl (opened_in depth p) (claims p)) p.implementations;
     }

@@ -1,5 +1,5 @@
 //! The axioms' own program.
-ghost use Rattle.std.specs.Prelude.{◌≡◌, map, IfOk};
+ghost use Rattle.std.specs.Prelude.{◌≡◌, ◌++◌, map, IfOk};
 ghost use Rattle.bg_text.specs.Views.{id_of};
 ghost use Rattle.bg_ast.specs.Views.{ex_of, sts_in, proc_of, impl_of, program_of};
 ghost use Rattle.bg_opened.specs.Written as w;
@@ -8,14 +8,15 @@ ghost use Rattle.bg_opening.specs.Desks.{opened_at};
 
 use crate::declared::{copy_type_names, globals_for};
 use crate::exprs::Desk;
-use crate::whole::body;
+use crate::uniques::told_apart;
+use crate::whole::{assumed, body};
 use bg_ast::resolved::{Clause, Expr, Implementation, Procedure, Resolved, Stmt};
 use bg_base::Pos;
 use bg_text::Name;
 use std::alloc::{AllocError, Global};
 
 /// Where what no text says stands.
-const NOWHERE: Pos = Pos { line: 0, column: 0 };
+pub(crate) const NOWHERE: Pos = Pos { line: 0, column: 0 };
 
 fn no_name(alloc: Global) -> Name
     ensures { id_of result ≡ a.no_name }
@@ -56,12 +57,22 @@ fn claim(alloc: Global) -> Result<Vec<Stmt>, AllocError>
     Ok(made)
 }
 
-/// It claims what is false behind the axioms.
-fn claiming(desk: Desk<'_>, axioms: &[Expr]) -> Result<Implementation, AllocError>
-    ensures { IfOk result (λ m. impl_of m ≡ w.opened_impl (opened_at desk.entry) (map ex_of axioms.now) a.claims_false) }
+/// What is false is claimed behind the axioms, and these behind what comes first.
+fn claimed(desk: Desk<'_>, first: &[Expr], axioms: &[Expr]) -> Result<Vec<Stmt>, AllocError>
+    ensures { IfOk result (λ made. sts_in made.items ≡ w.supposing (map (opened_at desk.entry) (map ex_of first.now ++ map ex_of axioms.now)) (w.opened_sts (opened_at desk.entry) a.claim)) }
 {
     let claim = claim(desk.alloc)?;
-    let body = body(desk, axioms, &claim)?;
+    let mut made = assumed(desk, first)?;
+    let mut rest = body(desk, axioms, &claim)?;
+    made.append(&mut rest)?;
+    Ok(made)
+}
+
+/// It claims what is false behind these.
+fn claiming(desk: Desk<'_>, first: &[Expr], axioms: &[Expr]) -> Result<Implementation, AllocError>
+    ensures { IfOk result (λ m. impl_of m ≡ w.opened_impl (opened_at desk.entry) (map ex_of first.now ++ map ex_of axioms.now) a.claims_false) }
+{
+    let body = claimed(desk, first, axioms)?;
     Ok(Implementation {
         pos: NOWHERE,
         name: no_name(desk.alloc),
@@ -73,8 +84,8 @@ fn claiming(desk: Desk<'_>, axioms: &[Expr]) -> Result<Implementation, AllocErro
     })
 }
 
-/// The program whose globals are the constants of this one, with one procedure and one implementation: it assumes the axioms, opened as
-/// in `open_program`, and then claims what is false. So a run fails exactly where the axioms hold.
+/// The program whose globals are the constants of this one, with one procedure and one implementation: it assumes that unique constants
+/// differ, and the axioms, opened as in `open_program`, and then claims what is false. So a run fails exactly where all this holds.
 ///
 /// Only want of memory is an error; 2^32 constants count as such.
 pub fn axiom_program(
@@ -93,7 +104,8 @@ pub fn axiom_program(
     let mut procedures = Vec::new(alloc);
     procedures.push(bare(alloc))?;
     let mut implementations = Vec::new(alloc);
-    implementations.push(claiming(desk, &program.axioms)?)?;
+    let apart = told_apart(alloc, &program.types, &program.constants)?;
+    implementations.push(claiming(desk, &apart, &program.axioms)?)?;
     let types = copy_type_names(alloc, &program.types)?;
     let globals = globals_for(alloc, &program.constants)?;
     Ok(Resolved {

@@ -1,5 +1,5 @@
-//! The opened program of a resolved one: constants are globals, bodies of functions stand in the place of their applications, and axioms
-//! are assumed in front of each body. Beside it the axioms' own program.
+//! The opened program of a resolved one: constants are globals, bodies of functions stand in the place of their applications, and
+//! that unique constants differ, and the axioms, are assumed in front of each body. Beside it the axioms' own program.
 #![tactic(auto)]
 
 mod applies;
@@ -11,9 +11,13 @@ pub mod laws;
 mod nodes;
 mod passes;
 mod puts;
+mod scalars;
 mod stmts;
 mod types;
+mod uniques;
 mod whole;
 
 pub use axioms::axiom_program;
+pub use scalars::Scalar;
+pub use uniques::uniques_of;
 pub use whole::open_program;

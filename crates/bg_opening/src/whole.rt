@@ -8,11 +8,12 @@ ghost use Rattle.bg_opening.specs.Views.{assuming};
 use crate::declared::globals_for;
 use crate::exprs::{Desk, opened};
 use crate::stmts::{clauses, stmts};
+use crate::uniques::claims;
 use bg_ast::resolved::{Expr, Implementation, Procedure, Resolved, Stmt};
 use std::alloc::{AllocError, Global};
 
-/// The axioms, opened, are assumed.
-fn assumed(desk: Desk<'_>, axioms: &[Expr]) -> Result<Vec<Stmt>, AllocError>
+/// These expressions, opened, are assumed.
+pub fn assumed(desk: Desk<'_>, axioms: &[Expr]) -> Result<Vec<Stmt>, AllocError>
     ensures { IfOk result (λ made. map st_of made.items ≡ map assuming (map (opened_at desk.entry) (map ex_of axioms.now))) }
 {
     let mut made = Vec::new(desk.alloc);
@@ -75,7 +76,8 @@ fn open_implementations(
 }
 
 /// The program without constants, functions and axioms: its constants are globals behind the others, bodies of functions are put in, so
-/// often, in the place of their applications, and the axioms are assumed in front of each body. Names and positions are kept.
+/// often, in the place of their applications, and in front of each body it is assumed that unique constants of a type differ, and the
+/// axioms. Names and positions are kept.
 ///
 /// Only want of memory is an error; 2^32 globals count as such.
 pub fn open_program(alloc: Global, depth: usize, program: Resolved) -> Result<Resolved, AllocError>
@@ -92,7 +94,8 @@ pub fn open_program(alloc: Global, depth: usize, program: Resolved) -> Result<Re
         depth,
     };
     open_procedures(desk, &mut made.procedures)?;
-    open_implementations(desk, &made.axioms, &mut made.implementations)?;
+    let told = claims(alloc, &made.types, &made.constants, &mut made.axioms)?;
+    open_implementations(desk, &told, &mut made.implementations)?;
     let mut more = globals_for(alloc, &made.constants)?;
     made.globals.append(&mut more)?;
     made.constants = Vec::new(alloc);

@@ -10,12 +10,12 @@ const LATER: [(&[u8], &[u8]); 8] = [
         b"error: 1:23 unsupported [\n",
     ),
     (
-        b"procedure P() { assert 12 == 13; } const unique c: int;",
-        b"error: 1:42 unsupported unique\n",
+        b"procedure P() { assert 12 == 13; } const unique c: [int]int;",
+        b"error: 1:52 unsupported [\n",
     ),
     (
         b"function f(x: bool): bool; const unique c: bool;",
-        b"error: 1:34 unsupported unique\n",
+        b"error: 1:1 unsupported function\n",
     ),
     (
         b"var g: bool; function f(x: bool): bool;",
@@ -37,7 +37,8 @@ const LATER: [(&[u8], &[u8]); 8] = [
 ];
 
 /// Texts of which verdicts are given.
-const JUDGED: [&[u8]; 13] = [
+const JUDGED: [&[u8]; 14] = [
+    b"const unique a, b: int; const unique c: bool; procedure P() { assert a != b; }",
     b"const {:existential true} b, c: bool; procedure P(a: bool); requires b ==> a ==> !a; ensures (c) ==> a;",
     b"procedure {:n 1} P(x: int) { }",
     b"procedure P() { assert 12 == 13; }",

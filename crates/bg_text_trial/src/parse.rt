@@ -43,7 +43,7 @@ const TEXTS: [(&[u8], &[u8]); 29] = [
     ),
     (
         b"const unique a, b: bool; const {:a true} c: [int, int][int](bool);",
-        b"error: 1:7 unsupported unique\n",
+        b"error: 1:45 unsupported [\n",
     ),
     (b"var {:n} n, m: int, o: bool;", b""),
     (

@@ -5,7 +5,7 @@ use Rattle.bg_ast.specs.Resolved as r
 use Rattle.bg_ast.specs.declared.resolved.Implementation.{Implementation}
 use Rattle.bg_ast.specs.Views.{program_of, impl_of}
 use Rattle.bg_places.specs.Placed.{Placed, placed, placed_from}
-use Rattle.bg_opened.specs.Written.{global_for, opened_in, opened_proc, opened_impl, opened_program}
+use Rattle.bg_opened.specs.Written.{global_for, claims, opened_in, opened_proc, opened_impl, opened_program}
 use Rattle.bg_carried.proofs.Placing.{impl_placed}
 use Rattle.bg_expanded.specs.Chains.{most_bodies}
 use Rattle.bg_inference.specs.declared.outcome.Outcome.{Outcome}
@@ -60,17 +60,17 @@ sheet_by p ks gs hs = record { candidates = p.candidates; constants = ks; global
 
 sheets : (p : r.Program) → sheet_told (length p.globals) (opened_program most_bodies p) ≡ sheet_of p
 sheets p =
-    rw (drop_front p.globals (map global_for p.constants), take_front p.globals (map global_for p.constants), heads_same (opened_in most_bodies p) p.axioms p.implementations) refl
+    rw (drop_front p.globals (map global_for p.constants), take_front p.globals (map global_for p.constants), heads_same (opened_in most_bodies p) (claims p) p.implementations) refl
 
 pub sheet_same : (p : r.Program) (o : Outcome) → IsOf p o → sheet_in o ≡ sheet_of p
 sheet_same p o h =
     ap (λ (n : ℕ). sheet_told n (program_of o.opened)) h.1 ∙ ap (sheet_told (length p.globals)) h.0 ∙ sheets p
 
 module _ (p : r.Program) where
-  from_same : (k : ℕ) (ms : List r.Impl) → placed_from (map (opened_proc (opened_in most_bodies p)) p.procedures) k (map (opened_impl (opened_in most_bodies p) p.axioms) ms) ≡ placed_from p.procedures k ms
+  from_same : (k : ℕ) (ms : List r.Impl) → placed_from (map (opened_proc (opened_in most_bodies p)) p.procedures) k (map (opened_impl (opened_in most_bodies p) (claims p)) ms) ≡ placed_from p.procedures k ms
   from_same k [] = refl
   from_same k (m ∷ ms) =
-      ap (λ (xs : List Placed). xs ++ placed_from (map (opened_proc (opened_in most_bodies p)) p.procedures) (suc k) (map (opened_impl (opened_in most_bodies p) p.axioms) ms)) (impl_placed (opened_in most_bodies p) p.procedures p.axioms k m)
+      ap (λ (xs : List Placed). xs ++ placed_from (map (opened_proc (opened_in most_bodies p)) p.procedures) (suc k) (map (opened_impl (opened_in most_bodies p) (claims p)) ms)) (impl_placed (opened_in most_bodies p) p.procedures (claims p) k m)
       ∙ ap (λ (xs : List Placed). Rattle.bg_places.specs.Placed.placed_impl p.procedures k m ++ xs) (from_same (suc k) ms)
 
   pub guarded_same : guarded (opened_program most_bodies p) ≡ guarded p

@@ -71,7 +71,7 @@ type Case = (
     &'static str,
 );
 
-const TEXTS: [Case; 28] = [
+const TEXTS: [Case; 30] = [
     (
         &["bg", "generate", "1", "2"],
         "",
@@ -118,6 +118,20 @@ const TEXTS: [Case; 28] = [
         "",
     ),
     (VERIFY, FOUR_CLAUSES, Status::Verified, COPY_REPORT, ""),
+    (
+        VERIFY,
+        "procedure P() { assert a != b && c != d; } const unique a, b: int; const unique c, d: bool;",
+        Status::Verified,
+        COPY_REPORT,
+        "",
+    ),
+    (
+        VERIFY,
+        "const unique a, b, c: bool;",
+        Status::Refuted,
+        "axioms: contradictory\nretained set: greatest\nsummary: 0 retained, 0 dropped; 0 verified, 0 refuted, 0 unknown\n",
+        "",
+    ),
     (
         ONE_NODE,
         FOUR_CLAUSES,
