@@ -8,7 +8,7 @@ import operator
 import random
 import re
 
-from language import FUNCTIONS, walk
+from language import FUNCTIONS, TABLES, walk
 
 OPERATORS = {
     "<==>": operator.eq, "==": operator.eq, "!=": operator.ne, "<": operator.lt, "<=": operator.le, ">": operator.gt,
@@ -27,6 +27,8 @@ def evaluate(now, entry, says):
         return now[says[1]]
     if kind == "apply":
         own = now[FUNCTIONS][says[1]]
+        if own.body is None:
+            return now[TABLES][says[1]].at([evaluate(now, entry, part) for part in says[2]])
         given = {it.name: evaluate(now, entry, part) for it, part in zip(own.params, says[2])}
         inside = {**now, **given}
         return evaluate(inside, inside, own.body)
@@ -47,7 +49,42 @@ def value_of(text, kind):
 
 
 def text_of(value):
+    if isinstance(value, dict):
+        return "; ".join(f"{name} {table}" for name, table in value.items())
     return str(value).lower() if isinstance(value, bool) else str(value)
+
+
+class Table:
+    """What a function without a body gives: a value for some lists of arguments, and one for all others."""
+
+    def __init__(self, entries, default):
+        self.entries, self.default = {tuple(key): value for key, value in entries}, default
+
+    def at(self, args):
+        return self.entries.get(tuple(args), self.default)
+
+    def __str__(self):
+        entries = [f"{','.join(map(text_of, key))} := {text_of(value)}, " for key, value in sorted(self.entries.items())]
+        return f"[{''.join(entries)}else {text_of(self.default)}]"
+
+
+def table_of(text, function):
+    """The table of a function that a text spells: its entries rise by their keys, and none says what the default says. Or None."""
+    found = re.fullmatch(r"\[((?:[^\]]* := [^\]]*, )*)else ([^\]]*)\]", text)
+    default = value_of(found[2], function.result) if found else None
+    if default is None:
+        return None
+    entries = []
+    for entry in found[1].split(", ")[:-1]:
+        key, _, value = entry.partition(" := ")
+        parts = key.split(",") if function.params else []
+        if len(parts) != len(function.params) or not (parts or key == ""):
+            return None
+        entries.append(([value_of(part, it.type) for part, it in zip(parts, function.params)], value_of(value, function.result)))
+    keys = [key for key, _ in entries]
+    if any(None in key or value in (None, default) for key, value in entries) or any(a >= b for a, b in zip(keys, keys[1:])):
+        return None
+    return Table(entries, default)
 
 
 class End(Exception):

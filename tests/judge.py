@@ -16,8 +16,8 @@ import re
 import sys
 from dataclasses import dataclass, field
 
-from evaluator import ListedChoices, RandomChoices, Run, meets, places, text_of, value_of
-from language import TextFault, read_program
+from evaluator import ListedChoices, RandomChoices, Run, Table, meets, places, table_of, text_of, value_of
+from language import TABLES, TextFault, read_program
 
 FATES = r"retained|retained unchecked|dropped|dropped unknown (?:nodes|rows|range)"
 AXIOMS = ("consistent", "contradictory", "unknown nodes", "unknown rows", "unknown range")
@@ -154,12 +154,24 @@ def entry_values(variables, lines, kind="var"):
     return values
 
 
+def tables_in(program, lines):
+    """The tables that the first lines give to functions without a body, by name."""
+    tables = {}
+    for (name, it), line in zip(program.bodiless().items(), [*lines, *[""] * len(program.functions)]):
+        head, table = f"function {name} = ", table_of(line.partition(" = ")[2], it)
+        if not line.startswith(head) or table is None:
+            raise Wrong(f"{head}with a table is wanted in place of: {line}")
+        tables[name] = table
+    return tables
+
+
 def check_counterexample(program, own, place, retained):
-    """The printed constants meet the axioms, and the printed run fails at its place and takes each printed choice."""
+    """The printed constants and tables meet the axioms, and the printed run fails at its place and takes each printed choice."""
     constants = entry_values(program.constants, place.lines, "const")
+    constants[TABLES] = tables_in(program, place.lines[len(program.constants) :])
     if not meets(program, constants):
-        raise Wrong(f"the axioms are not met by {constants}")
-    outer, inner, lines = program.globals, own.inner(), place.lines[len(program.constants) :]
+        raise Wrong(f"the axioms are not met by {shown(constants)}")
+    outer, inner, lines = program.globals, own.inner(), place.lines[len(program.constants) + len(program.bodiless()) :]
     state = constants, entry_values(outer, lines), entry_values(inner, lines[len(outer) :])
     lines = lines[len(outer) + len(inner) :]
     if not all(line.startswith("choice ") for line in lines):
@@ -179,10 +191,21 @@ def pool_of(text):
     return [*range(-3, 6)] * (1 + len(near) // 12) + sorted(near)
 
 
+def shown(values):
+    return ", ".join(f"{name} = {text_of(value)}" for name, value in values.items() if value != {})
+
+
+def table_at_random(function, choices):
+    """A table with a few entries."""
+    entries = [([choices.value(it.type) for it in function.params], choices.value(function.result)) for _ in range(choices.branch(4))]
+    return Table(entries, choices.value(function.result))
+
+
 def interpretation(program, choices):
-    """Values of the constants at random that meet the axioms, or None where none were found."""
+    """Values of the constants and tables at random that meet the axioms, or None where none were found."""
     for _ in range(60):
         constants = {it.name: choices.value(it.type) for it in program.constants}
+        constants[TABLES] = {name: table_at_random(it, choices) for name, it in program.bodiless().items()}
         if meets(program, constants):
             return constants
     return None
@@ -214,7 +237,7 @@ def attack(program, own, said, asked):
             continue
         end = Run(program, own, choices, None if number % 2 else STEPS, asked.retained).run(*values)
         if end.word == "failed" and end.place not in open_places:
-            values = ", ".join(f"{name} = {text_of(value)}" for group in values for name, value in group.items())
+            values = ", ".join(said for said in map(shown, values) if said)
             kind = "with loops cut" if number % 2 else "with loops that turn"
             raise Wrong(f"{end.place} is called proved, and a run {kind} fails there from {values or 'the only state'}")
 
@@ -237,7 +260,7 @@ def check_axioms(program, report, asked):
     for number in range(asked.runs if report.axioms == "contradictory" else 0):
         constants = interpretation(program, RandomChoices(f"{asked.seed} axioms {number}", asked.pool))
         if constants is not None:
-            raise Wrong(f"the axioms are called contradictory, and are met by {constants}")
+            raise Wrong(f"the axioms are called contradictory, and are met by {shown(constants)}")
 
 
 def faults_in(text, report, runs=100, seed=1, nodes=20_000, rows=20_000):

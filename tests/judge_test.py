@@ -171,7 +171,28 @@ implementation P 8:1 refuted
     var x = 3
 summary: 0 retained, 0 dropped; 0 verified, 1 refuted, 0 unknown
 """
-RIGHT = [("loop", STEP, STEP_REPORT), ("jumps", PICK, PICK_REPORT), ("range", FAR, FAR_REPORT), ("budget", FAR, BUDGET_REPORT), ("candidates", KEPT, KEPT_REPORT), ("constants", FIXED, FIXED_REPORT)]
+TABLED = """const c: int;
+function f(x: int): int;
+function twice(x: int): int { x + x }
+function on(int, bool) returns (r: bool);
+function any(): int;
+axiom f(c) == 2 && any() > f(1);
+procedure P(x: int) {
+  assert on(f(x), x > 0) ==> f(twice(x)) != any();
+}
+"""
+TABLED_REPORT = """axioms: consistent
+retained set: greatest
+implementation P 7:1 refuted
+  refuted assert 8:3
+    const c = 0
+    function f = [0 := 2, 6 := 1, else 0]
+    function on = [0,false := true, 0,true := true, else false]
+    function any = [ := 1, else 0]
+    var x = 3
+summary: 0 retained, 0 dropped; 0 verified, 1 refuted, 0 unknown
+"""
+RIGHT = [("loop", STEP, STEP_REPORT), ("jumps", PICK, PICK_REPORT), ("range", FAR, FAR_REPORT), ("budget", FAR, BUDGET_REPORT), ("candidates", KEPT, KEPT_REPORT), ("constants", FIXED, FIXED_REPORT), ("functions", TABLED, TABLED_REPORT)]
 # What is doctored, the program, its right report, a text of it and what stands in its place, and a phrase of the answer.
 DOCTORED = [
     ("a counterexample's value", STEP, STEP_REPORT, "var n = 1", "var n = 2", "the run ended"),
@@ -197,6 +218,14 @@ DOCTORED = [
     ("a constant that is missing", FIXED, FIXED_REPORT, "    const on = true\n", "", "const on = "),
     ("a constant as a variable", FIXED, FIXED_REPORT, "const c = 3", "var c = 3", "const c = "),
     ("constants in another order", FIXED, FIXED_REPORT, "const c = 3\n    const on = true", "const on = true\n    const c = 3", "const c = "),
+    ("a table that axioms deny", TABLED, TABLED_REPORT, "[0 := 2, 6", "[0 := 3, 6", "the axioms are not met"),
+    ("a table's entry", TABLED, TABLED_REPORT, "6 := 1, else", "6 := 4, else", "the run ended"),
+    ("a table's default", TABLED, TABLED_REPORT, "1, else 0]\n    function on", "1, else 5]\n    function on", "the axioms are not met"),
+    ("keys in another order", TABLED, TABLED_REPORT, "[0 := 2, 6 := 1", "[6 := 1, 0 := 2", "a table is wanted"),
+    ("a key of two", TABLED, TABLED_REPORT, "0,true := true", "0, true := true", "a table is wanted"),
+    ("an entry that says what the default says", TABLED, TABLED_REPORT, "6 := 1, else", "6 := 1, 7 := 0, else", "a table is wanted"),
+    ("a function that is missing", TABLED, TABLED_REPORT, "    function any = [ := 1, else 0]\n", "", "function any = "),
+    ("a function with a body", TABLED, TABLED_REPORT, "    function on", "    function twice = [else 0]\n    function on", "function on = "),
     ("a line", STEP, STEP_REPORT, "  refuted inv", "  rejected inv", "a line that no report has"),
     ("an implementation that is missing", STEP, STEP_REPORT, "Step 1:1", "Step 2:1", "the implementations are"),
     ("places in another order", PICK, PICK_REPORT, "  refuted assert 21:5\n", f"{POST}  refuted assert 21:5\n", "its places are"),
@@ -236,6 +265,7 @@ UNSOUND = [
     ("a jump", "procedure P()\n{\n  var x: bool;\n  goto a, b;\n  a:\n  x := true;\n  b:\n  assert x;\n}\n", "assert 8:3"),
     ("a constant's value", "const c: int;\naxiom c > 1;\nprocedure P(x: int) {\n  assert x <= c;\n}\n", "assert 4:3"),
     ("a function's body", "function f(x: int, y: int): int { x - y }\nprocedure P(x: int) {\n  assert f(x, 1) == f(1, x);\n}\n", "assert 3:3"),
+    ("a function without a body", "function f(x: int): int;\naxiom f(0) == 0;\nprocedure P(x: int) {\n  assert f(x) <= f(0);\n}\n", "assert 4:3"),
     ("old in an argument", "var g: int;\nfunction f(x: int): int { x + 1 }\nprocedure P()\n  modifies g;\n{\n  g := f(g);\n  assert f(old(g)) == f(g);\n}\n", "assert 7:3"),
     ("a return", "procedure P(c: bool) returns (r: int)\n  ensures r == 1;\n{\n  r := 0;\n  if (c) {\n    return;\n  }\n  r := 1;\n}\n", "postcondition 2:3"),
 ]  # fmt: skip

@@ -21,6 +21,7 @@ TOKEN = re.compile(
 SYNONYMS = {"&&", "||", "==>", "<==", "<==>"}
 ORDERS = {"<", "<=", ">", ">="}
 FUNCTIONS = "()"  # where functions stand beside variables; no name is this
+TABLES = "[]"  # where the tables of functions without a body stand beside the values of constants
 
 
 class TextFault(Exception):
@@ -71,7 +72,7 @@ class Variable:
 
 @dataclass
 class Function:
-    """A function with a body: its arguments, the type of its result, and the body."""
+    """A function: its arguments, the type of its result, and its body; None where it has none."""
 
     params: list
     result: str
@@ -145,6 +146,10 @@ class Program:
     globals: list = field(default_factory=list)
     procedures: dict = field(default_factory=dict)
     implementations: list = field(default_factory=list)
+
+    def bodiless(self):
+        """The functions without a body, by name, in their order."""
+        return {name: it for name, it in self.functions.items() if it.body is None}
 
 
 class Reader:
@@ -234,8 +239,10 @@ class Reader:
         else:
             self.take(":")
             result = self.type()
-        if not self.accept("{"):
-            raise TextFault(f"{pos}: a function without a body is not judged")
+        if self.accept(";"):
+            self.program.functions[name] = Function(params, result, None)
+            return
+        self.take("{")
         self.program.functions[name] = Function(params, result, self.expression())
         self.take("}")
 
@@ -542,7 +549,8 @@ def names_and_types(program, *groups):
 def check_types(program):
     """Refuses a program that names what isn't there, or of which a part has no type or another than is wanted."""
     for it in program.functions.values():
-        wanted(names_and_types(program, it.params), it.body, it.result)
+        if it.body is not None:
+            wanted(names_and_types(program, it.params), it.body, it.result)
     for says in program.axioms:
         wanted(names_and_types(program), says, "bool")
     for it in program.procedures.values():

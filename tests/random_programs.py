@@ -5,7 +5,7 @@ usage: random_programs.py --bg COMMAND [--count N] [--seed K] [--runs N] [--trut
                           [--keep FOLDER]
 
 Of each implementation N runs are tried. With --truths there are no whole numbers. With --constants most programs have constants, of which
-some are unique, functions with a body and axioms. With --candidates most programs declare some; what
+some are unique, functions with and without a body, and axioms. With --candidates most programs declare some; what
 `annotate` writes of them, with guesses and without, has the same words for its implementations, and is annotated as it is. With --workers
 each program is judged once with each of these numbers of workers: where no report has an unknown, their verdict lines are the same. With
 --budget the program gets as many inner nodes and rows. With --keep programs and reports are written to a folder, and left there. The last
@@ -173,17 +173,19 @@ class Body:
 
 
 class Function:
-    """A function's name, which has the type of its result, its arguments, and a body over them, constants and earlier functions."""
+    """A function's name, which has the type of its result, its arguments, and, often, a body over them, constants and earlier functions."""
 
     def __init__(self, rng, program, number):
         self.name = f"f{number}{'n' if program.numbers and rng.random() < 0.6 else ''}"
         self.params = some_names(rng, "a", 4, program.numbers)
         reads = program.constants + self.params
-        self.body = program.number(rng, reads, 2) if is_number(self.name) else program.formula(rng, reads, 2)
+        self.body = None
+        if rng.random() < 0.6:
+            self.body = program.number(rng, reads, 2) if is_number(self.name) else program.formula(rng, reads, 2)
 
     def line(self):
         params = ", ".join(f"{name}: {type_of(name)}" for name in self.params)
-        return f"function {self.name}({params}): {type_of(self.name)} {{ {self.body} }}"
+        return f"function {self.name}({params}): {type_of(self.name)}{';' if self.body is None else f' {{ {self.body} }}'}"
 
 
 class Program:

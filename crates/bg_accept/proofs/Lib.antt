@@ -3,6 +3,7 @@ pub mod Tables
 pub mod Filled
 pub mod Whole
 pub mod Lookups
+pub mod Stating
 pub mod Settled
 pub mod Found
 pub mod Answering

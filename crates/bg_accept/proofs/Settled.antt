@@ -15,6 +15,7 @@ use Rattle.bg_places.specs.Placed.{Placed, placed_impl}
 use Rattle.bg_places.specs.Views.{placed_of, placed_in}
 use Rattle.bg_places.specs.declared.place.Place as code
 use Rattle.bg_places.specs.declared.place.Spot.TheVariants as spot
+use Rattle.bg_terms.specs.Instances.{Instance}
 use Rattle.bg_task.specs.Cuts.{HasOwnClauses}
 use Rattle.bg_task.specs.declared.prepared.Prepared.{Prepared}
 use Rattle.bg_task.specs.Prepared.{IsPrepared}
@@ -23,9 +24,10 @@ use Rattle.bg_certtext.specs.declared.text.Section.{Section}
 use Rattle.bg_certtext.specs.Views.{SectionOf, section_of}
 use Rattle.bg_certtext.specs.Spellable as s
 use Rattle.bg_accept.specs.Sections.{accepts_section, section_at}
+use Rattle.bg_accept.specs.Instances.{Names}
 use Rattle.bg_accept.specs.Accepted.{places_of, places_at, IsShown, IsBare, IsRequired}
 use Rattle.bg_accept.specs.Tables.{any_needed}
-use Rattle.bg_accept.specs.Reading.{IsSettled, IsSettledBy, IsFine, AreShownTo, AreShownOf, IsBareOf}
+use Rattle.bg_accept.specs.Reading.{IsSettledBehind, IsSettled, IsSettledBy, IsFine, AreShownTo, AreShownOf, IsBareOf}
 use Rattle.bg_accept.proofs.Whole.{last_or_before}
 
 -- ---- a section's rows are spelled
@@ -36,17 +38,24 @@ spelled_rows (x ∷ ss) zero d h l =
     let t = section_of x in
     let a = and_left (s.is_section t) (list_all s.is_section (map section_of ss)) h in
     let b = and_right (s.is_number t.implementation) _ a in
-    let e = and_right (s.is_number t.place) _ b in
+    let q = and_right (s.is_number t.place) _ b in
+    let e = and_right (list_all s.is_stated t.stated) _ q in
     let f = and_right (s.is_number (length t.table)) _ e in
     and_left (list_all s.is_row t.table) _ f
 spelled_rows (x ∷ ss) (suc n) d h l = spelled_rows ss n d (and_right (s.is_section (section_of x)) _ h) (omega arith)
 
 -- ---- one place
 
-pub settled : (p : Prog) (set : ℕ → Bool) (names : List Id) (t : SectionOf) (u : Place) (f : Formula) → HasOwnClauses p u f → (o : Result Bool AllocError) → IfOk o (λ said. said ≡ accepts_section f set names t) → IfOk o (IsSettled p set names t u)
-settled p set names t u f h (Ok true) e = (f, (h, sym e))
-settled p set names t u f h (Ok false) e = inl (f, (h, sym e))
-settled p set names t u f h (Err x) e = e
+pub settled : (p : Prog) (set : ℕ → Bool) (names : List Id) (t : SectionOf) (u : Place) (es : List Instance) (f : Formula) → HasOwnClauses p u es f → (o : Result Bool AllocError) → IfOk o (λ said. said ≡ accepts_section f set names t) → IfOk o (IsSettledBehind p set names t u es)
+settled p set names t u es f h (Ok true) e = (f, (h, sym e))
+settled p set names t u es f h (Ok false) e = inl (f, (h, sym e))
+settled p set names t u es f h (Err x) e = e
+
+-- the same behind the instances that the section names
+pub settled_so : (p : Prog) (set : ℕ → Bool) (names : List Id) (t : SectionOf) (u : Place) (es : List Instance) → Names p u t.stated (Some es) → (o : Result Bool AllocError) → IfOk o (IsSettledBehind p set names t u es) → IfOk o (IsSettled p set names t u)
+settled_so p set names t u es n (Ok true) h = (es, (n, h))
+settled_so p set names t u es n (Ok false) h = inr (es, (n, h))
+settled_so p set names t u es n (Err x) h = h
 
 pub settled_there : (p : Prog) (set : ℕ → Bool) (names : List Id) (o : Option SectionOf) (t : SectionOf) (u : Place) (x : Result Bool AllocError) → o ≡ Some t → IfOk x (IsSettled p set names t u) → IfOk x (IsSettledBy p set names o u)
 settled_there p set names o t u x e h = subst (λ y. IfOk x (IsSettledBy p set names y u)) (sym e) h
@@ -61,13 +70,19 @@ module _ (p : r.Program) (set : ℕ → Bool) (ss : List SectionOf) where
   shown_by : (names : List Id) (k i : ℕ) (o : Option SectionOf) (u : Place) → u.implementation ≡ k → o ≡ section_at k i ss → IsSettledBy (meaning_of p) set names o u true → IsShown (meaning_of p) set names ss i u
   shown_by names k i None u n e h = absurd (let bad : ⊥ = cc in bad)
   shown_by names k i (Some t) u n e h =
-      record { section = t; is_its = ap (λ j. section_at j i ss) n ∙ sym e; formula = h.0; is = h.1.0; accepted = h.1.1 }
+      record { section = t; is_its = ap (λ j. section_at j i ss) n ∙ sym e; instances = h.0; names_them = h.1.0; formula = h.1.1.0; is = h.1.1.1.0; accepted = h.1.1.1.1 }
 
   bare_by : (names : List Id) (k i : ℕ) (o : Option SectionOf) (u : Place) → u.implementation ≡ k → o ≡ section_at k i ss → IsSettledBy (meaning_of p) set names o u false → IsBare (meaning_of p) set names ss i u
   bare_by names k i None u n e h = inl (ap (λ j. section_at j i ss) n ∙ sym e)
   bare_by names k i (Some t) u n e (inl h) =
-      inr (inl (record { section = t; is_its = ap (λ j. section_at j i ss) n ∙ sym e; formula = h.0; is = h.1.0; refused = h.1.1 }))
-  bare_by names k i (Some t) u n e (inr h) = inr (inr h)
+      inr (inl (record { section = t; is_its = ap (λ j. section_at j i ss) n ∙ sym e; names_none = h }))
+  bare_by names k i (Some t) u n e (inr h) = behind h.1.1
+    where
+      behind : IsSettledBehind (meaning_of p) set names t u h.0 false → IsBare (meaning_of p) set names ss i u
+      behind (inl g) =
+          inr (inr (inl (record { section = t; is_its = ap (λ j. section_at j i ss) n ∙ sym e; instances = h.0; names_them = h.1.0; formula = g.0; is = g.1.0; refused = g.1.1 })))
+      behind (inr g) =
+          inr (inr (inr (record { section = t; is_its = ap (λ j. section_at j i ss) n ∙ sym e; instances = h.0; names_them = h.1.0; operation = g.0; is = g.1 })))
 
   number_at_place : (k i : ℕ) (a : Placed) → slice_get (places_at p k) i ≡ Some a → a.place.implementation ≡ k
   number_at_place k i a e = by_impl (slice_get p.implementations k) e

@@ -1,5 +1,6 @@
 pub mod Names
 pub mod Sections
+pub mod Instances
 pub mod Accepted
 pub mod Answers
 pub mod Texts

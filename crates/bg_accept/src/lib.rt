@@ -6,6 +6,7 @@ mod answer;
 mod extra;
 mod firsts;
 mod implementation;
+mod instances;
 mod kept;
 pub mod laws;
 mod numbers;

@@ -8,14 +8,17 @@ ghost use Rattle.bg_sense.specs.Typed.{IsTyped};
 ghost use Rattle.bg_fits.specs.Scalars.{is_over_scalars};
 ghost use Rattle.bg_cert.specs.Walks.{has};
 ghost use Rattle.bg_places.specs.Views.{placed_of, placed_in};
+ghost use Rattle.bg_term_table.specs.Instances.{instances_of};
+ghost use Rattle.bg_termed.specs.There.{AreThere};
 ghost use Rattle.bg_task.specs.Prepared.{IsPrepared};
 ghost use Rattle.bg_certtext.specs.Views.{section_of};
 ghost use Rattle.bg_certtext.specs.Spellable.{is_row};
 ghost use Rattle.bg_accept.specs.Accepted.{places_at};
 ghost use Rattle.bg_accept.specs.Sections.{section_at};
 ghost use Rattle.bg_accept.specs.Tables.{number_at, section_of_number};
-ghost use Rattle.bg_accept.specs.Reading.{IsReading, IsSettled, IsSettledBy, IsFine, IsOutcomeOf};
+ghost use Rattle.bg_accept.specs.Reading.{IsReading, IsSettledBehind, IsSettled, IsSettledBy, IsFine, IsOutcomeOf};
 
+use crate::instances::instances_in;
 use crate::kept::is_needed;
 use crate::numbers::Numbers;
 use crate::reading::Reading;
@@ -23,9 +26,38 @@ use crate::section::accepts_section;
 use bg_certtext::Section;
 use bg_places::Place;
 use bg_task::{Made, Prepared, Question, cut_down, place_clauses};
+use bg_term_table::Instance;
 use std::alloc::{AllocError, Global};
 
-/// Whether a place's clauses accept this section.
+/// Whether a place's clauses behind these instances accept a section.
+fn shows_behind(
+    alloc: Global,
+    question: Question<'_, '_>,
+    numbers: &Numbers,
+    section: &Section,
+    instances: &[Instance],
+) -> Result<bool, AllocError>
+    requires typed { IsTyped (meaning_of (program_of question.program.now)) }
+    requires scalars { is_over_scalars true (meaning_of (program_of question.program.now)) ≡ true }
+    requires prepared { IsPrepared (program_of question.program.now) question.place.now.implementation question.prepared.now }
+    requires rows { list_all is_row (section_of section.now).table ≡ true }
+    requires there { AreThere (length question.prepared.now.terms.items) (instances_of instances.now) }
+    ensures { IfOk result (IsSettledBehind (meaning_of (program_of question.entry.program.now)) (has question.entry.set.now) (map id_of numbers.now.candidates.now) (section_of section.now) (placed_of question.entry.place.now).place (instances_of instances.now)) }
+{
+    let cut = cut_down(
+        alloc,
+        question.program,
+        question.prepared,
+        question.place,
+        instances,
+    )?;
+    match place_clauses(alloc, question, &cut)? {
+        Made::Outside(_) => Ok(false),
+        Made::Clauses(f) => accepts_section(alloc, &f, question.set, numbers, section),
+    }
+}
+
+/// Whether a place's clauses, behind the instances that a section names, accept the section.
 fn shows(
     alloc: Global,
     question: Question<'_, '_>,
@@ -38,10 +70,10 @@ fn shows(
     requires rows { list_all is_row (section_of section.now).table ≡ true }
     ensures { IfOk result (IsSettled (meaning_of (program_of question.entry.program.now)) (has question.entry.set.now) (map id_of numbers.now.candidates.now) (section_of section.now) (placed_of question.entry.place.now).place) }
 {
-    let cut = cut_down(alloc, question.program, question.prepared, question.place)?;
-    match place_clauses(alloc, question, &cut)? {
-        Made::Outside(_) => Ok(false),
-        Made::Clauses(f) => accepts_section(alloc, &f, question.set, numbers, section),
+    let terms = question.prepared.terms.len();
+    match instances_in(alloc, terms, &section.stated)? {
+        None => Ok(false),
+        Some(instances) => shows_behind(alloc, question, numbers, section, &instances),
     }
 }
 

@@ -74,7 +74,7 @@ fn check_sections<'c>(
 /// Whether a typed program over truth values and whole numbers accepts a certificate that has a text, or the first reason why not.
 /// Takes time for each part of the program and of the text, and memory for one place's clauses at a time.
 ///
-/// Only want of memory is an error; 2^32 incarnations or atoms of an implementation count as such.
+/// Only want of memory is an error; 2^32 incarnations and terms, or atoms, of an implementation count as such.
 pub fn check<'c>(
     alloc: Global,
     program: &Resolved,

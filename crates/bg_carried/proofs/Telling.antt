@@ -19,7 +19,7 @@ use Rattle.bg_sound.specs.Sound.{AreAxioms, IsRetained, IsTrueAt, AreTrueAt, IsT
 use Rattle.bg_task.proofs.Numbered.{has}
 use Rattle.bg_opened.specs.Programs as o
 use Rattle.bg_opened.specs.Written as w
-use Rattle.bg_opened.specs.Moments.{nothing, with_constants, interp_in}
+use Rattle.bg_opened.specs.Moments.{tables_of, with_constants, interp_in}
 use Rattle.bg_opened.specs.Openable.{IsOpenable}
 use Rattle.bg_opened.specs.Axioms.{of_axioms, axiom_program, axiom_place, no_state}
 use Rattle.bg_opened.proofs.Places.{places_alike}
@@ -35,7 +35,7 @@ module _ (depth : ℕ) (p : Prog) (h : IsOpenable depth p) (set : ℕ → Bool) 
   O = o.opened_program depth p
 
   true_at : (t : Place) (v : Verdict) → IsTrueAt O set t v → IsTrueAt p set t (carried_verdict p v)
-  true_at t Proved k = λ i s choices f. k nothing (with_constants i s) choices (opens depth p h set t i s choices f)
+  true_at t Proved k = λ i s choices f. k (tables_of i) (with_constants i s) choices (opens depth p h set t i s choices f)
   true_at t (Refuted i s choices) k = (
     closes depth p h set t i s choices k.0,
     λ front last e. closed_runs depth p h set t i s choices front k.0 ∙ k.1 front last e,
@@ -187,6 +187,6 @@ sound depth p axioms a h x s =
     }
 
 pub told : (depth : ℕ) (p : Prog) (set : ℕ → Bool) (v : Verdict) → IsOpenable depth p → IsTrueAt (axiom_program depth p) set axiom_place v → AreAxioms p (axioms_by v)
-told depth p set Proved h t = λ i m. t nothing (with_constants i no_state) [] (met depth p h set i m)
-told depth p set (Refuted i s choices) h t = (interp_in (of_axioms p) s, meets depth p h set i s choices t.0)
+told depth p set Proved h t = λ i m. t (tables_of i) (with_constants i no_state) [] (met depth p h set i m)
+told depth p set (Refuted i s choices) h t = (interp_in (of_axioms p) i s, meets depth p h set i s choices t.0)
 told depth p set (Unknown why) h t = tt

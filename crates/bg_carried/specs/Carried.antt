@@ -4,10 +4,10 @@ use Rattle.bg_ast.specs.Syntax.{Prog}
 use Rattle.bg_opened.specs.Moments.{interp_in, without_constants}
 use Rattle.bg_sound.specs.Told.{Axioms, Consistent, Contradictory, Undecided, Verdict, Proved, Refuted, Unknown, Judged, Outcome}
 
--- a counterexample's state holds the values of the constants
+-- a counterexample's state holds the values of the constants, and its interpretation the tables of functions without a body
 abbrev pub carried_verdict : Prog → Verdict → Verdict
 carried_verdict p Proved = Proved
-carried_verdict p (Refuted i s choices) = Refuted (interp_in p s) (without_constants p s) choices
+carried_verdict p (Refuted i s choices) = Refuted (interp_in p i s) (without_constants p s) choices
 carried_verdict p (Unknown why) = Unknown why
 
 abbrev pub carried_one : Prog → Judged → Judged

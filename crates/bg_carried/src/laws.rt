@@ -11,7 +11,7 @@ ghost use Rattle.bg_sound.specs.Sound.{AreAxioms, IsTrueAt, IsSound};
 ghost use Rattle.bg_carried.specs.Carried.{carried, axioms_by};
 
 /// Where a report is true of the opened program, and its word on the axioms of the program, it is true of the program, the constants'
-/// values in its counterexamples being interpretations.
+/// values and the tables in its counterexamples being interpretations.
 pub fn reports_of_opened_programs_are_true()
     ensures { (depth : ℕ) (p : Program) (axioms : Axioms) (o : Outcome) → IsOpenable depth (meaning_of p) → AreAxioms (meaning_of p) axioms →
         IsSound (opened_program depth p) o → IsSound p (carried (meaning_of p) axioms o) }

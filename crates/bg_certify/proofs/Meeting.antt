@@ -1,17 +1,22 @@
--- The values that are found to meet the axioms are met by the certificate's check.
-use Rattle.std.proofs.Common.{◌≡◌, ℕ, Bool, true, false, List, [], ◌∷◌, length, map, Option, Some, refl, sym, ap, ◌∙◌, subst, arith}
+-- The values and tables that are found to meet the axioms are met by the certificate's check.
+use Rattle.std.proofs.Common.{◌≡◌, ℕ, suc, Bool, true, false, List, [], ◌∷◌, length, map, Option, Some, refl, sym, ap, ◌∙◌, subst, arith}
 use Rattle.std.specs.Prelude.{is_some}
 use Rattle.std.proofs.lemmas.List.{length-map}
-use Rattle.bg_ast.specs.Syntax.{Impl, Proc, Const, Prog}
+use Rattle.bg_ast.specs.Syntax.{Fun, Impl, Proc, Const, Prog}
 use Rattle.bg_ast.specs.Resolved as r
-use Rattle.bg_ast.specs.Meaning.{meaning_of}
+use Rattle.bg_ast.specs.Values.{Table}
+use Rattle.bg_ast.specs.Meaning.{meaning_of, named_of, fun_of}
 use Rattle.bg_fits.specs.Holdings.{holdings_of}
 use Rattle.bg_sense.specs.Flow.{Failed}
 use Rattle.bg_sense.specs.Types.{are_of, types_of}
 use Rattle.bg_sense.specs.Variables.{procedure_of}
 use Rattle.bg_flow.specs.Core.{frame_decls}
 use Rattle.bg_block_types.specs.Typed.{blocks_in}
-use Rattle.bg_scalar.specs.Values.{val_of}
+use Rattle.bg_sense.specs.Tables.{are_tables, is_table_of}
+use Rattle.bg_sense.proofs.Bools.{and_right}
+use Rattle.bg_scalar.specs.Tables.{TableOf}
+use Rattle.bg_scalar.specs.Views.{tables_in}
+use Rattle.bg_scalar.specs.Values.{val_of, table_of, tables_of}
 use Rattle.bg_scalar.specs.declared.scalar.Scalar.{Scalar}
 use Rattle.bg_replay.specs.Moments.{Around}
 use Rattle.bg_replay.specs.Said.{Said, Stops}
@@ -25,19 +30,20 @@ use Rattle.bg_check.specs.declared.verdict.Verdict.{Verdict}
 use Rattle.bg_check.specs.declared.verdict.Verdict.TheVariants.{Proved, Refuted, Unknown}
 use Rattle.bg_check.specs.Verdicts.{IsRight}
 use Rattle.bg_check.specs.Outcomes.{verdict_of}
-use Rattle.bg_opened.specs.Programs.{global_for}
+use Rattle.bg_opened.specs.Programs.{global_for, bodiless}
 use Rattle.bg_opened.specs.Axioms.{axiom_place}
 use Rattle.bg_opened.proofs.Claims.{are_of_length}
 use Rattle.bg_expanded.specs.Chains.{most_bodies}
 use Rattle.bg_carried.specs.Carried.{axioms_by}
 use Rattle.bg_inference.specs.declared.outcome.Outcome.{Outcome}
 use Rattle.bg_inference.specs.Outcomes.{IsTrueOutcome}
-use Rattle.bg_certtext.specs.Views.{GivenOf, CertOf}
+use Rattle.bg_certtext.specs.Views.{GivenOf, InterpOf, CertOf}
 use Rattle.bg_confirm.specs.Met.{scalars_of, run_in, axioms_of, IsMet}
 use Rattle.bg_confirm.specs.Accepted.{AreMet, IsInterpMet}
 use Rattle.bg_confirm.proofs.Candidates.{M, Q}
 use Rattle.bg_certify.specs.Given.{givens, interp_by, constant_names}
-use Rattle.bg_certify.proofs.Giving.{names_back, values_back}
+use Rattle.bg_certify.specs.Written.{names_of}
+use Rattle.bg_certify.proofs.Giving.{names_back, values_back, given_to, functions_back, tables_back}
 use Rattle.bg_certify.proofs.Straight.{runs_straight, blocks_straight}
 
 -- ---- as many values as constants
@@ -45,6 +51,12 @@ use Rattle.bg_certify.proofs.Straight.{runs_straight, blocks_straight}
 const_count : (ks : List Const) → length (types_of (map global_for ks)) ≡ length ks
 const_count [] = refl
 const_count (k ∷ ks) = let h = const_count ks in omega (arith, h)
+
+tables_long : (fs : List Fun) (us : List Table) → are_tables fs us ≡ true → length us ≡ length fs
+tables_long [] [] h = refl
+tables_long [] (u ∷ us) h = absurd (let f : false ≡ true = h in cc)
+tables_long (f ∷ fs) [] h = absurd (let f : false ≡ true = h in cc)
+tables_long (f ∷ fs) (u ∷ us) h = ap (λ (n : ℕ). suc n) (tables_long fs us (and_right (is_table_of f u) (are_tables fs us) h))
 
 no_frame : (xs : List Scalar) → are_of [] (map val_of xs) ≡ true → xs ≡ []
 no_frame [] h = refl
@@ -60,6 +72,12 @@ module _ (budget : Budget) (p : r.Program) (set : ℕ → Bool) (cex : Counterex
   abbrev gs : List GivenOf
   gs = givens (constant_names p.constants) xs
 
+  abbrev ts : List TableOf
+  ts = tables_in cex.tables.items
+
+  abbrev its : InterpOf
+  its = record { constants = gs; functions = given_to p.functions ts }
+
   count : length (constant_names p.constants) ≡ length xs
   count =
       let values = are_of_length (types_of (axioms_of p).globals) (map val_of xs) right.0.state.globals in
@@ -72,39 +90,50 @@ module _ (budget : Budget) (p : r.Program) (set : ℕ → Bool) (cex : Counterex
   frame : cex.frame.items ≡ []
   frame = no_frame cex.frame.items right.0.state.frame
 
+  table_count : length ts ≡ length p.functions
+  table_count =
+      sym (length-map ts table_of)
+      ∙ (tables_long (axioms_of p).functions (tables_of ts) right.0.meets.interp.tables
+      ∙ (length-map P.functions bodiless ∙ length-map p.functions (fun_of (named_of p.types))))
+
   -- the run of the counterexample, of these
   abbrev ran : Impl → Proc → List Scalar → List Scalar → Said
   ran m q ys fs =
       runs
-      (record { set = set; before = ys; globals = holdings_of (axioms_of p).globals; frame = holdings_of (frame_decls m q) })
+      (record { set = set; tables = ts; before = ys; globals = holdings_of (axioms_of p).globals; frame = holdings_of (frame_decls m q) })
       0 (blocks_in (axioms_of p) 0 m q) (moment_in ys fs cex.choices.items)
 
-  says : (m : Impl) (q : Proc) → M most_bodies P ≡ m → Q most_bodies P ≡ q → ran m q xs cex.frame.items ≡ Stops (Failed axiom_place.spot) → run_in (axioms_of p) set 0 m q (scalars_of gs) ≡ Stops (Failed axiom_place.spot)
+  says : (m : Impl) (q : Proc) → M most_bodies P ≡ m → Q most_bodies P ≡ q → ran m q xs cex.frame.items ≡ Stops (Failed axiom_place.spot) → run_in (axioms_of p) set 0 m q ts (scalars_of gs) ≡ Stops (Failed axiom_place.spot)
   says m q em eq h =
       let around : Around = record {
         set = set;
+        tables = ts;
         before = xs;
         globals = holdings_of (axioms_of p).globals;
         frame = holdings_of (frame_decls (M most_bodies P) (Q most_bodies P));
       } in
-      ap (λ (ys : List Scalar). run_in (axioms_of p) set 0 m q ys) back
-      ∙ (ap (λ (n : Impl). run_in (axioms_of p) set 0 n q xs) (sym em)
-      ∙ (ap (λ (n : Proc). run_in (axioms_of p) set 0 (M most_bodies P) n xs) (sym eq)
+      ap (λ (ys : List Scalar). run_in (axioms_of p) set 0 m q ts ys) back
+      ∙ (ap (λ (n : Impl). run_in (axioms_of p) set 0 n q ts xs) (sym em)
+      ∙ (ap (λ (n : Proc). run_in (axioms_of p) set 0 (M most_bodies P) n ts xs) (sym eq)
       ∙ (sym (runs_straight around 0 (blocks_in (axioms_of p) 0 (M most_bodies P) (Q most_bodies P)) (moment_in xs [] cex.choices.items) (blocks_straight most_bodies P))
       ∙ (ap (λ (n : Proc). ran (M most_bodies P) n xs []) eq
       ∙ (ap (λ (n : Impl). ran n q xs []) em
       ∙ (ap (λ (fs : List Scalar). ran m q xs fs) (sym frame) ∙ h))))))
 
-  met : IsMet p gs
+  met : IsMet p its
   met =
       let w = right.1.0 in
       let there : Some (M most_bodies P) ≡ Some w.implementation = w.is_there in
       let m : M most_bodies P ≡ w.implementation = cc in
-      let its : Some (Q most_bodies P) ≡ Some w.procedure = ap (λ (x : Impl). procedure_of (axioms_of p) x.procedure) m ∙ w.is_its in
+      let its_proc : Some (Q most_bodies P) ≡ Some w.procedure = ap (λ (x : Impl). procedure_of (axioms_of p) x.procedure) m ∙ w.is_its in
       let q : Q most_bodies P ≡ w.procedure = cc in
       record {
         named = names_back (constant_names p.constants) xs count;
+        named_functions = functions_back p.functions ts table_count;
         typed = ap (λ (ys : List Scalar). are_of (types_of (axioms_of p).globals) (map val_of ys)) back ∙ right.0.state.globals;
+        tables = ts;
+        are_its = tables_back (named_of p.types) p.functions ts table_count;
+        typed_tables = right.0.meets.interp.tables;
         set = set;
         met = record {
           implementation = w.implementation;
@@ -117,16 +146,16 @@ module _ (budget : Budget) (p : r.Program) (set : ℕ → Bool) (cex : Counterex
 
 -- ---- of an outcome
 
-module _ (budget : Budget) (p : r.Program) (o : Outcome) (true_of : IsTrueOutcome budget p o) (words : Cause → t.Why) (c : CertOf) where
-  pub found_met : c.interp ≡ interp_by (constant_names p.constants) o.axioms → t.is_contradictory (axioms_by (verdict_of words o.axioms)) ≡ false → t.is_undecided (axioms_by (verdict_of words o.axioms)) ≡ false →
+module _ (budget : Budget) (p : r.Program) (o : Outcome) (true_of : IsTrueOutcome budget p o) (words : ℕ → Cause → t.Why) (c : CertOf) where
+  pub found_met : c.interp ≡ interp_by (names_of p) o.axioms → t.is_contradictory (axioms_by (verdict_of words o.axioms)) ≡ false → t.is_undecided (axioms_by (verdict_of words o.axioms)) ≡ false →
       (is_some c.interp ≡ true) × IsInterpMet p c
   found_met e a b = by o.axioms true_of.axioms e a b
     where
-      by : (v : Verdict) → IsRight budget (axioms_of p) true_of.set axiom_place v → c.interp ≡ interp_by (constant_names p.constants) v → t.is_contradictory (axioms_by (verdict_of words v)) ≡ false → t.is_undecided (axioms_by (verdict_of words v)) ≡ false →
+      by : (v : Verdict) → IsRight budget (axioms_of p) true_of.set axiom_place v → c.interp ≡ interp_by (names_of p) v → t.is_contradictory (axioms_by (verdict_of words v)) ≡ false → t.is_undecided (axioms_by (verdict_of words v)) ≡ false →
           (is_some c.interp ≡ true) × IsInterpMet p c
-      by (Proved cert) h f a b = absurd (let g : true ≡ false = a in cc)
+      by (Proved es cert) h f a b = absurd (let g : true ≡ false = a in cc)
       by (Refuted cex) h f a b = (
         ap is_some f,
-        subst (λ (x : Option (List GivenOf)). AreMet p x) (sym f) (met budget p true_of.set cex h),
+        subst (λ (x : Option InterpOf). AreMet p x) (sym f) (met budget p true_of.set cex h),
       )
-      by (Unknown cause) h f a b = absurd (let g : true ≡ false = b in cc)
+      by (Unknown rounds cause) h f a b = absurd (let g : true ≡ false = b in cc)

@@ -3,28 +3,28 @@ use Rattle.std.proofs.Common.{◌≡◌, ℕ, zero, suc, ◌+◌, ◌<◌, Bool,
 use Rattle.std.specs.Prelude.{◌⊎◌, ◌&&◌, ◌||◌, ◌==◌, nat_lt, if◌then◌else◌, slice_get}
 use Rattle.std.proofs.lemmas.Bool.{lt-ltb, ne_eqb}
 use Rattle.bg_text.specs.Trees.{Id}
-use Rattle.bg_cert.specs.declared.cert.Cert.{Cert}
+use Rattle.bg_certify.specs.Found.{Shown}
 use Rattle.bg_certtext.specs.Views.{SectionOf}
 use Rattle.bg_accept.specs.Sections.{is_at, section_at, is_behind, extra_behind}
 use Rattle.bg_certify.specs.Spelled.{spelled, row, rows}
 
 -- ---- the certificate of a place
 
-abbrev pub cert_or_none : Option (Option Cert) → Option Cert
+abbrev pub cert_or_none : Option (Option Shown) → Option Shown
 cert_or_none None = None
 cert_or_none (Some c) = c
 
-abbrev pub cert_at : List (Option Cert) → ℕ → Option Cert
+abbrev pub cert_at : List (Option Shown) → ℕ → Option Shown
 cert_at cs i = cert_or_none (slice_get cs i)
 
-abbrev pub certs_or_none : Option (List (Option Cert)) → List (Option Cert)
+abbrev pub certs_or_none : Option (List (Option Shown)) → List (Option Shown)
 certs_or_none None = []
 certs_or_none (Some cs) = cs
 
-abbrev pub certs_at : List (List (Option Cert)) → ℕ → List (Option Cert)
+abbrev pub certs_at : List (List (Option Shown)) → ℕ → List (Option Shown)
 certs_at css k = certs_or_none (slice_get css k)
 
-abbrev pub spelled_if : List Id → ℕ → ℕ → Option Cert → Option SectionOf
+abbrev pub spelled_if : List Id → ℕ → ℕ → Option Shown → Option SectionOf
 spelled_if names k i None = None
 spelled_if names k i (Some c) = Some (spelled names k i c)
 
@@ -43,30 +43,30 @@ second_false false b e = refl
 -- ---- the section of a place
 
 module _ (names : List Id) where
-  here : (k i : ℕ) (c : Cert) (ss : List SectionOf) → section_at k i (spelled names k i c ∷ ss) ≡ Some (spelled names k i c)
+  here : (k i : ℕ) (c : Shown) (ss : List SectionOf) → section_at k i (spelled names k i c ∷ ss) ≡ Some (spelled names k i c)
   here k i c ss =
       ap (λ (t : Bool). if t then Some (spelled names k i c) else section_at k i ss) (both_true (k == k) (i == i) (eq-eqb k k refl) (eq-eqb i i refl))
 
-  past_place : (k j i : ℕ) (c : Cert) (ss : List SectionOf) → (j ≡ i → ⊥) → section_at k i (spelled names k j c ∷ ss) ≡ section_at k i ss
+  past_place : (k j i : ℕ) (c : Shown) (ss : List SectionOf) → (j ≡ i → ⊥) → section_at k i (spelled names k j c ∷ ss) ≡ section_at k i ss
   past_place k j i c ss n =
       ap (λ (t : Bool). if t then Some (spelled names k j c) else section_at k i ss) (second_false (k == k) (j == i) (ne_eqb j i n))
 
-  past_impl : (h k j i : ℕ) (c : Cert) (ss : List SectionOf) → (h ≡ k → ⊥) → section_at k i (spelled names h j c ∷ ss) ≡ section_at k i ss
+  past_impl : (h k j i : ℕ) (c : Shown) (ss : List SectionOf) → (h ≡ k → ⊥) → section_at k i (spelled names h j c ∷ ss) ≡ section_at k i ss
   past_impl h k j i c ss n =
       ap (λ (t : Bool). if t then Some (spelled names h j c) else section_at k i ss) (first_false (h == k) (j == i) (ne_eqb h k n))
 
-  none_below : (k : ℕ) (cs : List (Option Cert)) (j i : ℕ) → i < j → section_at k i (row names k j cs) ≡ None
+  none_below : (k : ℕ) (cs : List (Option Shown)) (j i : ℕ) → i < j → section_at k i (row names k j cs) ≡ None
   none_below k [] j i h = refl
   none_below k (None ∷ cs) j i h = none_below k cs (suc j) i (omega arith)
   none_below k (Some c ∷ cs) j i h =
       past_place k j i c (row names k (suc j) cs) (λ x. omega arith) ∙ none_below k cs (suc j) i (omega arith)
 
-  none_beside : (h k : ℕ) (cs : List (Option Cert)) (j i : ℕ) → (h ≡ k → ⊥) → section_at k i (row names h j cs) ≡ None
+  none_beside : (h k : ℕ) (cs : List (Option Shown)) (j i : ℕ) → (h ≡ k → ⊥) → section_at k i (row names h j cs) ≡ None
   none_beside h k [] j i n = refl
   none_beside h k (None ∷ cs) j i n = none_beside h k cs (suc j) i n
   none_beside h k (Some c ∷ cs) j i n = past_impl h k j i c (row names h (suc j) cs) n ∙ none_beside h k cs (suc j) i n
 
-  row_at : (k : ℕ) (cs : List (Option Cert)) (j n i : ℕ) → i ≡ j + n → section_at k i (row names k j cs) ≡ spelled_if names k i (cert_at cs n)
+  row_at : (k : ℕ) (cs : List (Option Shown)) (j n i : ℕ) → i ≡ j + n → section_at k i (row names k j cs) ≡ spelled_if names k i (cert_at cs n)
   row_at k [] j n i e = refl
   row_at k (None ∷ cs) j zero i e = none_below k cs (suc j) i (omega arith)
   row_at k (None ∷ cs) j (suc n) i e = row_at k cs (suc j) n i (omega arith)
@@ -89,13 +89,13 @@ none_right k i [] ys h = h
 none_right k i (s ∷ xs) ys h = ap (λ (r : Option SectionOf). if is_at k i s then Some s else r) (none_right k i xs ys h)
 
 module _ (names : List Id) where
-  none_before : (css : List (List (Option Cert))) (h k i : ℕ) → k < h → section_at k i (rows names h css) ≡ None
+  none_before : (css : List (List (Option Shown))) (h k i : ℕ) → k < h → section_at k i (rows names h css) ≡ None
   none_before [] h k i l = refl
   none_before (cs ∷ css) h k i l =
       none_left k i (row names h 0 cs) (rows names (suc h) css) (none_beside names h k cs 0 i (λ x. omega arith)) ∙ none_before css (suc h) k i (omega arith)
 
   -- the section of a place is that of its certificate
-  pub rows_at : (css : List (List (Option Cert))) (h n k i : ℕ) → k ≡ h + n → section_at k i (rows names h css) ≡ spelled_if names k i (cert_at (certs_at css n) i)
+  pub rows_at : (css : List (List (Option Shown))) (h n k i : ℕ) → k ≡ h + n → section_at k i (rows names h css) ≡ spelled_if names k i (cert_at (certs_at css n) i)
   rows_at [] h n k i e = refl
   rows_at (cs ∷ css) h zero k i e =
       let same : h ≡ k = omega arith in
@@ -136,7 +136,7 @@ all_on (Some s) k i (inr e) = inl (omega (arith, e.0))
 
 module _ (names : List Id) (required : ℕ → ℕ → Bool) where
   row_fine : (k : ℕ) (rest : List SectionOf) → ((b : Option SectionOf) → IsBefore b (suc k) 0 → extra_behind required b rest ≡ None) →
-      (cs : List (Option Cert)) (i : ℕ) (b : Option SectionOf) → IsBefore b k i → ((n j : ℕ) (c : Cert) → j ≡ i + n → cert_at cs n ≡ Some c → required k j ≡ true) →
+      (cs : List (Option Shown)) (i : ℕ) (b : Option SectionOf) → IsBefore b k i → ((n j : ℕ) (c : Shown) → j ≡ i + n → cert_at cs n ≡ Some c → required k j ≡ true) →
       extra_behind required b (row names k i cs ++ rest) ≡ None
   row_fine k rest f [] i b h r = f b (all_on b k i h)
   row_fine k rest f (None ∷ cs) i b h r =
@@ -148,8 +148,8 @@ module _ (names : List Id) (required : ℕ → ℕ → Bool) where
       ∙ row_fine k rest f cs (suc i) (Some s) (inr (refl, omega arith)) (λ n j d e g. r (suc n) j d (omega arith) g)
 
   -- they stand in order, each one of a required place
-  pub rows_fine : (css : List (List (Option Cert))) (k : ℕ) (b : Option SectionOf) → IsBefore b k 0 →
-      ((m n j : ℕ) (c : Cert) → m ≡ k + n → cert_at (certs_at css n) j ≡ Some c → required m j ≡ true) → extra_behind required b (rows names k css) ≡ None
+  pub rows_fine : (css : List (List (Option Shown))) (k : ℕ) (b : Option SectionOf) → IsBefore b k 0 →
+      ((m n j : ℕ) (c : Shown) → m ≡ k + n → cert_at (certs_at css n) j ≡ Some c → required m j ≡ true) → extra_behind required b (rows names k css) ≡ None
   rows_fine [] k b h r = refl
   rows_fine (cs ∷ css) k b h r =
       row_fine k (rows names (suc k) css) (λ d l. rows_fine css (suc k) d l (λ m n j c e g. r m (suc n) j c (omega arith) g)) cs 0 b h

@@ -2,6 +2,7 @@
 use Rattle.std.proofs.Common.{◌≡◌, ℕ, zero, suc, ◌+◌, ◌<◌, Bool, true, false, List, [], ◌∷◌, length, map, Option, Some, None, refl, sym, ap, ◌∙◌, subst, inl, inr, arith}
 use Rattle.std.specs.Prelude.{◌⊎◌, slice_get, filter}
 use Rattle.std.proofs.lemmas.List.{length-map}
+use Rattle.std.proofs.lemmas.Bool.{lt-ltb}
 use Rattle.std.proofs.lemmas.Option.{slice_get_within}
 use Rattle.bg_ast.specs.Resolved as r
 use Rattle.bg_ast.specs.Meaning.{meaning_of}
@@ -13,6 +14,12 @@ use Rattle.bg_cert.specs.declared.cert.Cert.{Cert}
 use Rattle.bg_cert.specs.Certs.{CertOf, Accepts, cert_of, uses}
 use Rattle.bg_cert.specs.Walks.{no_instance}
 use Rattle.bg_places.specs.Placed.{Placed, place_in, placed, placed_impl}
+use Rattle.bg_term_table.specs.declared.instance.Instance as code
+use Rattle.bg_term_table.specs.declared.instance.Instance.TheVariants as kind
+use Rattle.bg_terms.specs.Instances.{Instance}
+use Rattle.bg_term_table.specs.Instances.{instances_of}
+use Rattle.bg_termed.specs.Termed.{terms_in}
+use Rattle.bg_termed.specs.There.{AreThere}
 use Rattle.bg_task.specs.Certified.{HasCertificate}
 use Rattle.bg_task.proofs.Numbered.{OfNumber, number_impl}
 use Rattle.bg_tree.specs.declared.outcome.Budget.{Budget}
@@ -24,10 +31,11 @@ use Rattle.bg_meant.specs.Once.{AreOnce}
 use Rattle.bg_certtext.specs.Views as text
 use Rattle.bg_accept.specs.Names.{marks, unplaced}
 use Rattle.bg_accept.specs.Sections.{section_at, extra_behind}
+use Rattle.bg_accept.specs.Instances.{Names, instances_in}
 use Rattle.bg_accept.specs.Accepted.{retained_by, places_of, places_at, is_needed, is_required, IsShown, IsRequired}
 use Rattle.bg_certify.specs.Names.{text_in, names_in}
-use Rattle.bg_certify.specs.Spelled.{spelled, rows}
-use Rattle.bg_certify.specs.Found.{cert_kept, certs_from}
+use Rattle.bg_certify.specs.Spelled.{spelled_instance, spelled, rows}
+use Rattle.bg_certify.specs.Found.{Shown, shown_of, cert_kept, certs_from}
 use Rattle.bg_certify.specs.Written.{IsUnproved, HasSections}
 use Rattle.bg_certify.proofs.Retained.{marks_are, all_placed}
 use Rattle.bg_certify.proofs.Spelling.{section_back}
@@ -74,18 +82,24 @@ inside [] b e = absurd (let f : false ≡ true = e in cc)
 inside (x ∷ bs) zero e = omega arith
 inside (x ∷ bs) (suc b) e = let h : b < length bs = inside bs b e in omega arith
 
+-- the lines of instances of terms that are there name these
+said_back : (n : ℕ) (es : List code.Instance) → AreThere n (instances_of es) → instances_in n (map spelled_instance es) ≡ Some (instances_of es)
+said_back n [] h = refl
+said_back n (kind.Congruent a b ∷ es) h = rw (lt-ltb a n h.0.0, lt-ltb b n h.0.1, said_back n es h.1) refl
+
 -- the certificates that an outcome has for the places of a program
-abbrev pub certs_of : r.Program → Outcome → List (List (Option Cert))
+abbrev pub certs_of : r.Program → Outcome → List (List (Option Shown))
 certs_of p o = certs_from p.procedures (has o.inferred.retained) o.inferred.kept.items 0 p.implementations (judged o.verdicts.items)
 
 module _ (placed_law : PlacedLaw) (inside_law : InsideLaw) (above_law : AboveLaw) (budget : Budget) (p : r.Program) (o : Outcome) (true_of : IsTrueOutcome budget p o) where
   -- ---- what is kept for tasks
 
-  under : (used : Numbers) (t : Place) (c : Cert) → IsSubset used o.inferred.retained → HasCertificate (meaning_of p) (has used) t c → HasCertificate (meaning_of p) (has o.inferred.retained) t c
-  under used t c sub h =
+  under : (used : Numbers) (t : Place) (es : List Instance) (c : Cert) → IsSubset used o.inferred.retained → HasCertificate (meaning_of p) (has used) t es c → HasCertificate (meaning_of p) (has o.inferred.retained) t es c
+  under used t es c sub h =
       record {
         formula = h.formula;
         is = h.is;
+        there = h.there;
         accepted =
             above_law h.formula (has used) (has o.inferred.retained) (cert_of c) h.accepted
             (λ b u. sub b (inside_law h.formula (has used) (cert_of c) h.accepted b u));
@@ -99,8 +113,8 @@ module _ (placed_law : PlacedLaw) (inside_law : InsideLaw) (above_law : AboveLaw
       let shown = w.2.shown in
       let same : Some shown.task ≡ Some task = sym shown.is_there ∙ e in
       let is_task : shown.task ≡ task = cc in (
-        w.0.proof,
-        (ap cert_kept w.1, under w.0.used task w.0.proof w.3 (subst (λ (x : Place). HasCertificate (meaning_of p) (has w.0.used) x w.0.proof) is_task shown.so)),
+        shown_of w.0.proof,
+        (ap cert_kept w.1, under w.0.used task (instances_of w.0.proof.instances.items) w.0.proof.cert w.3 (subst (λ (x : Place). HasCertificate (meaning_of p) (has w.0.used) x (instances_of w.0.proof.instances.items) w.0.proof.cert) is_task shown.so)),
       )
 
   kept : AreKept (meaning_of p) (has o.inferred.retained) o.inferred.kept.items (placed p)
@@ -115,7 +129,7 @@ module _ (placed_law : PlacedLaw) (inside_law : InsideLaw) (above_law : AboveLaw
   impl_cells k m e =
       impl_at budget p (has o.inferred.retained) 0 p.implementations (judged o.verdicts.items) o.inferred.kept.items kept true_of.ordinary k k m (omega arith) e
 
-  required : (m n j : ℕ) (c : Cert) → m ≡ 0 + n → cert_at (certs_at (certs_of p o) n) j ≡ Some c →
+  required : (m n j : ℕ) (c : Shown) → m ≡ 0 + n → cert_at (certs_at (certs_of p o) n) j ≡ Some c →
       is_required p (has o.inferred.retained) m j ≡ true
   required m n j c e h =
       let same : n ≡ m = omega arith in
@@ -137,18 +151,26 @@ module _ (placed_law : PlacedLaw) (inside_law : InsideLaw) (above_law : AboveLaw
         let l : b < length o.inferred.retained = inside o.inferred.retained b (inside_law f (has o.inferred.retained) (cert_of c) h b u) in
         subst (λ (n : ℕ). b < n) true_of.inferred.count l
 
-    shown : (k i : ℕ) (a : Placed) (x : Option Cert) → a.place.implementation ≡ k → section_at k i (rows p.candidates 0 (certs_of p o)) ≡ spelled_if p.candidates k i x →
+    shown : (k i : ℕ) (a : Placed) (x : Option Shown) → a.place.implementation ≡ k → section_at k i (rows p.candidates 0 (certs_of p o)) ≡ spelled_if p.candidates k i x →
         HasIt (meaning_of p) (has o.inferred.retained) a.place a.place.candidate x → IsShown (meaning_of p) (has o.inferred.retained) p.candidates (rows p.candidates 0 (certs_of p o)) i a.place
     shown k i a x number sec h =
         record {
           section = spelled p.candidates k i h.cert;
           is_its =
               ap (λ (n : ℕ). section_at n i (rows p.candidates 0 (certs_of p o))) number
-              ∙ (sec ∙ ap (λ (y : Option Cert). spelled_if p.candidates k i y) h.is);
+              ∙ (sec ∙ ap (λ (y : Option Shown). spelled_if p.candidates k i y) h.is);
+          instances = instances_of h.cert.instances;
+          names_them = record {
+            implementation = h.right.is.clauses.implementation;
+            procedure = h.right.is.clauses.procedure;
+            is_there = h.right.is.clauses.is_there;
+            is_its = h.right.is.clauses.is_its;
+            named = said_back (length (terms_in (meaning_of p) a.place.implementation h.right.is.clauses.implementation h.right.is.clauses.procedure)) h.cert.instances h.right.there;
+          };
           formula = h.right.formula;
           is = h.right.is;
           accepted =
-              section_back h.right.formula (has o.inferred.retained) p.candidates once k i h.cert (fits h.right.formula h.cert h.right.accepted)
+              section_back h.right.formula (has o.inferred.retained) p.candidates once k i h.cert (fits h.right.formula h.cert.cert h.right.accepted)
               ∙ h.right.accepted;
         }
 
@@ -171,7 +193,7 @@ module _ (placed_law : PlacedLaw) (inside_law : InsideLaw) (above_law : AboveLaw
         by ic number sec (inr (inr h)) =
             inr (
               record { verdicts = ic.verdicts; there = ic.there; verdict = h.verdict; is_one = h.one; is_its = h.its; not_proved = h.unproved },
-              sec ∙ ap (λ (y : Option Cert). spelled_if p.candidates k i y) h.none,
+              sec ∙ ap (λ (y : Option Shown). spelled_if p.candidates k i y) h.none,
             )
 
     pub has_sections : (c : text.CertOf) → c.retained ≡ names_in o.inferred.retained p.candidates → c.sections ≡ rows p.candidates 0 (certs_of p o) → HasSections p o c

@@ -11,12 +11,12 @@ use Rattle.bg_formula.specs.Atoms.{AtomOf, IsRow, view_linear, row_and_denial}
 use Rattle.bg_formula.specs.Formulas.{Formula}
 use Rattle.bg_cert.specs.declared.cert.Node.{Node}
 use Rattle.bg_cert.specs.declared.cert.Node.TheVariants.{Split, Bound, Cut, Lemma, Clause, Unit, Known, Rows}
-use Rattle.bg_cert.specs.declared.cert.Cert.{Cert}
 use Rattle.bg_cert.specs.Certs as cert
 use Rattle.bg_cert.specs.Walks.{no_instance}
 use Rattle.bg_accept.specs.Sections.{row_in, table_in, node_in, accepts_table, accepts_section}
 use Rattle.bg_certify.specs.Names.{text_in}
 use Rattle.bg_certify.specs.Spelled.{spelled_term, spelled_row, spelled_node, spelled}
+use Rattle.bg_certify.specs.Found.{Shown}
 use Rattle.bg_certify.proofs.Retained.{numbered}
 
 -- ---- rows
@@ -69,9 +69,9 @@ nodes_back names o (n ∷ ns) h =
 -- ---- sections
 
 -- a section is accepted where the certificate is that it spells
-pub section_back : (f : Formula) (set : ℕ → Bool) (names : List Id) → AreOnce (map text_in names) → (k i : ℕ) (c : Cert) →
-    ((b : ℕ) → cert.uses (cert.cert_of c).nodes b ≡ true → b < length names) →
-    accepts_section f set names (spelled names k i c) ≡ cert.is_accepted f set no_instance (cert.cert_of c)
-section_back f set names o k i c h =
-    ap (λ (ns : List cert.NodeOf). accepts_table f set ns (table_in (map spelled_row c.table.items))) (nodes_back names o c.nodes.items h)
-    ∙ ap (λ (t : Result (List AtomOf) OutOfRange). accepts_table f set (cert.cert_of c).nodes t) (table_back c.table.items)
+pub section_back : (f : Formula) (set : ℕ → Bool) (names : List Id) → AreOnce (map text_in names) → (k i : ℕ) (x : Shown) →
+    ((b : ℕ) → cert.uses (cert.cert_of x.cert).nodes b ≡ true → b < length names) →
+    accepts_section f set names (spelled names k i x) ≡ cert.is_accepted f set no_instance (cert.cert_of x.cert)
+section_back f set names o k i x h =
+    ap (λ (ns : List cert.NodeOf). accepts_table f set ns (table_in (map spelled_row x.cert.table.items))) (nodes_back names o x.cert.nodes.items h)
+    ∙ ap (λ (t : Result (List AtomOf) OutOfRange). accepts_table f set (cert.cert_of x.cert).nodes t) (table_back x.cert.table.items)

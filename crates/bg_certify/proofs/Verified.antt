@@ -62,7 +62,7 @@ or_second : (a b : Bool) → b ≡ true → a || b ≡ true
 or_second true b e = refl
 or_second false b e = e
 
-module _ (words : Cause → t.Why) (test : t.Judged → Bool) where
+module _ (words : ℕ → Cause → t.Why) (test : t.Judged → Bool) where
   told_at : (js : List Judged) (j : Judged) (i : ℕ) → i < length js → get_or js i j ≡ j → is_ordinary j ≡ true → test (told_one words j) ≡ true → list_any test (told words js) ≡ true
   told_at [] j i l e o h = absurd (omega arith)
   told_at (x ∷ js) j zero l e o h =
@@ -76,7 +76,7 @@ module _ (words : Cause → t.Why) (test : t.Judged → Bool) where
       by true f = or_second (test (told_one words x)) (list_any test (told words js)) f
       by false f = f
 
-any_told : (words : Cause → t.Why) (test : List t.Judged → Bool) (jss : List (List Judged)) (n : ℕ) (js : List Judged) → slice_get jss n ≡ Some js → test (told words js) ≡ true →
+any_told : (words : ℕ → Cause → t.Why) (test : List t.Judged → Bool) (jss : List (List Judged)) (n : ℕ) (js : List Judged) → slice_get jss n ≡ Some js → test (told words js) ≡ true →
     list_any test (map (told words) jss) ≡ true
 any_told words test [] n js e h = absurd (let f : None ≡ Some js = e in cc)
 any_told words test (x ∷ jss) zero js e h =
@@ -111,7 +111,7 @@ status false false e = (refl, refl)
 never : {A : Type 0} (b : Bool) → b ≡ true → b ≡ false → A
 never b e f = absurd (let g : true ≡ false = sym e ∙ f in cc)
 
-module _ (budget : Budget) (p : r.Program) (o : Outcome) (words : Cause → t.Why) (true_of : IsTrueOutcome budget p o) (zero_of : t.status_of (outcome_of words (meaning_of p) o) ≡ 0) where
+module _ (budget : Budget) (p : r.Program) (o : Outcome) (words : ℕ → Cause → t.Why) (true_of : IsTrueOutcome budget p o) (zero_of : t.status_of (outcome_of words (meaning_of p) o) ≡ 0) where
   abbrev P : Prog
   P = meaning_of p
 
@@ -144,10 +144,10 @@ module _ (budget : Budget) (p : r.Program) (o : Outcome) (words : Cause → t.Wh
           (none_carried P test os f)
 
       by : {A : Type 0} (v : Verdict) → u.verdict.verdict ≡ v → is_proved v ≡ false → A
-      by (Proved c) e n = absurd (let f : true ≡ false = n in cc)
+      by (Proved es c) e n = absurd (let f : true ≡ false = n in cc)
       by (Refuted cex) e n =
           found t.is_refuted (neither _ _ none.0).1 (ap (λ (v : Verdict). t.is_refuted (carried_verdict P (verdict_of words v))) e)
-      by (Unknown cause) e n =
+      by (Unknown rounds cause) e n =
           found t.is_unknown (neither _ _ none.1).1 (ap (λ (v : Verdict). t.is_unknown (carried_verdict P (verdict_of words v))) e)
 
   accepted_opened : (c : CertOf) → is_some c.interp ≡ true → HasSections (judged_program p) o.judged c → accept.IsAccepted (judged_program p) c

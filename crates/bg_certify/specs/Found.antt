@@ -2,34 +2,44 @@
 use Rattle.std.specs.Prelude.{ℕ, suc, Bool, List, [], ◌∷◌, Option, Some, None, drop, slice_get, if◌then◌else◌}
 use Rattle.bg_ast.specs.Resolved as r
 use Rattle.bg_cert.specs.declared.cert.Cert.{Cert}
+use Rattle.bg_term_table.specs.declared.instance.Instance.{Instance}
+use Rattle.bg_houdini.specs.declared.proof.Proof.{Proof}
 use Rattle.bg_places.specs.Placed.{Placed, placed_impl}
 use Rattle.bg_rounds.specs.declared.checker.Kept.{Kept}
 use Rattle.bg_check.specs.declared.verdict.Verdict.{Verdict}
 use Rattle.bg_check.specs.declared.verdict.Verdict.TheVariants.{Proved, Refuted, Unknown}
 use Rattle.bg_check.specs.declared.verdict.Judged.{Judged}
 
-abbrev pub cert_kept : Option (Option (Kept Cert)) → Option Cert
+-- a certificate of a place's clauses behind instances
+pub record Shown : Type 0 where
+  pub instances : List Instance
+  pub cert : Cert
+
+abbrev pub shown_of : Proof → Shown
+shown_of p = record { instances = p.instances.items; cert = p.cert }
+
+abbrev pub cert_kept : Option (Option (Kept Proof)) → Option Shown
 cert_kept None = None
 cert_kept (Some None) = None
-cert_kept (Some (Some k)) = Some k.proof
+cert_kept (Some (Some k)) = Some (shown_of k.proof)
 
-abbrev pub cert_proved : Verdict → Option Cert
-cert_proved (Proved c) = Some c
+abbrev pub cert_proved : Verdict → Option Shown
+cert_proved (Proved es c) = Some (record { instances = es.items; cert = c })
 cert_proved (Refuted cex) = None
-cert_proved (Unknown cause) = None
+cert_proved (Unknown rounds cause) = None
 
-abbrev pub cert_judged : Option Judged → Option Cert
+abbrev pub cert_judged : Option Judged → Option Shown
 cert_judged None = None
 cert_judged (Some j) = cert_proved j.verdict
 
 -- the certificate of a place: the first of those that are kept, where its candidate is in the set, or that of the first verdict, where it
 -- has no candidate
-abbrev pub cert_for : (ℕ → Bool) → List (Option (Kept Cert)) → List Judged → Option ℕ → Option Cert
+abbrev pub cert_for : (ℕ → Bool) → List (Option (Kept Proof)) → List Judged → Option ℕ → Option Shown
 cert_for set ks js (Some b) = if set b then cert_kept (slice_get ks 0) else None
 cert_for set ks js None = cert_judged (slice_get js 0)
 
 -- what is kept, and what is judged, for the places behind one
-abbrev pub kept_behind : Option ℕ → List (Option (Kept Cert)) → List (Option (Kept Cert))
+abbrev pub kept_behind : Option ℕ → List (Option (Kept Proof)) → List (Option (Kept Proof))
 kept_behind (Some b) ks = drop 1 ks
 kept_behind None ks = ks
 
@@ -38,18 +48,18 @@ judged_behind (Some b) js = js
 judged_behind None js = drop 1 js
 
 -- the certificates of these places, in their order
-abbrev pub certs_for : (ℕ → Bool) → List (Option (Kept Cert)) → List Judged → List Placed → List (Option Cert)
+abbrev pub certs_for : (ℕ → Bool) → List (Option (Kept Proof)) → List Judged → List Placed → List (Option Shown)
 certs_for set ks js [] = []
 certs_for set ks js (a ∷ xs) =
     cert_for set ks js a.place.candidate ∷ certs_for set (kept_behind a.place.candidate ks) (judged_behind a.place.candidate js) xs
 
 -- what is kept for the places behind these
-abbrev pub kept_after : List (Option (Kept Cert)) → List Placed → List (Option (Kept Cert))
+abbrev pub kept_after : List (Option (Kept Proof)) → List Placed → List (Option (Kept Proof))
 kept_after ks [] = ks
 kept_after ks (a ∷ xs) = kept_after (kept_behind a.place.candidate ks) xs
 
 -- those of these implementations, numbered from k on
-abbrev pub certs_from : List r.Proc → (ℕ → Bool) → List (Option (Kept Cert)) → ℕ → List r.Impl → List (List Judged) → List (List (Option Cert))
+abbrev pub certs_from : List r.Proc → (ℕ → Bool) → List (Option (Kept Proof)) → ℕ → List r.Impl → List (List Judged) → List (List (Option Shown))
 certs_from qs set ks k [] jss = []
 certs_from qs set ks k (m ∷ ms) [] = []
 certs_from qs set ks k (m ∷ ms) (js ∷ jss) =

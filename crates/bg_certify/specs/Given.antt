@@ -1,5 +1,5 @@
--- Values of constants, as a certificate has them.
-use Rattle.std.specs.Prelude.{ℕ, List, [], ◌∷◌, map, Option, Some, None}
+-- Values of constants and tables of functions, as a certificate has them.
+use Rattle.std.specs.Prelude.{ℕ, Bool, if◌then◌else◌, List, [], ◌∷◌, map, Option, Some, None}
 use Rattle.bg_ast.specs.Resolved as r
 use Rattle.bg_scalar.specs.declared.scalar.Scalar.{Scalar}
 use Rattle.bg_scalar.specs.declared.scalar.Scalar.TheVariants as scalar
@@ -7,7 +7,9 @@ use Rattle.bg_check.specs.declared.verdict.Verdict.{Verdict}
 use Rattle.bg_check.specs.declared.verdict.Verdict.TheVariants.{Proved, Refuted, Unknown}
 use Rattle.bg_certtext.specs.declared.text.Value.{Value}
 use Rattle.bg_certtext.specs.declared.text.Value.TheVariants as value
-use Rattle.bg_certtext.specs.Views.{GivenOf}
+use Rattle.bg_scalar.specs.Tables.{TableOf}
+use Rattle.bg_scalar.specs.Views.{tables_in}
+use Rattle.bg_certtext.specs.Views.{GivenOf, EntryOf, FunctionOf, InterpOf}
 
 abbrev pub value_of : Scalar → Value
 value_of (scalar.Truth b) = value.Truth b
@@ -19,11 +21,32 @@ givens [] xs = []
 givens (n ∷ ns) [] = []
 givens (n ∷ ns) (x ∷ xs) = record { name = n; value = value_of x } ∷ givens ns xs
 
--- the values of constants with these names, where the verdict on the axioms' own program has some: a counterexample to its one place
-abbrev pub interp_by : List (List ℕ) → Verdict → Option (List GivenOf)
-interp_by names (Proved cert) = None
-interp_by names (Refuted cex) = Some (givens names cex.globals.items)
-interp_by names (Unknown cause) = None
+-- an entry of a function's table, and the table
+abbrev pub entry_of : List Scalar × Scalar → EntryOf
+entry_of e = record { key = map value_of e.0; value = value_of e.1 }
+
+abbrev pub function_of : List ℕ → TableOf → FunctionOf
+function_of name t = record { name = name; entries = map entry_of t.entries; default = value_of t.default }
+
+-- the tables of functions with these names, but for those that have a body, as far as all go
+abbrev pub functions : List (List ℕ) → List Bool → List TableOf → List FunctionOf
+functions [] bodies ts = []
+functions (n ∷ ns) [] ts = []
+functions (n ∷ ns) (b ∷ bs) [] = []
+functions (n ∷ ns) (b ∷ bs) (t ∷ ts) = if b then functions ns bs ts else function_of n t ∷ functions ns bs ts
+
+-- names of constants, names of functions, and which of these have a body
+pub record NamesOf : Type 0 where
+  pub constants : List (List ℕ)
+  pub functions : List (List ℕ)
+  pub bodies : List Bool
+
+-- the values and tables of what has these names, where the verdict on the axioms' own program has some: a counterexample to its one place
+abbrev pub interp_by : NamesOf → Verdict → Option InterpOf
+interp_by names (Proved es cert) = None
+interp_by names (Refuted cex) =
+    Some (record { constants = givens names.constants cex.globals.items; functions = functions names.functions names.bodies (tables_in cex.tables.items) })
+interp_by names (Unknown rounds cause) = None
 
 -- the names of constants, and of the variables that stand for them
 abbrev pub constant_names : List r.Const → List (List ℕ)
@@ -31,3 +54,7 @@ constant_names cs = map (λ c. c.name.text) cs
 
 abbrev pub declared_names : List r.Declared → List (List ℕ)
 declared_names ds = map (λ d. d.name.text) ds
+
+-- the names of functions
+abbrev pub function_names : List r.Fun → List (List ℕ)
+function_names fs = map (λ f. f.name.text) fs

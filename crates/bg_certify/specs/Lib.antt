@@ -1,5 +1,7 @@
 pub mod Names
-pub mod Spelled
 pub mod Found
+pub mod Seen
+pub mod Spelled
 pub mod Given
+pub mod Read
 pub mod Written

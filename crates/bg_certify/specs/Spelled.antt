@@ -5,10 +5,14 @@ use Rattle.bg_rows.specs.declared.entry.Entry.{Entry}
 use Rattle.bg_formula.specs.declared.atom.Linear.{Linear}
 use Rattle.bg_cert.specs.declared.cert.Node.{Node}
 use Rattle.bg_cert.specs.declared.cert.Node.TheVariants.{Split, Bound, Cut, Lemma, Clause, Unit, Known, Rows}
-use Rattle.bg_cert.specs.declared.cert.Cert.{Cert}
+use Rattle.bg_term_table.specs.declared.instance.Instance.{Instance}
+use Rattle.bg_term_table.specs.declared.instance.Instance.TheVariants as kind
+use Rattle.bg_certtext.specs.declared.text.Stated.{Stated}
+use Rattle.bg_certtext.specs.declared.text.Stated.TheVariants as said
 use Rattle.bg_certtext.specs.declared.text.Term.{Term}
 use Rattle.bg_certtext.specs.Views.{RowOf, NodeOf, Splits, Bounds, Cuts, Learns, IsClause, IsUnit, IsKnown, Derives, SectionOf}
 use Rattle.bg_certify.specs.Names.{name_at}
+use Rattle.bg_certify.specs.Found.{Shown}
 
 abbrev pub spelled_term : Entry → Term
 spelled_term e = record { term = e.variable; by = e.by }
@@ -28,26 +32,31 @@ spelled_node names (Unit c) = IsUnit (name_at names c)
 spelled_node names (Known i) = IsKnown i
 spelled_node names (Rows steps) = Derives steps.items
 
+-- the line of an instance
+abbrev pub spelled_instance : Instance → Stated
+spelled_instance (kind.Congruent a b) = said.Congruent a b
+
 -- the section of place i of implementation k
-abbrev pub spelled : List Id → ℕ → ℕ → Cert → SectionOf
-spelled names k i cert =
+abbrev pub spelled : List Id → ℕ → ℕ → Shown → SectionOf
+spelled names k i x =
     record {
       implementation = k;
       place = i;
-      table = map spelled_row cert.table.items;
-      nodes = map (spelled_node names) cert.nodes.items;
+      stated = map spelled_instance x.instances;
+      table = map spelled_row x.cert.table.items;
+      nodes = map (spelled_node names) x.cert.nodes.items;
     }
 
-abbrev pub with_section : List Id → ℕ → ℕ → Option Cert → List SectionOf → List SectionOf
+abbrev pub with_section : List Id → ℕ → ℕ → Option Shown → List SectionOf → List SectionOf
 with_section names k i None ss = ss
-with_section names k i (Some cert) ss = spelled names k i cert ∷ ss
+with_section names k i (Some x) ss = spelled names k i x ∷ ss
 
 -- the sections of implementation k from place i on, where these are the certificates
-abbrev pub row : List Id → ℕ → ℕ → List (Option Cert) → List SectionOf
+abbrev pub row : List Id → ℕ → ℕ → List (Option Shown) → List SectionOf
 row names k i [] = []
 row names k i (c ∷ cs) = with_section names k i c (row names k (suc i) cs)
 
 -- those of the implementations from number k on
-abbrev pub rows : List Id → ℕ → List (List (Option Cert)) → List SectionOf
+abbrev pub rows : List Id → ℕ → List (List (Option Shown)) → List SectionOf
 rows names k [] = []
 rows names k (cs ∷ css) = row names k 0 cs ++ rows names (suc k) css

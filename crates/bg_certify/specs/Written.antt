@@ -1,5 +1,5 @@
 -- What a certificate of an outcome says.
-use Rattle.std.specs.Prelude.{◌≡◌, ◌⊎◌, ℕ, false, List, None, Some, Contains, slice_get}
+use Rattle.std.specs.Prelude.{◌≡◌, ◌⊎◌, ℕ, false, List, map, None, Some, Contains, slice_get}
 use Rattle.bg_ast.specs.Resolved as r
 use Rattle.bg_ast.specs.Meaning.{meaning_of}
 use Rattle.bg_words.specs.Sets.{has}
@@ -8,7 +8,7 @@ use Rattle.bg_check.specs.declared.verdict.Judged.{Judged}
 use Rattle.bg_check.specs.Verdicts.{is_proved, placed_at, judged}
 use Rattle.bg_houdini.specs.declared.outcome.Outcome as houdini
 use Rattle.bg_inference.specs.declared.outcome.Outcome.{Outcome}
-use Rattle.bg_inference.specs.Outcomes.{judged_program, IsTrueOutcome}
+use Rattle.bg_inference.specs.Outcomes.{has_body, judged_program, IsTrueOutcome}
 use Rattle.bg_tree.specs.declared.outcome.Budget.{Budget}
 use Rattle.bg_certtext.specs.Views.{CertOf}
 use Rattle.bg_certtext.specs.Texts.{text_of}
@@ -16,7 +16,7 @@ use Rattle.bg_certtext.specs.Spellable.{IsSpellable}
 use Rattle.bg_accept.specs.Names.{unplaced}
 use Rattle.bg_accept.specs.Sections.{section_at}
 use Rattle.bg_accept.specs.Accepted.{retained_by, IsRequired, IsShown, extra}
-use Rattle.bg_certify.specs.Given.{constant_names, interp_by}
+use Rattle.bg_certify.specs.Given.{NamesOf, constant_names, function_names, interp_by}
 
 -- the outcome has a verdict on this place of implementation k, which isn't that it is proved
 pub record IsUnproved (o : houdini.Outcome) (k : ℕ) (a : Placed) : Type 0 where
@@ -38,10 +38,15 @@ pub record HasSections (p : r.Program) (o : houdini.Outcome) (c : CertOf) : Type
       IsShown (meaning_of p) (retained_by p c) p.candidates c.sections i a.place
       ⊎ (IsUnproved o k a × (section_at k i c.sections ≡ None))
 
--- the interpretation gives the constants the values that were found to meet the axioms, and there is none where none was found; the rest
--- is of the opened program
+-- the names of a program's constants and functions
+abbrev pub names_of : r.Program → NamesOf
+names_of p =
+    record { constants = constant_names p.constants; functions = function_names p.functions; bodies = map has_body p.functions }
+
+-- the interpretation gives the constants and the functions without a body the values and tables that were found to meet the axioms, and
+-- there is none where none was found; the rest is of the opened program
 pub record IsWritten (p : r.Program) (o : Outcome) (c : CertOf) : Type 0 where
-  pub interp : c.interp ≡ interp_by (constant_names p.constants) o.axioms
+  pub interp : c.interp ≡ interp_by (names_of p) o.axioms
   pub sections : HasSections (judged_program p) o.judged c
 
 -- the text is that of such a certificate

@@ -4,7 +4,7 @@ ghost use Rattle.bg_ast.specs.Resolved as r;
 ghost use Rattle.bg_certify.specs.Names.{HasOwnNames};
 ghost use Rattle.bg_certify.specs.Written.{IsTrueOf, IsCertText};
 
-use crate::given::{constants_of, interp_by};
+use crate::given::interp_by;
 use crate::names::retained_names;
 use crate::sections::sections;
 use bg_cert::laws::accepted_where_used;
@@ -13,7 +13,8 @@ use bg_inference::Outcome;
 use bg_places::laws::placed_are_places;
 use std::alloc::{AllocError, Global};
 
-/// The text of the certificate of an outcome: the values of the constants that were found to meet the axioms, the names of the retained
+/// The text of the certificate of an outcome: the values of the constants and the tables of the functions without a body that were
+/// found to meet the axioms, the names of the retained
 /// candidates, and the certificate of each of their places and of each ordinary place that is proved.
 ///
 /// Only want of memory is an error; a number past 2^127 - 1 counts as such.
@@ -26,7 +27,7 @@ pub fn certificate_text(alloc: Global, outcome: &Outcome) -> Result<Vec<u8>, All
     let program = &outcome.opened;
     let judged = &outcome.judged;
     let cert = CertText {
-        interp: interp_by(alloc, constants_of(outcome), &outcome.axioms)?,
+        interp: interp_by(alloc, outcome)?,
         retained: retained_names(
             alloc,
             program.candidates.as_slice(),

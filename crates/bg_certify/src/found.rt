@@ -4,37 +4,52 @@ ghost use Rattle.bg_text.specs.Views.{option_of};
 ghost use Rattle.bg_ast.specs.Views.{candidate_of};
 ghost use Rattle.bg_words.specs.Sets.{has};
 ghost use Rattle.bg_certify.specs.Found.{cert_judged, cert_for, kept_behind, judged_behind};
+ghost use Rattle.bg_certify.specs.Seen.{seen_as};
 
 use bg_base::CandId;
 use bg_cert::Cert;
 use bg_check::{Judged, Verdict};
-use bg_houdini::{Outcome, Reason};
+use bg_houdini::{Outcome, Proof, Reason};
 use bg_rounds::Kept;
+use bg_term_table::Instance;
+
+/// A certificate of a place's clauses behind instances.
+#[derive(Clone, Copy)]
+pub(crate) struct Found<'o> {
+    pub(crate) instances: &'o [Instance],
+    pub(crate) cert: &'o Cert,
+}
 
 /// The kept certificate of a task, where its candidate is retained.
 fn kept_cert<'o>(
-    inferred: &'o bg_rounds::Outcome<Cert, Reason>,
+    inferred: &'o bg_rounds::Outcome<Proof, Reason>,
     b: CandId,
     task: usize,
-) -> Option<&'o Cert>
-    ensures { option_of (λ c. c.now) result ≡ cert_for (has inferred.now.retained) (drop task inferred.now.kept.items) [] (Some b.0) }
+) -> Option<Found<'o>>
+    ensures { option_of seen_as result ≡ cert_for (has inferred.now.retained) (drop task inferred.now.kept.items) [] (Some b.0) }
 {
     if b.0 >= inferred.retained.declared() || !inferred.retained.has(b) {
         return None;
     }
     match inferred.kept.get(task) {
-        Some(Some(kept)) => Some(&kept.proof),
+        Some(Some(kept)) => Some(Found {
+            instances: kept.proof.instances.as_slice(),
+            cert: &kept.proof.cert,
+        }),
         _ => None,
     }
 }
 
 /// The certificate of a verdict, where it says that the place is proved.
-fn proved_cert<'o>(judged: &'o [Judged], ordinary: usize) -> Option<&'o Cert>
-    ensures { option_of (λ c. c.now) result ≡ cert_judged (slice_get (drop ordinary judged.now) 0) }
+fn proved_cert<'o>(judged: &'o [Judged], ordinary: usize) -> Option<Found<'o>>
+    ensures { option_of seen_as result ≡ cert_judged (slice_get (drop ordinary judged.now) 0) }
 {
     match judged.get(ordinary) {
         Some(one) => match &one.verdict {
-            Verdict::Proved(cert) => Some(cert),
+            Verdict::Proved(instances, cert) => Some(Found {
+                instances: instances.as_slice(),
+                cert,
+            }),
             _ => None,
         },
         None => None,
@@ -43,14 +58,14 @@ fn proved_cert<'o>(judged: &'o [Judged], ordinary: usize) -> Option<&'o Cert>
 
 /// The certificate that an outcome has for a place of this candidate or of none, where so many tasks and ordinary places of its
 /// implementation are before it.
-pub(crate) fn found<'o>(
+pub(crate) fn found_for<'o>(
     outcome: &'o Outcome,
     judged: &'o [Judged],
     candidate: Option<CandId>,
     task: usize,
     ordinary: usize,
-) -> Option<&'o Cert>
-    ensures { option_of (λ c. c.now) result ≡ cert_for (has outcome.now.inferred.retained) (drop task outcome.now.inferred.kept.items) (drop ordinary judged.now) (option_of candidate_of candidate) }
+) -> Option<Found<'o>>
+    ensures { option_of seen_as result ≡ cert_for (has outcome.now.inferred.retained) (drop task outcome.now.inferred.kept.items) (drop ordinary judged.now) (option_of candidate_of candidate) }
 {
     match candidate {
         Some(b) => kept_cert(&outcome.inferred, b, task),
@@ -60,7 +75,7 @@ pub(crate) fn found<'o>(
 
 /// The task behind a place of this candidate, or of none.
 pub(crate) fn next_task(
-    kept: &[Option<Kept<Cert>>],
+    kept: &[Option<Kept<Proof>>],
     candidate: Option<CandId>,
     task: usize,
 ) -> usize

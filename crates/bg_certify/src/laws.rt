@@ -22,6 +22,6 @@ pub fn candidates_have_names_of_their_own()
 /// A program accepts the certificate of an outcome that is true of it, where its status is 0: the axioms are consistent, and each
 /// implementation is verified.
 pub fn verified_programs_are_accepted()
-    ensures { (budget : Budget) (p : Program) (o : Outcome) (words : Cause → Why) (c : CertOf) → IsTrueOutcome budget p o →
+    ensures { (budget : Budget) (p : Program) (o : Outcome) (words : ℕ → Cause → Why) (c : CertOf) → IsTrueOutcome budget p o →
         status_of (outcome_of words (meaning_of p) o) ≡ 0 → IsWritten p o c → IsAccepted p c }
 {}

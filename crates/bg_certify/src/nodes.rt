@@ -2,13 +2,14 @@
 ghost use Rattle.std.specs.Prelude.{◌≡◌, map, IfOk};
 ghost use Rattle.bg_text.specs.Views.{id_of};
 ghost use Rattle.bg_certtext.specs.Views.{row_of, node_of};
-ghost use Rattle.bg_certify.specs.Spelled.{spelled_term, spelled_row, spelled_node};
+ghost use Rattle.bg_certify.specs.Spelled.{spelled_instance, spelled_term, spelled_row, spelled_node};
 
 use crate::names::name_at;
 use bg_cert::Node;
-use bg_certtext::{Term, TextNode, TextRow};
+use bg_certtext::{Stated, Term, TextNode, TextRow};
 use bg_formula::Linear;
 use bg_rows::Entry;
+use bg_term_table::Instance;
 use bg_text::Name;
 use std::alloc::{AllocError, Global};
 
@@ -39,6 +40,28 @@ pub(crate) fn text_nodes<'p>(
     let mut made = Vec::new(alloc);
     for node in nodes {
         made.push(text_node(alloc, names, node)?)?;
+    }
+    Ok(made)
+}
+
+fn text_instance(instance: Instance) -> Stated
+    ensures { result ≡ spelled_instance instance }
+{
+    match instance {
+        Instance::Congruent(a, b) => Stated::Congruent(u128::from(a), u128::from(b)),
+    }
+}
+
+/// The lines of instances.
+pub(crate) fn text_instances(
+    alloc: Global,
+    instances: &[Instance],
+) -> Result<Vec<Stated>, AllocError>
+    ensures { IfOk result (λ made. made.items ≡ map spelled_instance instances.now) }
+{
+    let mut made = Vec::new(alloc);
+    for instance in instances {
+        made.push(text_instance(*instance))?;
     }
     Ok(made)
 }

@@ -10,11 +10,11 @@ ghost use Rattle.bg_check.specs.declared.verdict.Judged.{Judged};
 ghost use Rattle.bg_check.specs.Verdicts.{judged};
 ghost use Rattle.bg_certify.specs.Spelled.{spelled, with_section, row, rows};
 ghost use Rattle.bg_certify.specs.Found.{certs_for, kept_after, certs_from};
+ghost use Rattle.bg_certify.specs.Seen.{seen_as};
 
-use crate::found::{found, next_ordinary, next_task};
-use crate::nodes::{text_nodes, text_table};
+use crate::found::{Found, found_for, next_ordinary, next_task};
+use crate::nodes::{text_instances, text_nodes, text_table};
 use bg_ast::resolved::Resolved;
-use bg_cert::Cert;
 use bg_certtext::Section;
 use bg_houdini::Outcome;
 use bg_places::places_of;
@@ -27,15 +27,16 @@ fn section<'p>(
     names: &'p [Name],
     k: usize,
     i: usize,
-    cert: &Cert,
+    found: Found<'_>,
 ) -> Result<Section<'p>, AllocError>
-    ensures { IfOk result (λ made. section_of made ≡ spelled (map id_of names.now) k i cert.now) }
+    ensures { IfOk result (λ made. section_of made ≡ spelled (map id_of names.now) k i (seen_as found.entry)) }
 {
     Ok(Section {
         implementation: k as u128,
         place: i as u128,
-        table: text_table(alloc, cert.table.as_slice())?,
-        nodes: text_nodes(alloc, names, cert.nodes.as_slice())?,
+        stated: text_instances(alloc, found.instances)?,
+        table: text_table(alloc, found.cert.table.as_slice())?,
+        nodes: text_nodes(alloc, names, found.cert.nodes.as_slice())?,
     })
 }
 
@@ -46,9 +47,9 @@ fn push_section<'p>(
     names: &'p [Name],
     k: usize,
     i: usize,
-    cert: Option<&Cert>,
+    cert: Option<Found<'_>>,
 ) -> Result<(), AllocError>
-    ensures { OnOk result (map section_of made.new.items ≡ map section_of made.old.items ++ with_section (map id_of names.now) k i (option_of (λ c. c.now) cert.entry) []) }
+    ensures { OnOk result (map section_of made.new.items ≡ map section_of made.old.items ++ with_section (map id_of names.now) k i (option_of seen_as cert.entry) []) }
 {
     match cert {
         Some(cert) => {
@@ -80,7 +81,7 @@ fn push_sections<'p>(
     let mut ordinary = 0;
     for i in 0..places.len() {
         let candidate = places[i].candidate;
-        let cert = found(outcome, judged, candidate, next, ordinary);
+        let cert = found_for(outcome, judged, candidate, next, ordinary);
         push_section(alloc, made, program.candidates.as_slice(), k, i, cert)?;
         next = next_task(outcome.inferred.kept.as_slice(), candidate, next);
         ordinary = next_ordinary(judged, candidate, ordinary);

@@ -4,6 +4,12 @@ pub mod Newlines
 pub mod Decimals
 pub mod Spaced
 pub mod Lists
+pub mod KeyParts
+pub mod Commas
+pub mod Apart
+pub mod KeyValues
+pub mod Tabled
+pub mod Entries
 pub mod Joined
 pub mod Runs
 pub mod Written
@@ -12,6 +18,8 @@ pub mod ReadsOptions
 pub mod ReadsNumbers
 pub mod ReadsWords
 pub mod ReadsGivens
+pub mod ReadsFunctions
+pub mod ReadsStated
 pub mod ReadsLists
 pub mod ReadsSteps
 pub mod ReadsNodes

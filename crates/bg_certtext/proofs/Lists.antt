@@ -14,7 +14,7 @@ front xs (Some ys) = Some (xs ++ ys)
 abbrev put : {A : Type 0} → A → Option (List A) → Option (List A)
 put x o = then_ o (λ ys. Some (x ∷ ys))
 
-front_put : {A : Type 0} (xs : List A) (x : A) (o : Option (List A)) → front xs (put x o) ≡ front (xs ++ x ∷ []) o
+pub front_put : {A : Type 0} (xs : List A) (x : A) (o : Option (List A)) → front xs (put x o) ≡ front (xs ++ x ∷ []) o
 front_put xs x None = refl
 front_put xs x (Some ys) = ap (λ zs. Some zs) (sym (append_assoc xs (x ∷ []) ys))
 
@@ -22,7 +22,7 @@ append_nothing : {A : Type 0} (xs : List A) → xs ++ [] ≡ xs
 append_nothing [] = refl
 append_nothing (x ∷ xs) = ap (λ ys. x ∷ ys) (append_nothing xs)
 
-front_all : {A : Type 0} (xs : List A) → front xs (Some []) ≡ Some xs
+pub front_all : {A : Type 0} (xs : List A) → front xs (Some []) ≡ Some xs
 front_all xs = ap (λ zs. Some zs) (append_nothing xs)
 
 literals_step : (made : List Named) (w : List ℕ) (ws : List (List ℕ)) (l : Named) → literal_in w ≡ Some l → front made (literals_in (w ∷ ws)) ≡ front (made ++ l ∷ []) (literals_in ws)

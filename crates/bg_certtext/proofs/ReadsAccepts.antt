@@ -4,15 +4,18 @@ use Rattle.std.proofs.lemmas.Bool.{ne_eqb}
 use Rattle.std.specs.List.{list_all}
 use Rattle.bg_certtext.specs.declared.draft.Stage.{Stage}
 use Rattle.bg_certtext.specs.declared.draft.Stage.TheVariants as at
-use Rattle.bg_certtext.specs.Views.{RowOf, NodeOf, SectionOf, GivenOf, CertOf}
-use Rattle.bg_certtext.specs.Spellable.{IsSpellable, is_given, is_interp, is_name, is_number, is_row, is_node, is_section, are_trees}
-use Rattle.bg_certtext.specs.Texts.{lines_of, given_words, retain_words, interp_lines, place_words, section_lines, table_lines, row_words, node_lines, end_words}
+use Rattle.bg_certtext.specs.Views.{RowOf, NodeOf, SectionOf, GivenOf, FunctionOf, CertOf}
+use Rattle.bg_certtext.specs.declared.text.Stated.{Stated}
+use Rattle.bg_certtext.specs.Spellable.{IsSpellable, is_given, is_function, is_interp, is_stated, is_name, is_number, is_row, is_node, is_section, are_trees}
+use Rattle.bg_certtext.specs.Texts.{lines_of, given_words, function_words, stated_words, retain_words, interp_lines, place_words, section_lines, table_lines, row_words, node_lines, end_words}
 use Rattle.bg_certtext.specs.Machine.{DraftOf, start, next, after, cert_in}
 use Rattle.bg_certtext.proofs.ReadsOptions.{both}
 use Rattle.bg_certtext.proofs.ReadsNumbers.{natural_read}
 use Rattle.bg_certtext.proofs.ReadsWords.{count_read}
 use Rattle.bg_certtext.proofs.ReadsGivens.{given_read}
-use Rattle.bg_certtext.proofs.ReadsStates.{Interp, Head, AtInterp, AtGivens, AtRetained, Lines, open_draft, head_draft, first_head, draft_at, with_open, counted}
+use Rattle.bg_certtext.proofs.ReadsFunctions.{function_read}
+use Rattle.bg_certtext.proofs.ReadsStated.{stated_read}
+use Rattle.bg_certtext.proofs.ReadsStates.{Interp, Head, AtInterp, AtGivens, AtRetained, Lines, interp_with, open_draft, head_draft, first_head, draft_at, with_open, counted}
 use Rattle.bg_certtext.proofs.ReadsForwards.{after_join, after_first, rows_run, tree_run}
 
 -- ---- a place
@@ -23,7 +26,10 @@ between true = at.Retained
 between false = at.Sections
 
 abbrev placed : Head → SectionOf → Head
-placed h s = record h { implementation = s.implementation; place = s.place }
+placed h s = record h { implementation = s.implementation; place = s.place; stated = [] }
+
+abbrev with_all : Head → List Stated → Head
+with_all h ss = record h { stated = ss }
 
 place_next : (first : Bool) (h : Head) (s : SectionOf) → is_number s.implementation ≡ true → is_number s.place ≡ true → next (place_words s.implementation s.place) (head_draft (between first) h) ≡ Some (open_draft at.Table (placed h s) [] [] [] 1 0)
 place_next true h s i k = rw (natural_read s.implementation i, natural_read s.place k) refl
@@ -43,26 +49,40 @@ table_run h (r ∷ rs) nodes k f g e =
     ∙ after_join (map row_words (r ∷ rs)) more d (open_draft at.Nodes h (r ∷ rs) [] [] 1 0) (rows_run r rs h [] f)
     ∙ tree_run nodes false 0 h (r ∷ rs) [] g e
 
-section_run : (first : Bool) (h : Head) (s : SectionOf) → is_section s ≡ true → after (section_lines s) (head_draft (between first) h) ≡ Some (head_draft at.Sections (with_open (placed h s) s.table s.nodes))
+stated_run : (ss : List Stated) (h : Head) (done : List Stated) → list_all is_stated ss ≡ true → after (map stated_words ss) (open_draft at.Table (with_all h done) [] [] [] 1 0) ≡ Some (open_draft at.Table (with_all h (done ++ ss)) [] [] [] 1 0)
+stated_run [] h done k = ap (λ (ss : List Stated). Some (open_draft at.Table (with_all h ss) [] [] [] 1 0)) (sym (append-nil done))
+stated_run (s ∷ ss) h done k =
+    let p = both (is_stated s) (list_all is_stated ss) k in
+    let d : DraftOf = open_draft at.Table (with_all h done) [] [] [] 1 0 in
+    let e : DraftOf = open_draft at.Table (with_all h (done ++ s ∷ [])) [] [] [] 1 0 in
+    let took : next (stated_words s) d ≡ Some e = rw (stated_read s p.0) refl in
+    after_first (stated_words s) (map stated_words ss) d e took
+    ∙ stated_run ss h (done ++ s ∷ []) p.1
+    ∙ ap (λ (rs : List Stated). Some (open_draft at.Table (with_all h rs) [] [] [] 1 0)) (append_assoc done (s ∷ []) ss)
+
+section_run : (first : Bool) (h : Head) (s : SectionOf) → is_section s ≡ true → after (section_lines s) (head_draft (between first) h) ≡ Some (head_draft at.Sections (with_open (with_all (placed h s) s.stated) s.table s.nodes))
 section_run first h s k =
     let k1 = both (is_number s.implementation) _ k in
     let k2 = both (is_number s.place) _ k1.1 in
-    let k3 = both (is_number (length s.table)) _ k2.1 in
+    let k0 = both (list_all is_stated s.stated) _ k2.1 in
+    let k3 = both (is_number (length s.table)) _ k0.1 in
+    let rest : Lines = table_lines s.table ++ flat_map node_lines s.nodes in
     let k4 = both (list_all is_row s.table) _ k3.1 in
     let k5 = both (list_all is_node s.nodes) (are_trees 1 s.nodes) k4.1 in
-    after_first (place_words s.implementation s.place) (table_lines s.table ++ flat_map node_lines s.nodes) (head_draft (between first) h) (open_draft at.Table (placed h s) [] [] [] 1 0) (place_next first h s k1.0 k2.0)
-    ∙ table_run (placed h s) s.table s.nodes k3.0 k4.0 k5.0 k5.1
+    after_first (place_words s.implementation s.place) (map stated_words s.stated ++ rest) (head_draft (between first) h) (open_draft at.Table (placed h s) [] [] [] 1 0) (place_next first h s k1.0 k2.0)
+    ∙ after_join (map stated_words s.stated) rest (open_draft at.Table (placed h s) [] [] [] 1 0) (open_draft at.Table (with_all (placed h s) s.stated) [] [] [] 1 0) (stated_run s.stated (placed h s) [] k0.0)
+    ∙ table_run (with_all (placed h s) s.stated) s.table s.nodes k3.0 k4.0 k5.0 k5.1
 
 -- ---- all places, and the end
 
 abbrev behind_all : Head → List SectionOf → Head
 behind_all h [] = h
-behind_all h (s ∷ ss) = behind_all (with_open (placed h s) s.table s.nodes) ss
+behind_all h (s ∷ ss) = behind_all (with_open (with_all (placed h s) s.stated) s.table s.nodes) ss
 
 behind_is : (h : Head) (ss : List SectionOf) → cert_in (head_draft at.End (behind_all h ss)) ≡ record { interp = h.interp; retained = h.retained; sections = h.sections ++ ss }
 behind_is h [] = ap (λ (ts : List SectionOf). let c : CertOf = record { interp = h.interp; retained = h.retained; sections = ts } in c) (sym (append-nil h.sections))
 behind_is h (s ∷ ss) =
-    behind_is (with_open (placed h s) s.table s.nodes) ss
+    behind_is (with_open (with_all (placed h s) s.stated) s.table s.nodes) ss
     ∙ ap (λ (ts : List SectionOf). let c : CertOf = record { interp = h.interp; retained = h.retained; sections = ts } in c) (append_assoc h.sections (s ∷ []) ss)
 
 sections_run : (ss : List SectionOf) (first : Bool) (h : Head) → list_all is_section ss ≡ true → after (flat_map section_lines ss ++ end_words ∷ []) (head_draft (between first) h) ≡ Some (head_draft at.End (behind_all h ss))
@@ -71,7 +91,7 @@ sections_run [] false h k = refl
 sections_run (s ∷ ss) first h k =
     let p = both (is_section s) (list_all is_section ss) k in
     let more : Lines = flat_map section_lines ss in
-    let behind : Head = with_open (placed h s) s.table s.nodes in
+    let behind : Head = with_open (with_all (placed h s) s.stated) s.table s.nodes in
     ap (λ (ls : Lines). after ls (head_draft (between first) h)) (append_assoc (section_lines s) more (end_words ∷ []))
     ∙ after_join (section_lines s) (more ++ end_words ∷ []) (head_draft (between first) h) (head_draft at.Sections behind) (section_run first h s p.0)
     ∙ sections_run ss false behind p.1
@@ -98,21 +118,59 @@ givens_run (g ∷ gs) done k =
     ∙ givens_run gs (done ++ g ∷ []) p.1
     ∙ ap (λ (gs : List GivenOf). Some (draft_at (AtGivens gs))) (append_assoc done (g ∷ []) gs)
 
+-- the stages in which a function may stand: behind the constants, or behind another function
+abbrev at_function : Bool → Stage
+at_function true = at.Givens
+at_function false = at.Functions
+
+function_next : (first : Bool) (gs : List GivenOf) (f : FunctionOf) (done : List FunctionOf) → is_function f ≡ true → next (function_words f) (head_draft (at_function first) (first_head (Some (interp_with gs done)) [])) ≡ Some (head_draft at.Functions (first_head (Some (interp_with gs (done ++ f ∷ []))) []))
+function_next true gs f done k = rw (function_read f k) refl
+function_next false gs f done k = rw (function_read f k) refl
+
+-- the stage behind these functions
+abbrev stage_behind : Bool → List FunctionOf → Stage
+stage_behind first [] = at_function first
+stage_behind first (f ∷ fs) = at.Functions
+
+stage_then : (fs : List FunctionOf) → stage_behind false fs ≡ at.Functions
+stage_then [] = refl
+stage_then (f ∷ fs) = refl
+
+functions_run : (fs : List FunctionOf) (first : Bool) (gs : List GivenOf) (done : List FunctionOf) → list_all is_function fs ≡ true → after (map function_words fs) (head_draft (at_function first) (first_head (Some (interp_with gs done)) [])) ≡ Some (head_draft (stage_behind first fs) (first_head (Some (interp_with gs (done ++ fs))) []))
+functions_run [] first gs done k = ap (λ (fs : List FunctionOf). Some (head_draft (at_function first) (first_head (Some (interp_with gs fs)) []))) (sym (append-nil done))
+functions_run (f ∷ fs) first gs done k =
+    let p = both (is_function f) (list_all is_function fs) k in
+    let d : DraftOf = head_draft (at_function first) (first_head (Some (interp_with gs done)) []) in
+    let e : DraftOf = head_draft at.Functions (first_head (Some (interp_with gs (done ++ f ∷ []))) []) in
+    after_first (function_words f) (map function_words fs) d e (function_next first gs f done p.0)
+    ∙ functions_run fs false gs (done ++ f ∷ []) p.1
+    ∙ ap (λ (st : Stage). Some (head_draft st (first_head (Some (interp_with gs ((done ++ f ∷ []) ++ fs))) []))) (stage_then fs)
+    ∙ ap (λ (hs : List FunctionOf). Some (head_draft at.Functions (first_head (Some (interp_with gs hs)) []))) (append_assoc done (f ∷ []) fs)
+
 -- the stage behind the interpretation
 abbrev opened : Interp → Stage
 opened None = at.Retained
-opened (Some gs) = at.Givens
+opened (Some i) = stage_behind true i.functions
 
 interp_run : (i : Interp) → is_interp i ≡ true → after (interp_lines i) (draft_at AtInterp) ≡ Some (head_draft (opened i) (first_head i []))
 interp_run None k = refl
-interp_run (Some gs) k = givens_run gs [] k
+interp_run (Some i) k =
+    let p = both (list_all is_given i.constants) (list_all is_function i.functions) k in
+    after_join (map given_words i.constants) (map function_words i.functions) (draft_at (AtGivens [])) (draft_at (AtGivens i.constants)) (givens_run i.constants [] p.0)
+    ∙ functions_run i.functions true i.constants [] p.1
 
 -- the lines behind it make the same of it as where a name stands in front
 behind_interp : (i : Interp) (names : List (List ℕ)) (ss : List SectionOf) → after (map retain_words names ++ (flat_map section_lines ss ++ end_words ∷ [])) (head_draft (opened i) (first_head i [])) ≡ after (map retain_words names ++ (flat_map section_lines ss ++ end_words ∷ [])) (draft_at (AtRetained i []))
 behind_interp None names ss = refl
-behind_interp (Some gs) [] [] = refl
-behind_interp (Some gs) [] (s ∷ ss) = refl
-behind_interp (Some gs) (n ∷ ns) ss = refl
+behind_interp (Some i) names ss = by i.constants i.functions names ss
+  where
+    by : (gs : List GivenOf) (fs : List FunctionOf) (names : List (List ℕ)) (ss : List SectionOf) → after (map retain_words names ++ (flat_map section_lines ss ++ end_words ∷ [])) (head_draft (stage_behind true fs) (first_head (Some (interp_with gs fs)) [])) ≡ after (map retain_words names ++ (flat_map section_lines ss ++ end_words ∷ [])) (draft_at (AtRetained (Some (interp_with gs fs)) []))
+    by gs [] [] [] = refl
+    by gs [] [] (s ∷ ss) = refl
+    by gs [] (n ∷ ns) ss = refl
+    by gs (f ∷ fs) [] [] = refl
+    by gs (f ∷ fs) [] (s ∷ ss) = refl
+    by gs (f ∷ fs) (n ∷ ns) ss = refl
 
 -- ---- a certificate
 

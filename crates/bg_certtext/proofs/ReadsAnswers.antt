@@ -19,7 +19,7 @@ use Rattle.bg_certtext.proofs.Joined.{spaced_words}
 use Rattle.bg_certtext.proofs.ReadsOptions.{then_made, same_some, both}
 use Rattle.bg_certtext.proofs.ReadsNumbers.{integer_back, integer_read}
 use Rattle.bg_certtext.proofs.ReadsWords.{same_word}
-use Rattle.bg_certtext.proofs.ReadsStates.{State, AtVersion, AtInterp, AtGivens, AtRetained, AtTable, AtRows, AtNodes, AtSteps, AtSections, AtEnd, Lines, Good, draft_at, written}
+use Rattle.bg_certtext.proofs.ReadsStates.{State, AtVersion, AtInterp, AtGivens, AtFunctions, AtRetained, AtTable, AtRows, AtNodes, AtSteps, AtSections, AtEnd, Lines, Good, draft_at, written}
 use Rattle.bg_certtext.proofs.ReadsRuns.{run_stays}
 use Rattle.bg_certtext.proofs.ReadsWholes.{head_spells, good_begins}
 use Rattle.bg_certtext.proofs.ReadsForwards.{after_join}
@@ -37,6 +37,7 @@ at_end : (s : State) → Good s → (draft_at s).stage ≡ at.End → Wholes (wr
 at_end AtVersion g e = absurd (cc)
 at_end AtInterp g e = absurd (cc)
 at_end (AtGivens gs) g e = absurd (cc)
+at_end (AtFunctions gs fs) g e = absurd (cc)
 at_end (AtRetained i names) g e = absurd (cc)
 at_end (AtTable h) g e = absurd (cc)
 at_end (AtRows h table m) g e = absurd (cc)

@@ -10,11 +10,14 @@ use Rattle.bg_rows.specs.declared.step.Step.TheVariants.{Path, Sum, Tight}
 use Rattle.bg_cert.specs.declared.cert.Named.{Named}
 use Rattle.bg_cert.specs.declared.cert.Named.TheVariants.{OfAtom, OfRow}
 use Rattle.bg_certtext.specs.declared.text.Term.{Term}
+use Rattle.bg_certtext.specs.declared.text.Stated.{Stated}
+use Rattle.bg_certtext.specs.declared.text.Stated.TheVariants as said
 use Rattle.bg_certtext.specs.declared.text.Value.{Value}
 use Rattle.bg_certtext.specs.declared.text.Value.TheVariants.{Truth, Number}
-use Rattle.bg_certtext.specs.Views.{RowOf, NodeOf, Splits, Bounds, Cuts, Learns, IsClause, IsUnit, IsKnown, Derives, SectionOf, GivenOf, CertOf}
-use Rattle.bg_certtext.specs.Spellable.{IsSpellable, is_inside_word, is_empty, is_name, is_number, is_zero, is_factor, is_row, is_literal, is_step, is_node, is_section, is_value, is_given, is_interp, are_terms, are_steps, are_trees}
-use Rattle.bg_certtext.specs.Texts.{literal_word, step_words, node_words, node_lines, term_words, row_words, table_lines, place_words, section_lines, retain_words, value_word, given_words, interp_lines, version_words, end_words, lines_of}
+use Rattle.bg_certtext.specs.Views.{RowOf, NodeOf, Splits, Bounds, Cuts, Learns, IsClause, IsUnit, IsKnown, Derives, SectionOf, GivenOf, EntryOf, FunctionOf, InterpOf, CertOf}
+use Rattle.bg_certtext.specs.Lines.{behind_comma, commas}
+use Rattle.bg_certtext.specs.Spellable.{IsSpellable, is_inside_word, is_empty, is_name, is_number, is_zero, is_factor, is_row, is_literal, is_step, is_node, is_stated, is_section, is_value, is_given, is_entry, are_entries, is_function, is_interp, are_terms, are_steps, are_trees}
+use Rattle.bg_certtext.specs.Texts.{literal_word, step_words, node_words, node_lines, term_words, row_words, table_lines, stated_words, place_words, section_lines, retain_words, value_word, given_words, key_word, first_word, other_words, function_words, interp_lines, version_words, end_words, lines_of}
 use Rattle.bg_certtext.proofs.ReadsOptions.{both, all_of}
 
 -- a word has neither inside, a line at least one such word
@@ -150,16 +153,39 @@ table_clean [] h k = refl
 table_clean (r ∷ rs) h k =
     all_of (is_line (codes "table" ∷ decimal (length (r ∷ rs)) ∷ [])) (list_all is_line (map row_words (r ∷ rs))) (of_one (codes "table") (length (r ∷ rs)) refl h) (all_map is_line is_row row_words row_clean (r ∷ rs) k)
 
+two_line : (key : List ℕ) (a b : ℕ) → list_all is_above key ≡ true → (is_number a && is_number b) ≡ true → is_line (key ∷ decimal a ∷ decimal b ∷ []) ≡ true
+two_line key a b k h = let p = both (is_number a) (is_number b) h in triple key (decimal a) (decimal b) (plain key k) (number_clean a p.0) (number_clean b p.1)
+
+inst_line : (form : List ℕ) (ws : List (List ℕ)) → list_all is_above form ≡ true → list_all is_clean ws ≡ true → is_line (codes "inst" ∷ form ∷ ws) ≡ true
+inst_line form ws k h = rw (plain (codes "inst") refl, plain form k, h) refl
+
+two_clean : (a b : ℕ) → (is_number a && is_number b) ≡ true → list_all is_clean (decimal a ∷ decimal b ∷ []) ≡ true
+two_clean a b h = let p = both (is_number a) (is_number b) h in rw (number_clean a p.0, number_clean b p.1) refl
+
+stated_clean : (s : Stated) → is_stated s ≡ true → is_line (stated_words s) ≡ true
+stated_clean (said.Pick m a) h = two_line (codes "pick") m a refl h
+stated_clean (said.Names m n) h = two_line (codes "names") m n refl h
+stated_clean (said.Congruent a b) h = inst_line (codes "c") (decimal a ∷ decimal b ∷ []) refl (two_clean a b h)
+stated_clean (said.AtIndex u a) h = inst_line (codes "s") (decimal u ∷ decimal a ∷ []) refl (two_clean u a h)
+stated_clean (said.Elsewhere u a b) h =
+    let p = both (is_number u) (is_number a && is_number b) h in
+    inst_line (codes "d") (decimal u ∷ decimal a ∷ decimal b ∷ []) refl (all_of (is_clean (decimal u)) (list_all is_clean (decimal a ∷ decimal b ∷ [])) (number_clean u p.0) (two_clean a b p.1))
+stated_clean (said.Apart a b) h = inst_line (codes "x") (decimal a ∷ decimal b ∷ []) refl (two_clean a b h)
+stated_clean (said.Unequal a b) h = two_line (codes "apart") a b refl h
+
 section_clean : (s : SectionOf) → is_section s ≡ true → list_all is_line (section_lines s) ≡ true
 section_clean s k =
     let k1 = both (is_number s.implementation) _ k in
     let k2 = both (is_number s.place) _ k1.1 in
-    let k3 = both (is_number (length s.table)) _ k2.1 in
+    let k0 = both (list_all is_stated s.stated) _ k2.1 in
+    let k3 = both (is_number (length s.table)) _ k0.1 in
+    let rest : List (List (List ℕ)) = table_lines s.table ++ flat_map node_lines s.nodes in
     let k4 = both (list_all is_row s.table) _ k3.1 in
     let k5 = both (list_all is_node s.nodes) (are_trees 1 s.nodes) k4.1 in
-    all_of (is_line (place_words s.implementation s.place)) (list_all is_line (table_lines s.table ++ flat_map node_lines s.nodes))
+    all_of (is_line (place_words s.implementation s.place)) (list_all is_line (map stated_words s.stated ++ rest))
     (triple (codes "place") (decimal s.implementation) (decimal s.place) (plain (codes "place") refl) (number_clean s.implementation k1.0) (number_clean s.place k2.0))
-    (all_append is_line (table_lines s.table) (flat_map node_lines s.nodes) (table_clean s.table k3.0 k4.0) (all_flat is_line is_node node_lines node_clean s.nodes k5.0))
+    (all_append is_line (map stated_words s.stated) rest (all_map is_line is_stated stated_words stated_clean s.stated k0.0)
+    (all_append is_line (table_lines s.table) (flat_map node_lines s.nodes) (table_clean s.table k3.0 k4.0) (all_flat is_line is_node node_lines node_clean s.nodes k5.0)))
 
 value_clean : (v : Value) → is_value v ≡ true → is_clean (value_word v) ≡ true
 value_clean (Truth true) h = plain (codes "true") refl
@@ -171,10 +197,53 @@ given_clean g h =
     let p = both (is_name g.name) (is_value g.value) h in
     triple (codes "const") g.name (value_word g.value) (plain (codes "const") refl) (name_clean g.name p.0) (value_clean g.value p.1)
 
-interp_clean : (i : Option (List GivenOf)) → is_interp i ≡ true → list_all is_line (interp_lines i) ≡ true
+space_like : (is_inside_word 44 ≡ true) × (is_inside_word 91 ≡ true)
+unfolding is_inside_word
+space_like = (refl, refl)
+
+behind_clean : (ws : List (List ℕ)) → list_all is_clean ws ≡ true → is_clean (flat_map behind_comma ws) ≡ true
+behind_clean [] h = refl
+behind_clean (w ∷ ws) h =
+    let p = both (is_clean w) (list_all is_clean ws) h in
+    all_of (is_inside_word 44) (is_clean (w ++ flat_map behind_comma ws)) space_like.0 (all_append is_inside_word w (flat_map behind_comma ws) p.0 (behind_clean ws p.1))
+
+commas_clean : (ws : List (List ℕ)) → list_all is_clean ws ≡ true → is_clean (commas ws) ≡ true
+commas_clean [] h = refl
+commas_clean (w ∷ ws) h = let p = both (is_clean w) (list_all is_clean ws) h in all_append is_inside_word w (flat_map behind_comma ws) p.0 (behind_clean ws p.1)
+
+key_clean : (vs : List Value) → list_all is_value vs ≡ true → is_clean (key_word vs) ≡ true
+key_clean vs h = commas_clean (map value_word vs) (all_map is_clean is_value value_word value_clean vs h)
+
+first_clean : (es : List EntryOf) → list_all is_entry es ≡ true → is_clean (first_word es) ≡ true
+first_clean [] h = plain (codes "else") refl
+first_clean (e ∷ es) h = let p = both (is_entry e) (list_all is_entry es) h in key_clean e.key (both (list_all is_value e.key) (is_value e.value) p.0).0
+
+others_clean : (es : List EntryOf) (d : Value) → list_all is_entry es ≡ true → is_value d ≡ true → list_all is_clean (other_words es d) ≡ true
+others_clean [] d h k = all_of (is_clean (value_word d ++ codes "]")) true (all_append is_inside_word (value_word d) (codes "]") (value_clean d k) (plain (codes "]") refl)) refl
+others_clean (e ∷ es) d h k =
+    let p = both (is_entry e) (list_all is_entry es) h in
+    let q = both (list_all is_value e.key) (is_value e.value) p.0 in
+    let word : is_clean (value_word e.value ++ codes ",") ≡ true = all_append is_inside_word (value_word e.value) (codes ",") (value_clean e.value q.1) (plain (codes ",") refl) in
+    all_of (is_clean (codes ":=")) (list_all is_clean ((value_word e.value ++ codes ",") ∷ first_word es ∷ other_words es d)) (plain (codes ":=") refl)
+    (all_of (is_clean (value_word e.value ++ codes ",")) (list_all is_clean (first_word es ∷ other_words es d)) word
+    (all_of (is_clean (first_word es)) (list_all is_clean (other_words es d)) (first_clean es p.1) (others_clean es d p.1 k)))
+
+function_clean : (f : FunctionOf) → is_function f ≡ true → is_line (function_words f) ≡ true
+function_clean f h =
+    let h1 = both (is_name f.name) _ h in
+    let h2 = both (list_all is_entry f.entries) _ h1.1 in
+    let h3 = both (is_value f.default) (are_entries None f.default f.entries) h2.1 in
+    let opened : is_clean (91 ∷ first_word f.entries) ≡ true = all_of (is_inside_word 91) (is_clean (first_word f.entries)) space_like.1 (first_clean f.entries h2.0) in
+    all_of (is_clean (codes "function")) (list_all is_clean (f.name ∷ (91 ∷ first_word f.entries) ∷ other_words f.entries f.default)) (plain (codes "function") refl)
+    (all_of (is_clean f.name) (list_all is_clean ((91 ∷ first_word f.entries) ∷ other_words f.entries f.default)) (name_clean f.name h1.0)
+    (all_of (is_clean (91 ∷ first_word f.entries)) (list_all is_clean (other_words f.entries f.default)) opened (others_clean f.entries f.default h2.0 h3.0)))
+
+interp_clean : (i : Option InterpOf) → is_interp i ≡ true → list_all is_line (interp_lines i) ≡ true
 interp_clean None h = one_line (codes "no" ∷ codes "interp" ∷ []) (pair (codes "no") (codes "interp") (plain (codes "no") refl) (plain (codes "interp") refl))
-interp_clean (Some gs) h =
-    all_of (is_line (codes "interp" ∷ [])) (list_all is_line (map given_words gs)) (lone (codes "interp") (plain (codes "interp") refl)) (all_map is_line is_given given_words given_clean gs h)
+interp_clean (Some i) h =
+    let p = both (list_all is_given i.constants) (list_all is_function i.functions) h in
+    all_of (is_line (codes "interp" ∷ [])) (list_all is_line (map given_words i.constants ++ map function_words i.functions)) (lone (codes "interp") (plain (codes "interp") refl))
+    (all_append is_line (map given_words i.constants) (map function_words i.functions) (all_map is_line is_given given_words given_clean i.constants p.0) (all_map is_line is_function function_words function_clean i.functions p.1))
 
 pub lines_clean : (c : CertOf) → IsSpellable c → list_all is_line (lines_of c) ≡ true
 lines_clean c h =

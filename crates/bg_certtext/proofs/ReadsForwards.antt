@@ -9,7 +9,7 @@ use Rattle.bg_certtext.specs.declared.draft.Stage.TheVariants as at
 use Rattle.bg_certtext.specs.Views.{RowOf, NodeOf, Splits, Bounds, Cuts, Learns, IsClause, IsUnit, IsKnown, Derives}
 use Rattle.bg_certtext.specs.Spellable.{is_number, is_row, is_node, is_step, are_steps, are_trees, children}
 use Rattle.bg_certtext.specs.Texts.{node_words, node_lines, steps_of, row_words, step_words}
-use Rattle.bg_certtext.specs.Machine.{DraftOf, then_, closed, with_node, with_steps, with_step, with_row, on_node, on_table, next, after}
+use Rattle.bg_certtext.specs.Machine.{DraftOf, then_, closed, with_node, with_steps, with_step, with_row, on_node, on_stated, next, after}
 use Rattle.bg_certtext.proofs.ReadsOptions.{both}
 use Rattle.bg_certtext.proofs.ReadsNumbers.{natural_read, integer_read}
 use Rattle.bg_certtext.proofs.ReadsWords.{count_read}
@@ -99,7 +99,7 @@ rows_read s ss d h =
     let some : not (suc (length ss) == 0) ≡ true = ap not (ne_eqb (suc (length ss)) 0 (λ e. omega (arith, e))) in
     rw (count_read (suc (length ss)) h some) refl
 
-no_table : (n : NodeOf) (d : DraftOf) → on_table (node_words n) d ≡ on_node (node_words n) d
+no_table : (n : NodeOf) (d : DraftOf) → on_stated (node_words n) d ≡ on_node (node_words n) d
 no_table (Splits a) d = refl
 no_table (Bounds x k) d = refl
 no_table (Cuts r) d = refl

@@ -2,9 +2,10 @@
 use Rattle.std.proofs.Common.{◌≡◌, ℕ, suc, ◌+◌, Bool, true, List, [], ◌∷◌, ◌++◌, map, flat_map, length, codes, refl, ap, sym, ◌∙◌, append_assoc, append-nil, arith}
 use Rattle.std.specs.List.{list_all}
 use Rattle.bg_rows.specs.declared.step.Step.{Step}
+use Rattle.bg_certtext.specs.declared.text.Stated.{Stated}
 use Rattle.bg_certtext.specs.Views.{RowOf, NodeOf, Derives, SectionOf}
 use Rattle.bg_certtext.specs.Spellable.{is_step, are_steps}
-use Rattle.bg_certtext.specs.Texts.{retain_words, interp_lines, version_words, place_words, section_lines, row_words, step_words, table_lines, node_lines}
+use Rattle.bg_certtext.specs.Texts.{retain_words, interp_lines, version_words, place_words, section_lines, row_words, step_words, stated_words, table_lines, node_lines}
 use Rattle.bg_certtext.proofs.ReadsOptions.{both, all_of}
 use Rattle.bg_certtext.proofs.ReadsStates.{Head, Lines, with_open, open_section, head_lines, nodes_lines, rows_lines, steps_lines, counted}
 
@@ -43,19 +44,33 @@ head_more h table nodes =
 pub nodes_more : (h : Head) (table : List RowOf) (nodes : List NodeOf) (n : NodeOf) → nodes_lines h table (nodes ++ n ∷ []) ≡ nodes_lines h table nodes ++ node_lines n
 nodes_more h table nodes n =
     let place : List (List ℕ) = place_words h.implementation h.place in
-    ap (λ (ls : Lines). head_lines h ++ place ∷ ls)
+    let front : Lines = map stated_words h.stated in
+    ap (λ (ls : Lines). head_lines h ++ place ∷ (front ++ ls))
     (ap (λ (ls : Lines). table_lines table ++ ls) (flat_map_one node_lines nodes n) ∙ sym (append_assoc (table_lines table) (flat_map node_lines nodes) (node_lines n)))
-    ∙ sym (append_assoc (head_lines h) (place ∷ (table_lines table ++ flat_map node_lines nodes)) (node_lines n))
+    ∙ ap (λ (ls : Lines). head_lines h ++ place ∷ ls) (sym (append_assoc front (table_lines table ++ flat_map node_lines nodes) (node_lines n)))
+    ∙ sym (append_assoc (head_lines h) (place ∷ (front ++ (table_lines table ++ flat_map node_lines nodes))) (node_lines n))
+
+-- one more instance, in front of a table and nodes
+pub stated_more : (h : Head) (s : Stated) → nodes_lines (record h { stated = h.stated ++ s ∷ [] }) [] [] ≡ nodes_lines h [] [] ++ stated_words s ∷ []
+stated_more h s =
+    let place : List (List ℕ) = place_words h.implementation h.place in
+    let front : Lines = map stated_words h.stated in
+    ap (λ (ls : Lines). head_lines h ++ place ∷ ls)
+    (append-nil (map stated_words (h.stated ++ s ∷ [])) ∙ map_one stated_words h.stated s ∙ ap (λ (ls : Lines). ls ++ stated_words s ∷ []) (sym (append-nil front)))
+    ∙ sym (append_assoc (head_lines h) (place ∷ (front ++ [])) (stated_words s ∷ []))
 
 pub rows_more : (h : Head) (table : List RowOf) (r : RowOf) (n : ℕ) → rows_lines h (table ++ r ∷ []) n ≡ rows_lines h table n ++ row_words r ∷ []
 rows_more h table r n =
-    let front : Lines = place_words h.implementation h.place ∷ counted (codes "table") n ∷ [] in
-    ap (λ (ls : Lines). head_lines h ++ (front ++ ls)) (map_one row_words table r)
-    ∙ sym (append_assoc (head_lines h) (front ++ map row_words table) (row_words r ∷ []))
+    let place : List (List ℕ) = place_words h.implementation h.place in
+    let front : Lines = map stated_words h.stated in
+    let rows : Lines = counted (codes "table") n ∷ map row_words table in
+    ap (λ (ls : Lines). head_lines h ++ place ∷ (front ++ counted (codes "table") n ∷ ls)) (map_one row_words table r)
+    ∙ ap (λ (ls : Lines). head_lines h ++ place ∷ ls) (sym (append_assoc front rows (row_words r ∷ [])))
+    ∙ sym (append_assoc (head_lines h) (place ∷ (front ++ rows)) (row_words r ∷ []))
 
 pub table_whole : (h : Head) (r : RowOf) (rs : List RowOf) → rows_lines h (r ∷ rs) (length (r ∷ rs)) ≡ nodes_lines h (r ∷ rs) []
 table_whole h r rs =
-    ap (λ (ls : Lines). head_lines h ++ place_words h.implementation h.place ∷ ls) (sym (append-nil (counted (codes "table") (length (r ∷ rs)) ∷ map row_words (r ∷ rs))))
+    ap (λ (ls : Lines). head_lines h ++ place_words h.implementation h.place ∷ (map stated_words h.stated ++ ls)) (sym (append-nil (counted (codes "table") (length (r ∷ rs)) ∷ map row_words (r ∷ rs))))
 
 pub steps_more : (h : Head) (table : List RowOf) (nodes : List NodeOf) (ss : List Step) (s : Step) (n : ℕ) → steps_lines h table nodes (ss ++ s ∷ []) n ≡ steps_lines h table nodes ss n ++ step_words s ∷ []
 steps_more h table nodes ss s n =

@@ -16,7 +16,7 @@ use Rattle.bg_certtext.proofs.ReadsLines.{head_more, nodes_more, all_one}
 section_good : (h : Head) (table : List RowOf) (nodes : List NodeOf) → GoodNodes h table nodes 0 → is_section (open_section h table nodes) ≡ true
 section_good h table nodes g =
     let whole : are_trees 1 nodes ≡ true = ap (are_trees 1) (sym (append-nil nodes)) ∙ g.trees [] in
-    rw (g.rows.place.implementation, g.rows.place.place, g.rows.count, g.rows.rows, g.fine, whole) refl
+    rw (g.rows.place.implementation, g.rows.place.place, g.rows.place.stated, g.rows.count, g.rows.rows, g.fine, whole) refl
 
 pub sections_good : (h : Head) (table : List RowOf) (nodes : List NodeOf) → GoodNodes h table nodes 0 → GoodHead (with_open h table nodes)
 sections_good h table nodes g =

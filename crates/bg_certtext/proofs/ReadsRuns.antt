@@ -3,17 +3,18 @@ use Rattle.std.proofs.Common.{◌≡◌, ⊎_elim, ℕ, true, false, ◌&&◌, L
 use Rattle.std.specs.List.{list_all}
 use Rattle.bg_certtext.specs.declared.draft.Stage.{Stage}
 use Rattle.bg_certtext.specs.declared.draft.Stage.TheVariants as at
-use Rattle.bg_certtext.specs.Views.{GivenOf}
-use Rattle.bg_certtext.specs.Spellable.{is_empty, is_name, is_given, is_interp}
-use Rattle.bg_certtext.specs.Texts.{given_words, retain_words, interp_lines, version_words, place_words}
-use Rattle.bg_certtext.specs.Machine.{DraftOf, start, then_, two, name_in, given_in, with_place, with_name, with_given, on_section, on_retained, on_given, on_version, on_interp, next, after}
-use Rattle.bg_certtext.proofs.ReadsOptions.{then_made, when_made, if_made, same_some, both}
+use Rattle.bg_certtext.specs.Views.{GivenOf, FunctionOf}
+use Rattle.bg_certtext.specs.Spellable.{is_empty, is_name, is_given, is_function, is_interp}
+use Rattle.bg_certtext.specs.Texts.{given_words, function_words, retain_words, interp_lines, version_words, place_words}
+use Rattle.bg_certtext.specs.Machine.{DraftOf, start, then_, two, name_in, given_in, function_in, with_place, with_name, with_given, with_function, on_section, on_retained, on_function, on_given, on_version, on_interp, next, after}
+use Rattle.bg_certtext.proofs.ReadsOptions.{then_made, when_made, if_made, same_some, both, all_of}
 use Rattle.bg_certtext.proofs.ReadsWords.{same_word, two_back, name_back}
 use Rattle.bg_certtext.proofs.ReadsGivens.{given_back}
-use Rattle.bg_certtext.proofs.ReadsStates.{Interp, Head, State, AtVersion, AtInterp, AtGivens, AtRetained, AtTable, AtRows, AtNodes, AtSteps, AtSections, AtEnd, Lines, Stays, Goes, Good, GoodHead, head_draft, first_head, head_lines, written, draft_at}
+use Rattle.bg_certtext.proofs.ReadsFunctions.{function_back}
+use Rattle.bg_certtext.proofs.ReadsStates.{Interp, Head, State, AtVersion, AtInterp, AtGivens, AtFunctions, interp_with, AtRetained, AtTable, AtRows, AtNodes, AtSteps, AtSections, AtEnd, Lines, Stays, Goes, Good, GoodHead, head_draft, first_head, head_lines, written, draft_at}
 use Rattle.bg_certtext.proofs.ReadsLines.{map_one, all_one}
 use Rattle.bg_certtext.proofs.ReadsMoves.{on_node_goes, along}
-use Rattle.bg_certtext.proofs.ReadsTables.{on_steps_goes, on_rows_goes, on_table_goes}
+use Rattle.bg_certtext.proofs.ReadsTables.{on_steps_goes, on_rows_goes, on_stated_goes}
 
 -- ---- where a place may stand
 
@@ -24,8 +25,8 @@ place_goes st h key ws e g k i =
     let same : key ≡ codes "place" = same_word key (codes "place") k in
     let line : key ∷ ws ≡ place_words p.0 p.1 = cc (same, q.0) in
     record {
-      state = AtTable (record h { implementation = p.0; place = p.1 });
-      good = record { head = record { interp = g.interp; names = g.names; sections = g.sections }; implementation = q.1; place = q.2 };
+      state = AtTable (record h { implementation = p.0; place = p.1; stated = [] });
+      good = record { head = record { interp = g.interp; names = g.names; sections = g.sections }; implementation = q.1; place = q.2; stated = refl };
       is = sym (same_some (with_place p.0 p.1 (head_draft st h)) e l);
       lines_are = ap (λ (us : List (List ℕ)). head_lines h ++ us ∷ []) line;
     }
@@ -100,15 +101,43 @@ given_goes gs key ws e g k i =
           ∙ ap (λ (ls : Lines). version_words ∷ (codes "interp" ∷ []) ∷ ls) (sym (map_one given_words gs x));
     }
 
+-- a function behind constants and functions
+function_goes : (st : Stage) (gs : List GivenOf) (fs : List FunctionOf) (key : List ℕ) (ws : List (List ℕ)) (e : DraftOf) → list_all is_given gs ≡ true → list_all is_function fs ≡ true → bytes_eq key (codes "function") ≡ true → then_ (function_in ws) (λ f. Some (with_function f (head_draft st (first_head (Some (interp_with gs fs)) [])))) ≡ Some e → Goes (written (AtFunctions gs fs)) (key ∷ ws) e
+function_goes st gs fs key ws e g h k i =
+    let d : DraftOf = head_draft st (first_head (Some (interp_with gs fs)) []) in
+    let (f, m, l) = then_made (function_in ws) (λ (f : FunctionOf). Some (with_function f d)) e i in
+    let q = function_back ws f m in
+    let line : key ∷ ws ≡ function_words f = ap (λ (w : List ℕ). w ∷ ws) (same_word key (codes "function") k) ∙ q.0 in
+    record {
+      state = AtFunctions gs (fs ++ f ∷ []);
+      good = (g, all_one is_function fs f h q.1);
+      is = sym (same_some (with_function f d) e l);
+      lines_are =
+          ap (λ (us : List (List ℕ)). written (AtFunctions gs fs) ++ us ∷ []) line
+          ∙ ap (λ (ls : Lines). version_words ∷ (codes "interp" ∷ []) ∷ ls)
+          (append_assoc (map given_words gs) (map function_words fs) (function_words f ∷ []) ∙ ap (λ (ls : Lines). map given_words gs ++ ls) (sym (map_one function_words fs f)));
+    }
+
+on_function_goes : (st : Stage) (gs : List GivenOf) (fs : List FunctionOf) (ws : List (List ℕ)) (e : DraftOf) → list_all is_given gs ≡ true → list_all is_function fs ≡ true → on_function ws (head_draft st (first_head (Some (interp_with gs fs)) [])) ≡ Some e → Goes (written (AtFunctions gs fs)) ws e
+on_function_goes st gs fs [] e g h i = absurd (cc)
+on_function_goes st gs fs (key ∷ ws) e g h i =
+    ⊎_elim
+    (λ p. function_goes st gs fs key ws e g h p.0 p.1)
+    (λ p.
+    along (written (AtFunctions gs fs) ++ (key ∷ ws) ∷ []) (written (AtRetained (Some (interp_with gs fs)) []) ++ (key ∷ ws) ∷ []) e
+    (ap (λ (ls : Lines). (version_words ∷ ls) ++ (key ∷ ws) ∷ []) (sym (append-nil (interp_lines (Some (interp_with gs fs))))))
+    (on_retained_goes st (Some (interp_with gs fs)) [] (key ∷ ws) e (all_of (list_all is_given gs) (list_all is_function fs) g h) refl p.1))
+    (if_made (bytes_eq key (codes "function")) _ _ e i)
+
 on_given_goes : (gs : List GivenOf) (ws : List (List ℕ)) (e : DraftOf) → list_all is_given gs ≡ true → on_given ws (draft_at (AtGivens gs)) ≡ Some e → Goes (written (AtGivens gs)) ws e
 on_given_goes gs [] e g i = absurd (cc)
 on_given_goes gs (key ∷ ws) e g i =
     ⊎_elim
     (λ p. given_goes gs key ws e g p.0 p.1)
     (λ p.
-    along (written (AtGivens gs) ++ (key ∷ ws) ∷ []) (written (AtRetained (Some gs) []) ++ (key ∷ ws) ∷ []) e
-    (ap (λ (ls : Lines). (version_words ∷ ls) ++ (key ∷ ws) ∷ []) (sym (append-nil (interp_lines (Some gs)))))
-    (on_retained_goes at.Givens (Some gs) [] (key ∷ ws) e g refl p.1))
+    along (written (AtGivens gs) ++ (key ∷ ws) ∷ []) (written (AtFunctions gs []) ++ (key ∷ ws) ∷ []) e
+    (ap (λ (ls : Lines). (version_words ∷ (codes "interp" ∷ []) ∷ ls) ++ (key ∷ ws) ∷ []) (sym (append-nil (map given_words gs))))
+    (on_function_goes at.Givens gs [] (key ∷ ws) e g refl p.1))
     (if_made (bytes_eq key (codes "const")) _ _ e i)
 
 on_version_goes : (ws : List (List ℕ)) (e : DraftOf) → on_version ws (draft_at AtVersion) ≡ Some e → Goes [] ws e
@@ -142,8 +171,9 @@ pub next_goes : (s : State) (ws : List (List ℕ)) (e : DraftOf) → Good s → 
 next_goes AtVersion ws e g i = on_version_goes ws e i
 next_goes AtInterp ws e g i = on_interp_goes ws e i
 next_goes (AtGivens gs) ws e g i = on_given_goes gs ws e g i
+next_goes (AtFunctions gs fs) ws e g i = on_function_goes at.Functions gs fs ws e g.0 g.1 i
 next_goes (AtRetained b names) ws e g i = on_retained_goes at.Retained b names ws e g.0 g.1 i
-next_goes (AtTable h) ws e g i = on_table_goes h ws e g i
+next_goes (AtTable h) ws e g i = on_stated_goes h ws e g i
 next_goes (AtRows h table m) ws e g i = on_rows_goes h table m ws e g i
 next_goes (AtNodes h table nodes t) ws e g i = on_node_goes at.Nodes h table nodes t ws e g i
 next_goes (AtSteps h table nodes t steps m) ws e g i = on_steps_goes h table nodes t steps m ws e g.0 g.1 i

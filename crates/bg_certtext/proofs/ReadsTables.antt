@@ -1,18 +1,20 @@
 -- One line more, in a table or among steps: what is read stays right.
-use Rattle.std.proofs.Common.{◌≡◌, ⊎_elim, ℕ, zero, suc, ◌+◌, ◌-◌, Bool, true, false, not, ◌==◌, if◌then◌else◌, List, [], ◌∷◌, ◌++◌, length, codes, Some, refl, ap, sym, ◌∙◌, append_assoc, arith}
+use Rattle.std.proofs.Common.{◌≡◌, ⊎_elim, ℕ, zero, suc, ◌+◌, ◌-◌, Bool, true, false, not, ◌==◌, if◌then◌else◌, List, [], ◌∷◌, ◌++◌, map, length, codes, Some, refl, ap, sym, ◌∙◌, append_assoc, append-nil, arith}
 use Rattle.std.proofs.lemmas.Bool.{ne_eqb}
 use Rattle.bg_rows.specs.declared.step.Step.{Step}
 use Rattle.bg_certtext.specs.declared.draft.Stage.TheVariants as at
+use Rattle.bg_certtext.specs.declared.text.Stated.{Stated}
 use Rattle.bg_certtext.specs.Views.{RowOf, NodeOf, Derives}
-use Rattle.bg_certtext.specs.Spellable.{is_empty, is_number, is_row, is_step}
-use Rattle.bg_certtext.specs.Texts.{place_words}
-use Rattle.bg_certtext.specs.Machine.{DraftOf, then_, count_in, row_in, step_in, with_node, with_rows, with_row, with_step, on_node, on_table}
+use Rattle.bg_certtext.specs.Spellable.{is_empty, is_number, is_row, is_step, is_stated}
+use Rattle.bg_certtext.specs.Texts.{place_words, stated_words}
+use Rattle.bg_certtext.specs.Machine.{DraftOf, then_, count_in, row_in, step_in, stated_in, with_node, with_rows, with_row, with_step, with_stated, on_node, on_table, on_stated}
 use Rattle.bg_certtext.proofs.ReadsOptions.{then_made, or_made, same_some}
 use Rattle.bg_certtext.proofs.ReadsWords.{count_in_back}
 use Rattle.bg_certtext.proofs.ReadsLists.{row_back}
 use Rattle.bg_certtext.proofs.ReadsSteps.{step_back}
-use Rattle.bg_certtext.proofs.ReadsStates.{Head, AtRows, AtNodes, AtSteps, Stays, Goes, GoodPlace, GoodRows, GoodNodes, GoodSteps, open_draft, head_lines, nodes_lines, steps_lines, rows_lines, counted}
-use Rattle.bg_certtext.proofs.ReadsLines.{steps_more, steps_whole, rows_more, table_whole, all_one, steps_one, length_one}
+use Rattle.bg_certtext.proofs.ReadsStated.{stated_back}
+use Rattle.bg_certtext.proofs.ReadsStates.{Head, Lines, AtTable, AtRows, AtNodes, AtSteps, Stays, Goes, GoodPlace, GoodRows, GoodNodes, GoodSteps, open_draft, head_lines, nodes_lines, steps_lines, rows_lines, counted}
+use Rattle.bg_certtext.proofs.ReadsLines.{stated_more, steps_more, steps_whole, rows_more, table_whole, all_one, steps_one, length_one}
 use Rattle.bg_certtext.proofs.ReadsMoves.{node_stays, on_node_goes, along, became}
 
 -- ---- steps
@@ -143,11 +145,12 @@ table_goes h (suc m) ws g e k some =
       good = record { place = g; rows = refl; count = ap is_number same ∙ k };
       is = refl;
       lines_are =
-          append_assoc (head_lines h) (place_words h.implementation h.place ∷ []) (ws ∷ [])
-          ∙ ap (λ (us : List (List ℕ)). head_lines h ++ place_words h.implementation h.place ∷ us ∷ []) (e ∙ ap (counted (codes "table")) (sym same));
+          append_assoc (head_lines h) (place_words h.implementation h.place ∷ (map stated_words h.stated ++ [])) (ws ∷ [])
+          ∙ ap (λ (ls : Lines). head_lines h ++ place_words h.implementation h.place ∷ (ls ++ ws ∷ [])) (append-nil (map stated_words h.stated))
+          ∙ ap (λ (us : List (List ℕ)). head_lines h ++ place_words h.implementation h.place ∷ (map stated_words h.stated ++ us ∷ [])) (e ∙ ap (counted (codes "table")) (sym same));
     }
 
-pub on_table_goes : (h : Head) (ws : List (List ℕ)) (e : DraftOf) → GoodPlace h → on_table ws (open_draft at.Table h [] [] [] 1 0) ≡ Some e → Goes (nodes_lines h [] []) ws e
+on_table_goes : (h : Head) (ws : List (List ℕ)) (e : DraftOf) → GoodPlace h → on_table ws (open_draft at.Table h [] [] [] 1 0) ≡ Some e → Goes (nodes_lines h [] []) ws e
 on_table_goes h ws e g i =
     let d : DraftOf = open_draft at.Table h [] [] [] 1 0 in
     ⊎_elim
@@ -157,3 +160,24 @@ on_table_goes h ws e g i =
     became (nodes_lines h [] [] ++ ws ∷ []) (with_rows m d) e (same_some (with_rows m d) e l) (table_goes h m ws g q.0 q.1 q.2))
     (λ p. on_node_goes at.Table h [] [] 0 ws e (place_good h g) p)
     (or_made (then_ (count_in (codes "table") ws) (λ m. Some (with_rows m d))) (on_node ws d) e i)
+
+-- behind one more instance
+stated_goes : (h : Head) (s : Stated) (ws : List (List ℕ)) → GoodPlace h → stated_in ws ≡ Some s → Goes (nodes_lines h [] []) ws (with_stated s (open_draft at.Table h [] [] [] 1 0))
+stated_goes h s ws g e =
+    let p = stated_back ws s e in
+    record {
+      state = AtTable (record h { stated = h.stated ++ s ∷ [] });
+      good = record { head = record { interp = g.head.interp; names = g.head.names; sections = g.head.sections }; implementation = g.implementation; place = g.place; stated = all_one is_stated h.stated s g.stated p.1 };
+      is = refl;
+      lines_are = ap (λ (us : List (List ℕ)). nodes_lines h [] [] ++ us ∷ []) p.0 ∙ sym (stated_more h s);
+    }
+
+pub on_stated_goes : (h : Head) (ws : List (List ℕ)) (e : DraftOf) → GoodPlace h → on_stated ws (open_draft at.Table h [] [] [] 1 0) ≡ Some e → Goes (nodes_lines h [] []) ws e
+on_stated_goes h ws e g i =
+    let d : DraftOf = open_draft at.Table h [] [] [] 1 0 in
+    ⊎_elim
+    (λ p.
+    let (s, f, l) = then_made (stated_in ws) (λ (s : Stated). Some (with_stated s d)) e p in
+    became (nodes_lines h [] [] ++ ws ∷ []) (with_stated s d) e (same_some (with_stated s d) e l) (stated_goes h s ws g f))
+    (λ p. on_table_goes h ws e g p)
+    (or_made (then_ (stated_in ws) (λ s. Some (with_stated s d))) (on_table ws d) e i)

@@ -3,12 +3,12 @@ use Rattle.std.proofs.Common.{◌≡◌, ℕ, zero, suc, ◌+◌, ◌-◌, true,
 use Rattle.std.specs.List.{list_all}
 use Rattle.bg_rows.specs.declared.step.Step.{Step}
 use Rattle.bg_rows.specs.declared.step.Step.TheVariants.{Path}
-use Rattle.bg_certtext.specs.Views.{RowOf, NodeOf, IsClause, Derives, CertOf}
-use Rattle.bg_certtext.specs.Spellable.{IsSpellable, is_empty, is_number, is_name, is_interp, is_section, is_node}
-use Rattle.bg_certtext.specs.Texts.{lines_of, retain_words, interp_lines, version_words, end_words, node_lines, row_words, step_words}
+use Rattle.bg_certtext.specs.Views.{RowOf, NodeOf, IsClause, Derives, GivenOf, FunctionOf, CertOf}
+use Rattle.bg_certtext.specs.Spellable.{IsSpellable, is_empty, is_number, is_name, is_given, is_function, is_interp, is_section, is_node}
+use Rattle.bg_certtext.specs.Texts.{lines_of, given_words, retain_words, interp_lines, version_words, end_words, node_lines, row_words, step_words}
 use Rattle.bg_certtext.specs.Reading.{Begins}
 use Rattle.bg_certtext.proofs.ReadsOptions.{all_of}
-use Rattle.bg_certtext.proofs.ReadsStates.{Head, State, AtVersion, AtInterp, AtGivens, AtRetained, AtTable, AtRows, AtNodes, AtSteps, AtSections, AtEnd, Lines, Good, GoodHead, GoodRows, GoodNodes, GoodSteps, first_head, with_open, written, head_lines, nodes_lines, rows_lines, steps_lines}
+use Rattle.bg_certtext.proofs.ReadsStates.{Head, State, AtVersion, AtInterp, AtGivens, AtFunctions, AtRetained, interp_with, AtTable, AtRows, AtNodes, AtSteps, AtSections, AtEnd, Lines, Good, GoodHead, GoodRows, GoodNodes, GoodSteps, first_head, with_open, written, head_lines, nodes_lines, rows_lines, steps_lines}
 use Rattle.bg_certtext.proofs.ReadsLines.{head_more, nodes_more, steps_more, steps_whole, rows_more, length_one}
 use Rattle.bg_certtext.proofs.ReadsMoves.{node_good, sections_good}
 use Rattle.bg_certtext.proofs.ReadsTables.{steps_good, rows_good, table_is_whole, place_good}
@@ -77,13 +77,18 @@ rows_begin (suc m) h table g =
     (ap (rows_lines h (table ++ r ∷ [])) same ∙ rows_more h table r (length table + suc (suc m)))
     (rows_begin m h (table ++ r ∷ []) (rows_good h table r (suc m) g refl))
 
+functions_begin : (gs : List GivenOf) (fs : List FunctionOf) → list_all is_given gs ≡ true → list_all is_function fs ≡ true → Begins (written (AtFunctions gs fs))
+functions_begin gs fs g k =
+    let h : Head = first_head (Some (interp_with gs fs)) [] in
+    let front : Lines = interp_lines (Some (interp_with gs fs)) in
+    (head_cert h, end_words ∷ [], head_spells h (record { interp = all_of (list_all is_given gs) (list_all is_function fs) g k; names = refl; sections = refl }), ap (λ (ls : Lines). (version_words ∷ ls) ++ end_words ∷ []) (append-nil (front ++ []) ∙ append-nil front))
+
 pub good_begins : (s : State) → Good s → Begins (written s)
 good_begins AtVersion g = (head_cert (first_head None []), lines_of (head_cert (first_head None [])), refl, refl)
 good_begins AtInterp g = (head_cert (first_head None []), (codes "no" ∷ codes "interp" ∷ []) ∷ end_words ∷ [], refl, refl)
 good_begins (AtGivens gs) g =
-    let h : Head = first_head (Some gs) [] in
-    let front : Lines = interp_lines (Some gs) in
-    (head_cert h, end_words ∷ [], head_spells h (record { interp = g; names = refl; sections = refl }), ap (λ (ls : Lines). (version_words ∷ ls) ++ end_words ∷ []) (append-nil (front ++ []) ∙ append-nil front))
+    begins_less (version_words ∷ (codes "interp" ∷ []) ∷ map given_words gs) [] (written (AtFunctions gs [])) refl (functions_begin gs [] g refl)
+good_begins (AtFunctions gs fs) g = functions_begin gs fs g.0 g.1
 good_begins (AtRetained i names) g =
     let h : Head = first_head i names in
     let front : Lines = interp_lines i ++ map retain_words names in

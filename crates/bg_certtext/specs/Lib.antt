@@ -1,7 +1,9 @@
 pub mod Views
 pub mod Lines
 pub mod Texts
+pub mod Entries
 pub mod Spellable
 pub mod Words
 pub mod Machine
+pub mod Tabled
 pub mod Reading

@@ -1,5 +1,5 @@
 -- The reader as a machine: what is read so far, and what the next line makes of it.
-use Rattle.std.specs.Prelude.{◌≡◌, ℕ, zero, suc, ◌+◌, ◌-◌, ◌≤◌, ◌==◌, Bool, true, false, not, ◌&&◌, List, [], ◌∷◌, ◌++◌, length, map, flat_map, codes, Result, Ok, Err, Option, Some, None, option_map, ℤ, pos, negsuc, int_le, nat_lt, nat_le, if◌then◌else◌}
+use Rattle.std.specs.Prelude.{◌≡◌, ℕ, zero, suc, ◌+◌, ◌-◌, ◌≤◌, ◌==◌, Bool, true, false, not, ◌&&◌, List, [], ◌∷◌, ◌++◌, length, map, flat_map, codes, Result, Ok, Err, Option, Some, None, option_map, ℤ, pos, negsuc, int_le, nat_lt, nat_le, if◌then◌else◌, take, drop}
 use Rattle.std.specs.Str.{bytes_eq}
 use Rattle.std.specs.List.{list_all}
 use Rattle.bg_rows.specs.declared.step.Step.{Step}
@@ -7,6 +7,8 @@ use Rattle.bg_rows.specs.declared.step.Step.TheVariants.{Path, Sum, Tight}
 use Rattle.bg_cert.specs.declared.cert.Named.{Named}
 use Rattle.bg_cert.specs.declared.cert.Named.TheVariants.{OfAtom, OfRow}
 use Rattle.bg_certtext.specs.declared.text.Term.{Term}
+use Rattle.bg_certtext.specs.declared.text.Stated.{Stated}
+use Rattle.bg_certtext.specs.declared.text.Stated.TheVariants as said
 use Rattle.bg_certtext.specs.declared.text.Value.{Value}
 use Rattle.bg_certtext.specs.declared.text.Value.TheVariants.{Truth, Number}
 use Rattle.bg_certtext.specs.declared.draft.Stage.{Stage}
@@ -16,9 +18,9 @@ use Rattle.bg_certtext.specs.declared.error.ReadError.{ReadError}
 use Rattle.bg_certtext.specs.declared.error.ReadError.TheVariants as errors
 use Rattle.bg_certtext.specs.declared.text.CertText.{CertText}
 use Rattle.bg_certtext.specs.Lines.{line}
-use Rattle.bg_certtext.specs.Views.{cert_of, RowOf, NodeOf, Splits, Bounds, Cuts, Learns, IsClause, IsUnit, IsKnown, Derives, SectionOf, GivenOf, CertOf, given_of, section_of, row_of, node_of}
-use Rattle.bg_certtext.specs.Spellable.{is_empty, is_name, is_factor, children}
-use Rattle.bg_certtext.specs.Words.{natural, integer, words_of, is_in_line}
+use Rattle.bg_certtext.specs.Views.{cert_of, RowOf, NodeOf, Splits, Bounds, Cuts, Learns, IsClause, IsUnit, IsKnown, Derives, SectionOf, GivenOf, EntryOf, FunctionOf, InterpOf, CertOf, interp_of, section_of, row_of, node_of}
+use Rattle.bg_certtext.specs.Spellable.{is_empty, is_name, is_factor, are_entries, children}
+use Rattle.bg_certtext.specs.Words.{natural, integer, words_of, parts_of, is_in_line}
 
 -- ---- options
 
@@ -65,6 +67,76 @@ value_in w =
 abbrev pub given_in : List (List ℕ) → Option GivenOf
 given_in (name ∷ w ∷ []) = then_ (value_in w) (λ v. when (is_name name) (record { name = name; value = v }))
 given_in _ = None
+
+-- the values that words are
+abbrev pub values_in : List (List ℕ) → Option (List Value)
+values_in [] = Some []
+values_in (w ∷ ws) = then_ (value_in w) (λ v. then_ (values_in ws) (λ vs. Some (v ∷ vs)))
+
+-- the values between the commas of a word; none where it is empty
+abbrev pub key_in : List ℕ → Option (List Value)
+key_in w = if is_empty w then Some [] else values_in (parts_of w)
+
+-- what stands in front of a word's last byte, where that is this one
+abbrev pub front_of : ℕ → List ℕ → Option (List ℕ)
+front_of c w = when (bytes_eq (drop (length w - 1) w) (c ∷ [])) (take (length w - 1) w)
+
+-- the value in front of this byte
+abbrev pub value_before : ℕ → List ℕ → Option Value
+value_before c w = then_ (front_of c w) value_in
+
+-- an entry of a table, of these three words
+abbrev pub entry_in : List ℕ → List ℕ → List ℕ → Option EntryOf
+entry_in k s v =
+    if bytes_eq s (codes ":=") then then_ (key_in k) (λ k. then_ (value_before 44 v) (λ v. Some (record { key = k; value = v }))) else None
+
+-- the default of a table, of its last two words
+abbrev pub default_in : List ℕ → List ℕ → Option Value
+default_in e d = if bytes_eq e (codes "else") then value_before 93 d else None
+
+-- entries and the default, of a word and those behind it
+abbrev pub entries_in : List ℕ → List (List ℕ) → Option (List EntryOf × Value)
+entries_in w [] = None
+entries_in w (d ∷ []) = then_ (default_in w d) (λ d. Some ([], d))
+entries_in w (s ∷ v ∷ []) = None
+entries_in w (s ∷ v ∷ n ∷ ws) = then_ (entry_in w s v) (λ e. then_ (entries_in n ws) (λ p. Some (e ∷ p.0, p.1)))
+
+-- what stands behind the bracket that opens a table
+abbrev pub opened_in : List ℕ → Option (List ℕ)
+opened_in [] = None
+opened_in (b ∷ bs) = when (b == 91) bs
+
+-- a function's name and table
+abbrev pub function_in : List (List ℕ) → Option FunctionOf
+function_in [] = None
+function_in (name ∷ []) = None
+function_in (name ∷ w ∷ ws) =
+    then_ (opened_in w) (λ u. then_ (entries_in u ws) (λ p.
+    when (is_name name && are_entries None p.1 p.0) (record { name = name; entries = p.0; default = p.1 })))
+
+-- a line of terms and instances: two numbers, or three
+abbrev pub pair_in : (ℕ → ℕ → Stated) → List (List ℕ) → Option Stated
+pair_in f ws = then_ (two ws) (λ p. Some (f p.0 p.1))
+
+abbrev pub triple_in : (ℕ → ℕ → ℕ → Stated) → List (List ℕ) → Option Stated
+triple_in f (a ∷ b ∷ c ∷ []) = then_ (natural a) (λ i. then_ (natural b) (λ j. then_ (natural c) (λ k. Some (f i j k))))
+triple_in f _ = None
+
+abbrev pub instance_in : List (List ℕ) → Option Stated
+instance_in [] = None
+instance_in (key ∷ ws) =
+    if bytes_eq key (codes "c") then pair_in said.Congruent ws
+    else (if bytes_eq key (codes "s") then pair_in said.AtIndex ws
+    else (if bytes_eq key (codes "d") then triple_in said.Elsewhere ws
+    else (if bytes_eq key (codes "x") then pair_in said.Apart ws else None)))
+
+abbrev pub stated_in : List (List ℕ) → Option Stated
+stated_in [] = None
+stated_in (key ∷ ws) =
+    if bytes_eq key (codes "inst") then instance_in ws
+    else (if bytes_eq key (codes "pick") then pair_in said.Pick ws
+    else (if bytes_eq key (codes "names") then pair_in said.Names ws
+    else (if bytes_eq key (codes "apart") then pair_in said.Unequal ws else None)))
 
 abbrev pub sign_in : ℕ → Option Bool
 sign_in b = if b == 43 then Some true else (if b == 45 then Some false else None)
@@ -139,15 +211,16 @@ count_in key (w ∷ ws) = if bytes_eq w key then count ws else None
 
 -- ---- the machine
 
--- what is read so far: the stage, what is finished, the place that is open with its table, nodes and steps, how many
+-- what is read so far: the stage, what is finished, the place that is open with its lines of instances, its table, nodes and steps, how many
 -- trees of it are still to come, and how many rows or steps
 pub record DraftOf : Type 0 where
   pub stage : Stage
-  pub interp : Option (List GivenOf)
+  pub interp : Option InterpOf
   pub retained : List (List ℕ)
   pub sections : List SectionOf
   pub implementation : ℕ
   pub place : ℕ
+  pub stated : List Stated
   pub table : List RowOf
   pub nodes : List NodeOf
   pub steps : List Step
@@ -158,11 +231,12 @@ abbrev pub draft_of : Draft → DraftOf
 draft_of d =
     record {
       stage = d.stage;
-      interp = option_map (λ gs. map given_of gs.items) d.interp;
+      interp = option_map interp_of d.interp;
       retained = map (λ name. name.now) d.retained.items;
       sections = map section_of d.sections.items;
       implementation = d.implementation;
       place = d.place;
+      stated = d.stated.items;
       table = map row_of d.table.items;
       nodes = map node_of d.nodes.items;
       steps = d.steps.items;
@@ -183,6 +257,7 @@ start =
       sections = [];
       implementation = 0;
       place = 0;
+      stated = [];
       table = [];
       nodes = [];
       steps = [];
@@ -192,12 +267,12 @@ start =
 
 abbrev pub finished : DraftOf → SectionOf
 finished d =
-    record { implementation = d.implementation; place = d.place; table = d.table; nodes = d.nodes }
+    record { implementation = d.implementation; place = d.place; stated = d.stated; table = d.table; nodes = d.nodes }
 
 -- the tree is whole
 abbrev pub with_section : DraftOf → DraftOf
 with_section d =
-    record d { stage = at.Sections; sections = d.sections ++ finished d ∷ []; table = []; nodes = [] }
+    record d { stage = at.Sections; sections = d.sections ++ finished d ∷ []; stated = []; table = []; nodes = [] }
 
 abbrev pub closed : ℕ → DraftOf → DraftOf
 closed zero d = with_section d
@@ -225,13 +300,21 @@ with_step s d =
     else record d { steps = d.steps ++ s ∷ []; left = d.left - 1 }
 
 abbrev pub with_place : ℕ → ℕ → DraftOf → DraftOf
-with_place i k d = record d { stage = at.Table; implementation = i; place = k; trees = 1 }
+with_place i k d = record d { stage = at.Table; implementation = i; place = k; stated = []; trees = 1 }
+
+abbrev pub with_stated : Stated → DraftOf → DraftOf
+with_stated s d = record d { stated = d.stated ++ s ∷ [] }
 
 abbrev pub with_name : List ℕ → DraftOf → DraftOf
 with_name name d = record d { stage = at.Retained; retained = d.retained ++ name ∷ [] }
 
 abbrev pub with_given : GivenOf → DraftOf → DraftOf
-with_given g d = record d { interp = option_map (λ gs. gs ++ g ∷ []) d.interp }
+with_given g d =
+    record d { interp = option_map (λ (i : InterpOf). record i { constants = i.constants ++ g ∷ [] }) d.interp }
+
+abbrev pub with_function : FunctionOf → DraftOf → DraftOf
+with_function f d =
+    record d { stage = at.Functions; interp = option_map (λ (i : InterpOf). record i { functions = i.functions ++ f ∷ [] }) d.interp }
 
 abbrev pub or_else : {A : Type 0} → Option A → Option A → Option A
 or_else None other = other
@@ -242,9 +325,13 @@ abbrev pub on_node : List (List ℕ) → DraftOf → Option DraftOf
 on_node ws d =
     or_else (then_ (count_in (codes "rows") ws) (λ m. Some (with_steps m d))) (then_ (node_in ws) (λ n. Some (with_node n d)))
 
--- a line behind a place
+-- a line where a table may stand
 abbrev pub on_table : List (List ℕ) → DraftOf → Option DraftOf
 on_table ws d = or_else (then_ (count_in (codes "table") ws) (λ m. Some (with_rows m d))) (on_node ws d)
+
+-- a line behind a place or an instance
+abbrev pub on_stated : List (List ℕ) → DraftOf → Option DraftOf
+on_stated ws d = or_else (then_ (stated_in ws) (λ s. Some (with_stated s d))) (on_table ws d)
 
 -- a line where a place may stand, or the end
 abbrev pub on_section : List (List ℕ) → DraftOf → Option DraftOf
@@ -258,11 +345,17 @@ on_retained [] d = None
 on_retained (key ∷ ws) d =
     if bytes_eq key (codes "retain") then then_ (name_in ws) (λ name. Some (with_name name d)) else on_section (key ∷ ws) d
 
+-- a line where a function may stand
+abbrev pub on_function : List (List ℕ) → DraftOf → Option DraftOf
+on_function [] d = None
+on_function (key ∷ ws) d =
+    if bytes_eq key (codes "function") then then_ (function_in ws) (λ f. Some (with_function f d)) else on_retained (key ∷ ws) d
+
 -- a line where a constant may stand
 abbrev pub on_given : List (List ℕ) → DraftOf → Option DraftOf
 on_given [] d = None
 on_given (key ∷ ws) d =
-    if bytes_eq key (codes "const") then then_ (given_in ws) (λ g. Some (with_given g d)) else on_retained (key ∷ ws) d
+    if bytes_eq key (codes "const") then then_ (given_in ws) (λ g. Some (with_given g d)) else on_function (key ∷ ws) d
 
 abbrev pub on_version : List (List ℕ) → DraftOf → Option DraftOf
 on_version (key ∷ v ∷ []) d =
@@ -270,7 +363,7 @@ on_version (key ∷ v ∷ []) d =
 on_version _ d = None
 
 abbrev pub on_interp : List (List ℕ) → DraftOf → Option DraftOf
-on_interp (key ∷ []) d = when (bytes_eq key (codes "interp")) (record d { stage = at.Givens; interp = Some [] })
+on_interp (key ∷ []) d = when (bytes_eq key (codes "interp")) (record d { stage = at.Givens; interp = Some (record { constants = []; functions = [] }) })
 on_interp (first ∷ key ∷ []) d =
     when (bytes_eq first (codes "no") && bytes_eq key (codes "interp")) (record d { stage = at.Retained; interp = None })
 on_interp _ d = None
@@ -279,8 +372,9 @@ abbrev pub by_stage : Stage → List (List ℕ) → DraftOf → Option DraftOf
 by_stage at.Version ws d = on_version ws d
 by_stage at.Interp ws d = on_interp ws d
 by_stage at.Givens ws d = on_given ws d
+by_stage at.Functions ws d = on_function ws d
 by_stage at.Retained ws d = on_retained ws d
-by_stage at.Table ws d = on_table ws d
+by_stage at.Table ws d = on_stated ws d
 by_stage at.Rows ws d = then_ (row_in ws) (λ r. Some (with_row r d))
 by_stage at.Nodes ws d = on_node ws d
 by_stage at.Steps ws d = then_ (step_in (length d.steps) ws) (λ s. Some (with_step s d))

@@ -1,5 +1,6 @@
 -- Which certificates have a text.
-use Rattle.std.specs.Prelude.{◌≡◌, ℕ, zero, suc, ◌+◌, ◌^◌, Bool, true, false, not, ◌&&◌, ◌==◌, nat_lt, nat_le, List, [], ◌∷◌, length, ℤ, pos, negsuc, neg_ℤ, int_le, Option, Some, None}
+use Rattle.std.specs.Prelude.{◌≡◌, ℕ, zero, suc, ◌+◌, ◌^◌, Bool, true, false, not, ◌&&◌, if◌then◌else◌, ◌==◌, nat_lt, nat_le, List, [], ◌∷◌, length, ℤ, pos, negsuc, neg_ℤ, int_le, int_lt, Option, Some, None}
+use Rattle.std.specs.Ordering.{int_eq}
 use Rattle.std.specs.List.{list_all}
 use Rattle.bg_base.specs.Exact.{fits}
 use Rattle.bg_rows.specs.declared.step.Step.{Step}
@@ -7,9 +8,11 @@ use Rattle.bg_rows.specs.declared.step.Step.TheVariants.{Path, Sum, Tight}
 use Rattle.bg_cert.specs.declared.cert.Named.{Named}
 use Rattle.bg_cert.specs.declared.cert.Named.TheVariants.{OfAtom, OfRow}
 use Rattle.bg_certtext.specs.declared.text.Term.{Term}
+use Rattle.bg_certtext.specs.declared.text.Stated.{Stated}
+use Rattle.bg_certtext.specs.declared.text.Stated.TheVariants as said
 use Rattle.bg_certtext.specs.declared.text.Value.{Value}
 use Rattle.bg_certtext.specs.declared.text.Value.TheVariants.{Truth, Number}
-use Rattle.bg_certtext.specs.Views.{RowOf, NodeOf, Splits, Bounds, Cuts, Learns, IsClause, IsUnit, IsKnown, Derives, SectionOf, GivenOf, CertOf}
+use Rattle.bg_certtext.specs.Views.{RowOf, NodeOf, Splits, Bounds, Cuts, Learns, IsClause, IsUnit, IsKnown, Derives, SectionOf, GivenOf, EntryOf, FunctionOf, InterpOf, CertOf}
 
 -- a byte that stands in a word: no space, no newline
 unfoldable pub is_inside_word : ℕ → Bool
@@ -81,10 +84,19 @@ are_trees zero (x ∷ xs) = false
 are_trees (suc n) [] = false
 are_trees (suc n) (x ∷ xs) = are_trees (children x + n) xs
 
+abbrev pub is_stated : Stated → Bool
+is_stated (said.Pick m a) = is_number m && is_number a
+is_stated (said.Names m n) = is_number m && is_number n
+is_stated (said.Congruent a b) = is_number a && is_number b
+is_stated (said.AtIndex u a) = is_number u && is_number a
+is_stated (said.Elsewhere u a b) = is_number u && (is_number a && is_number b)
+is_stated (said.Apart a b) = is_number a && is_number b
+is_stated (said.Unequal a b) = is_number a && is_number b
+
 -- the place's nodes are one whole tree, and its numbers and names have a text
 abbrev pub is_section : SectionOf → Bool
 is_section s =
-    is_number s.implementation && (is_number s.place && (is_number (length s.table) && (list_all is_row s.table && (list_all is_node s.nodes && are_trees 1 s.nodes))))
+    is_number s.implementation && (is_number s.place && (list_all is_stated s.stated && (is_number (length s.table) && (list_all is_row s.table && (list_all is_node s.nodes && are_trees 1 s.nodes)))))
 
 abbrev pub is_value : Value → Bool
 is_value (Truth b) = true
@@ -93,10 +105,49 @@ is_value (Number k) = fits k
 abbrev pub is_given : GivenOf → Bool
 is_given g = is_name g.name && is_value g.value
 
--- the constants have names, and their values numerals
-abbrev pub is_interp : Option (List GivenOf) → Bool
+-- the order of values of one kind: numbers by size, `false` before `true`
+abbrev pub value_lt : Value → Value → Bool
+value_lt (Truth a) (Truth b) = not a && b
+value_lt (Truth a) (Number y) = false
+value_lt (Number x) (Truth b) = false
+value_lt (Number x) (Number y) = int_lt x y
+
+abbrev pub value_eq : Value → Value → Bool
+value_eq (Truth true) (Truth b) = b
+value_eq (Truth false) (Truth b) = not b
+value_eq (Truth a) (Number y) = false
+value_eq (Number x) (Truth b) = false
+value_eq (Number x) (Number y) = int_eq x y
+
+-- the order of keys: part by part
+abbrev pub key_lt : List Value → List Value → Bool
+key_lt [] [] = false
+key_lt [] (w ∷ ws) = true
+key_lt (v ∷ vs) [] = false
+key_lt (v ∷ vs) (w ∷ ws) = if value_lt v w then true else value_eq v w && key_lt vs ws
+
+abbrev pub comes_behind : Option (List Value) → List Value → Bool
+comes_behind None k = true
+comes_behind (Some j) k = key_lt j k
+
+-- the entries are in the order of their keys, the first behind this key if there is one, and none has the default's value
+abbrev pub are_entries : Option (List Value) → Value → List EntryOf → Bool
+are_entries before d [] = true
+are_entries before d (e ∷ es) =
+    comes_behind before e.key && (not (value_eq e.value d) && are_entries (Some e.key) d es)
+
+abbrev pub is_entry : EntryOf → Bool
+is_entry e = list_all is_value e.key && is_value e.value
+
+-- a function has a name, and its table is in order
+abbrev pub is_function : FunctionOf → Bool
+is_function f =
+    is_name f.name && (list_all is_entry f.entries && (is_value f.default && are_entries None f.default f.entries))
+
+-- constants and functions have names, and their values numerals
+abbrev pub is_interp : Option InterpOf → Bool
 is_interp None = true
-is_interp (Some gs) = list_all is_given gs
+is_interp (Some i) = list_all is_given i.constants && list_all is_function i.functions
 
 abbrev pub is_spellable : CertOf → Bool
 is_spellable c = is_interp c.interp && (list_all is_name c.retained && list_all is_section c.sections)

@@ -6,10 +6,12 @@ use Rattle.bg_rows.specs.declared.step.Step.TheVariants.{Path, Sum, Tight}
 use Rattle.bg_cert.specs.declared.cert.Named.{Named}
 use Rattle.bg_cert.specs.declared.cert.Named.TheVariants.{OfAtom, OfRow}
 use Rattle.bg_certtext.specs.declared.text.Term.{Term}
+use Rattle.bg_certtext.specs.declared.text.Stated.{Stated}
+use Rattle.bg_certtext.specs.declared.text.Stated.TheVariants as said
 use Rattle.bg_certtext.specs.declared.text.Value.{Value}
 use Rattle.bg_certtext.specs.declared.text.Value.TheVariants.{Truth, Number}
-use Rattle.bg_certtext.specs.Views.{RowOf, NodeOf, Splits, Bounds, Cuts, Learns, IsClause, IsUnit, IsKnown, Derives, SectionOf, GivenOf, CertOf}
-use Rattle.bg_certtext.specs.Lines.{line}
+use Rattle.bg_certtext.specs.Views.{RowOf, NodeOf, Splits, Bounds, Cuts, Learns, IsClause, IsUnit, IsKnown, Derives, SectionOf, GivenOf, EntryOf, FunctionOf, InterpOf, CertOf}
+use Rattle.bg_certtext.specs.Lines.{line, commas}
 
 -- a sign in front of a literal
 abbrev pub sign_text : Bool → List ℕ
@@ -56,17 +58,27 @@ abbrev pub table_lines : List RowOf → List (List (List ℕ))
 table_lines [] = []
 table_lines (r ∷ rs) = (codes "table" ∷ decimal (length (r ∷ rs)) ∷ []) ∷ map row_words (r ∷ rs)
 
+-- a line of terms and instances
+abbrev pub stated_words : Stated → List (List ℕ)
+stated_words (said.Pick m a) = codes "pick" ∷ decimal m ∷ decimal a ∷ []
+stated_words (said.Names m n) = codes "names" ∷ decimal m ∷ decimal n ∷ []
+stated_words (said.Congruent a b) = codes "inst" ∷ codes "c" ∷ decimal a ∷ decimal b ∷ []
+stated_words (said.AtIndex u a) = codes "inst" ∷ codes "s" ∷ decimal u ∷ decimal a ∷ []
+stated_words (said.Elsewhere u a b) = codes "inst" ∷ codes "d" ∷ decimal u ∷ decimal a ∷ decimal b ∷ []
+stated_words (said.Apart a b) = codes "inst" ∷ codes "x" ∷ decimal a ∷ decimal b ∷ []
+stated_words (said.Unequal a b) = codes "apart" ∷ decimal a ∷ decimal b ∷ []
+
 abbrev pub place_words : ℕ → ℕ → List (List ℕ)
 place_words implementation place = codes "place" ∷ decimal implementation ∷ decimal place ∷ []
 
 abbrev pub section_lines : SectionOf → List (List (List ℕ))
 section_lines s =
-    place_words s.implementation s.place ∷ (table_lines s.table ++ flat_map node_lines s.nodes)
+    place_words s.implementation s.place ∷ (map stated_words s.stated ++ (table_lines s.table ++ flat_map node_lines s.nodes))
 
 abbrev pub version_words : List (List ℕ)
 version_words = codes "bg-cert" ∷ codes "1" ∷ []
 
--- the value of a constant
+-- a value
 abbrev pub value_word : Value → List ℕ
 value_word (Truth true) = codes "true"
 value_word (Truth false) = codes "false"
@@ -75,10 +87,30 @@ value_word (Number k) = signed_decimal k
 abbrev pub given_words : GivenOf → List (List ℕ)
 given_words g = codes "const" ∷ g.name ∷ value_word g.value ∷ []
 
+-- the arguments of an entry
+abbrev pub key_word : List Value → List ℕ
+key_word vs = commas (map value_word vs)
+
+-- the first word of a table behind its bracket, and the others: each entry has three words, the default two
+abbrev pub first_word : List EntryOf → List ℕ
+first_word [] = codes "else"
+first_word (e ∷ es) = key_word e.key
+
+abbrev pub other_words : List EntryOf → Value → List (List ℕ)
+other_words [] d = (value_word d ++ codes "]") ∷ []
+other_words (e ∷ es) d = codes ":=" ∷ (value_word e.value ++ codes ",") ∷ first_word es ∷ other_words es d
+
+abbrev pub table_words : List EntryOf → Value → List (List ℕ)
+table_words es d = (codes "[" ++ first_word es) ∷ other_words es d
+
+-- a function's line: its name and its table
+abbrev pub function_words : FunctionOf → List (List ℕ)
+function_words f = codes "function" ∷ f.name ∷ table_words f.entries f.default
+
 -- an interpretation's lines, or the one that says there is none
-abbrev pub interp_lines : Option (List GivenOf) → List (List (List ℕ))
+abbrev pub interp_lines : Option InterpOf → List (List (List ℕ))
 interp_lines None = (codes "no" ∷ codes "interp" ∷ []) ∷ []
-interp_lines (Some gs) = (codes "interp" ∷ []) ∷ map given_words gs
+interp_lines (Some i) = (codes "interp" ∷ []) ∷ (map given_words i.constants ++ map function_words i.functions)
 
 abbrev pub retain_words : List ℕ → List (List ℕ)
 retain_words name = codes "retain" ∷ name ∷ []

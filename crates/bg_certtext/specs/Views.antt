@@ -6,9 +6,13 @@ use Rattle.bg_certtext.specs.declared.text.Term.{Term}
 use Rattle.bg_certtext.specs.declared.text.TextRow.{TextRow}
 use Rattle.bg_certtext.specs.declared.text.TextNode.{TextNode}
 use Rattle.bg_certtext.specs.declared.text.TextNode.TheVariants.{Split, Bound, Cut, Lemma, Clause, Unit, Known, Rows}
+use Rattle.bg_certtext.specs.declared.text.Stated.{Stated}
 use Rattle.bg_certtext.specs.declared.text.Section.{Section}
 use Rattle.bg_certtext.specs.declared.text.Value.{Value}
 use Rattle.bg_certtext.specs.declared.text.Given.{Given}
+use Rattle.bg_certtext.specs.declared.text.Entry.{Entry}
+use Rattle.bg_certtext.specs.declared.text.Function.{Function}
+use Rattle.bg_certtext.specs.declared.text.Interp.{Interp}
 use Rattle.bg_certtext.specs.declared.text.CertText.{CertText}
 
 -- a row: the sum of the terms is at most the bound
@@ -31,6 +35,7 @@ pub data NodeOf : Type 0 where
 pub record SectionOf : Type 0 where
   pub implementation : ℕ
   pub place : ℕ
+  pub stated : List Stated
   pub table : List RowOf
   pub nodes : List NodeOf
 
@@ -39,9 +44,25 @@ pub record GivenOf : Type 0 where
   pub name : List ℕ
   pub value : Value
 
+-- a function's value for these arguments
+pub record EntryOf : Type 0 where
+  pub key : List Value
+  pub value : Value
+
+-- a function's table in the interpretation
+pub record FunctionOf : Type 0 where
+  pub name : List ℕ
+  pub entries : List EntryOf
+  pub default : Value
+
+-- the values of constants, and the tables of functions
+pub record InterpOf : Type 0 where
+  pub constants : List GivenOf
+  pub functions : List FunctionOf
+
 -- the certificate of a program
 pub record CertOf : Type 0 where
-  pub interp : Option (List GivenOf)
+  pub interp : Option InterpOf
   pub retained : List (List ℕ)
   pub sections : List SectionOf
 
@@ -63,6 +84,7 @@ section_of s =
     record {
       implementation = s.implementation;
       place = s.place;
+      stated = s.stated.items;
       table = map row_of s.table.items;
       nodes = map node_of s.nodes.items;
     }
@@ -70,10 +92,19 @@ section_of s =
 abbrev pub given_of : Given → GivenOf
 given_of g = record { name = g.name.now; value = g.value }
 
+abbrev pub entry_of : Entry → EntryOf
+entry_of e = record { key = e.key.items; value = e.value }
+
+abbrev pub function_of : Function → FunctionOf
+function_of f = record { name = f.name.now; entries = map entry_of f.entries.items; default = f.default }
+
+abbrev pub interp_of : Interp → InterpOf
+interp_of i = record { constants = map given_of i.constants.items; functions = map function_of i.functions.items }
+
 abbrev pub cert_of : CertText → CertOf
 cert_of c =
     record {
-      interp = option_map (λ gs. map given_of gs.items) c.interp;
+      interp = option_map interp_of c.interp;
       retained = map (λ name. name.now) c.retained.items;
       sections = map section_of c.sections.items;
     }

@@ -25,6 +25,18 @@ abbrev pub words_of : List ℕ → List (List ℕ)
 words_of [] = [] ∷ []
 words_of (b ∷ bs) = if b == 32 then [] ∷ words_of bs else in_first b (words_of bs)
 
+unfoldable pub is_in_part : ℕ → Bool
+is_in_part b = not (b == 44)
+
+-- how many bytes stand in front of the first comma
+abbrev pub part_in : List ℕ → ℕ
+part_in bytes = length (take_while is_in_part bytes)
+
+-- what stands between the commas of a word, in order
+abbrev pub parts_of : List ℕ → List (List ℕ)
+parts_of [] = [] ∷ []
+parts_of (b ∷ bs) = if b == 44 then [] ∷ parts_of bs else in_first b (parts_of bs)
+
 -- the number of these digits behind one that is not 0, where it is not above the largest
 abbrev pub digits_on : ℕ → ℕ → List ℕ → Option ℕ
 digits_on largest n [] = Some n

@@ -1,10 +1,10 @@
 //! What is read so far.
 ghost use Rattle.std.specs.Prelude.{◌≡◌, OnOk};
-ghost use Rattle.bg_certtext.specs.Views.{given_of, row_of, node_of};
+ghost use Rattle.bg_certtext.specs.Views.{given_of, function_of, row_of, node_of};
 ghost use Rattle.bg_certtext.specs.Spellable.{children};
-ghost use Rattle.bg_certtext.specs.Machine.{draft_of, start, HasRoom, with_given, with_section, with_node, with_step, with_row};
+ghost use Rattle.bg_certtext.specs.Machine.{draft_of, start, HasRoom, with_given, with_function, with_stated, with_section, with_node, with_step, with_row};
 
-use crate::text::{Given, Section, TextNode, TextRow};
+use crate::text::{Function, Given, Interp, Section, Stated, TextNode, TextRow};
 use bg_rows::Step;
 use std::alloc::{AllocError, Global};
 use std::mem::replace;
@@ -14,11 +14,13 @@ use std::mem::replace;
 pub(crate) enum Stage {
     Version,
     Interp,
-    /// A constant, a name, a place or the end.
+    /// A constant, a function, a name, a place or the end.
     Givens,
+    /// A function, a name, a place or the end.
+    Functions,
     /// A name, a place or the end.
     Retained,
-    /// A table or a node.
+    /// An instance, a table or a node.
     Table,
     Rows,
     Nodes,
@@ -28,16 +30,17 @@ pub(crate) enum Stage {
     End,
 }
 
-/// What is finished, the place that is open with its table, nodes and steps, how many trees of it
-/// are still to come, and how many rows or steps.
+/// What is finished, the place that is open with its instances, its table, nodes and steps, how
+/// many trees of it are still to come, and how many rows or steps.
 #[derive(Drop)]
 pub(crate) struct Draft<'a> {
     pub(crate) stage: Stage,
-    pub(crate) interp: Option<Vec<Given<'a>>>,
+    pub(crate) interp: Option<Interp<'a>>,
     pub(crate) retained: Vec<&'a [u8]>,
     pub(crate) sections: Vec<Section<'a>>,
     pub(crate) implementation: u128,
     pub(crate) place: u128,
+    pub(crate) stated: Vec<Stated>,
     pub(crate) table: Vec<TextRow>,
     pub(crate) nodes: Vec<TextNode<'a>>,
     pub(crate) steps: Vec<Step>,
@@ -56,6 +59,7 @@ pub(crate) fn first_draft<'a>(alloc: Global) -> Draft<'a>
         sections: Vec::new(alloc),
         implementation: 0,
         place: 0,
+        stated: Vec::new(alloc),
         table: Vec::new(alloc),
         nodes: Vec::new(alloc),
         steps: Vec::new(alloc),
@@ -68,9 +72,31 @@ pub(crate) fn first_draft<'a>(alloc: Global) -> Draft<'a>
 pub(crate) fn add_given<'a>(draft: &mut Draft<'a>, given: Given<'a>) -> Result<(), AllocError>
     ensures { OnOk result (draft_of draft.new ≡ with_given (given_of given.entry) (draft_of draft.old)) }
 {
-    if let Some(givens) = &mut draft.interp {
-        givens.push(given)?;
+    if let Some(interp) = &mut draft.interp {
+        interp.constants.push(given)?;
     }
+    Ok(())
+}
+
+/// One more function of the interpretation, where there is one.
+pub(crate) fn add_function<'a>(
+    draft: &mut Draft<'a>,
+    function: Function<'a>,
+) -> Result<(), AllocError>
+    ensures { OnOk result (draft_of draft.new ≡ with_function (function_of function.entry) (draft_of draft.old)) }
+{
+    if let Some(interp) = &mut draft.interp {
+        interp.functions.push(function)?;
+    }
+    draft.stage = Stage::Functions;
+    Ok(())
+}
+
+/// One more line of the open place's terms and instances.
+pub(crate) fn add_stated(draft: &mut Draft<'_>, stated: Stated) -> Result<(), AllocError>
+    ensures { OnOk result (draft_of draft.new ≡ with_stated stated (draft_of draft.old)) }
+{
+    draft.stated.push(stated)?;
     Ok(())
 }
 
@@ -78,12 +104,14 @@ pub(crate) fn add_given<'a>(draft: &mut Draft<'a>, given: Given<'a>) -> Result<(
 pub(crate) fn finish(alloc: Global, draft: &mut Draft<'_>) -> Result<(), AllocError>
     ensures { OnOk result (draft_of draft.new ≡ with_section (draft_of draft.old)) }
 {
+    let stated = replace(&mut draft.stated, Vec::new(alloc));
     let table = replace(&mut draft.table, Vec::new(alloc));
     let nodes = replace(&mut draft.nodes, Vec::new(alloc));
     draft.stage = Stage::Sections;
     draft.sections.push(Section {
         implementation: draft.implementation,
         place: draft.place,
+        stated,
         table,
         nodes,
     })?;

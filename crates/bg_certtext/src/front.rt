@@ -2,21 +2,19 @@
 ghost use Rattle.std.specs.Prelude.{◌≡◌, ◌++◌, OnOk, map, flat_map, option_map};
 ghost use Rattle.bg_certtext.specs.Lines.{line, behind_space};
 ghost use Rattle.bg_certtext.specs.Texts.{value_word, given_words, interp_lines, retain_words};
-ghost use Rattle.bg_certtext.specs.Views.{given_of};
+ghost use Rattle.bg_certtext.specs.Views.{given_of, interp_of};
 
-use crate::put::{put_integer, put_line, put_pair, put_word};
-use crate::text::{Given, Value};
+use crate::functions::{put_functions, put_plain};
+use crate::put::{put_line, put_pair, put_word};
+use crate::text::{Given, Interp, Value};
 use std::alloc::AllocError;
 
 /// A value behind a space.
 fn put_value(out: &mut Vec<u8>, value: Value) -> Result<(), AllocError>
     ensures { OnOk result (out.new.items ≡ out.old.items ++ behind_space (value_word value)) }
 {
-    match value {
-        Value::Truth(true) => put_word(out, b"true"),
-        Value::Truth(false) => put_word(out, b"false"),
-        Value::Number(n) => put_integer(out, n),
-    }
+    out.push(b' ')?;
+    put_plain(out, value)
 }
 
 /// The line of a constant.
@@ -39,17 +37,15 @@ fn put_givens(out: &mut Vec<u8>, givens: &[Given<'_>]) -> Result<(), AllocError>
 }
 
 /// The lines of an interpretation, or the one that says there is none.
-pub(crate) fn put_interp(
-    out: &mut Vec<u8>,
-    interp: &Option<Vec<Given<'_>>>,
-) -> Result<(), AllocError>
-    ensures { OnOk result (out.new.items ≡ out.old.items ++ flat_map line (interp_lines (option_map (λ gs. map given_of gs.items) interp.now))) }
+pub(crate) fn put_interp(out: &mut Vec<u8>, interp: &Option<Interp<'_>>) -> Result<(), AllocError>
+    ensures { OnOk result (out.new.items ≡ out.old.items ++ flat_map line (interp_lines (option_map interp_of interp.now))) }
 {
     match interp {
         None => put_pair(out, b"no", b"interp"),
-        Some(givens) => {
+        Some(interp) => {
             put_line(out, b"interp")?;
-            put_givens(out, givens)
+            put_givens(out, &interp.constants)?;
+            put_functions(out, &interp.functions)
         }
     }
 }

@@ -4,14 +4,19 @@
 mod draft;
 mod error;
 mod front;
+mod functions;
+mod keys;
 pub mod laws;
 mod nodes;
 mod numeral;
 mod parts;
 mod put;
 mod reader;
+mod sorted;
 mod spells;
 mod stages;
+mod stated;
+mod tables;
 mod text;
 mod words;
 mod writer;
@@ -19,5 +24,7 @@ mod writer;
 pub use error::ReadError;
 pub use reader::read;
 pub use spells::is_spellable;
-pub use text::{CertText, Given, Section, Term, TextNode, TextRow, Value};
+pub use text::{
+    CertText, Entry, Function, Given, Interp, Section, Stated, Term, TextNode, TextRow, Value,
+};
 pub use writer::write;

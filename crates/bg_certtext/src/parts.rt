@@ -68,7 +68,7 @@ pub(crate) fn name_in<'a>(words: &[&'a [u8]]) -> Option<&'a [u8]>
 }
 
 /// The value that a word is.
-fn value_in(word: &[u8]) -> Option<Value>
+pub(crate) fn value_in(word: &[u8]) -> Option<Value>
     ensures { result ≡ value_in word.now }
 {
     if is_word(word, b"true") {

@@ -2,12 +2,15 @@
 ghost use Rattle.std.specs.Prelude.{◌≡◌, ◌&&◌, map, option_map};
 ghost use Rattle.std.specs.List.{list_all};
 ghost use Rattle.bg_base.specs.Exact.{fits};
-ghost use Rattle.bg_certtext.specs.Views.{given_of, row_of, node_of, section_of, cert_of};
-ghost use Rattle.bg_certtext.specs.Spellable.{is_name, is_number, are_terms, is_row, is_literal, is_step, are_steps, is_node, are_trees, is_section, is_value, is_given, is_interp, is_spellable};
+ghost use Rattle.bg_certtext.specs.Views.{given_of, entry_of, function_of, interp_of, row_of, node_of, section_of, cert_of};
+ghost use Rattle.bg_certtext.specs.Spellable.{is_name, is_number, are_terms, is_row, is_literal, is_step, are_steps, is_node, are_trees, is_stated, is_section, is_value, is_given, is_entry, is_function, is_interp, is_spellable};
 
 use crate::draft::children;
 use crate::parts::is_factor;
-use crate::text::{CertText, Given, Section, Term, TextNode, TextRow, Value};
+use crate::sorted::are_entries;
+use crate::text::{
+    CertText, Entry, Function, Given, Interp, Section, Stated, Term, TextNode, TextRow, Value,
+};
 use crate::words::is_name;
 use bg_cert::Named;
 use bg_rows::Step;
@@ -133,12 +136,40 @@ fn is_tree(nodes: &[TextNode<'_>]) -> bool
     trees == 0
 }
 
+/// Whether two numbers have numerals.
+fn are_numbers(a: u128, b: u128) -> bool
+    ensures { result ≡ (is_number a && is_number b) }
+{
+    is_number(a) && is_number(b)
+}
+
+fn is_stated(stated: Stated) -> bool
+    ensures { result ≡ is_stated stated }
+{
+    match stated {
+        Stated::Pick(m, a) => are_numbers(m, a),
+        Stated::Names(m, n) => are_numbers(m, n),
+        Stated::Congruent(a, b) => are_numbers(a, b),
+        Stated::AtIndex(u, a) => are_numbers(u, a),
+        Stated::Elsewhere(u, a, b) => is_number(u) && are_numbers(a, b),
+        Stated::Apart(a, b) => are_numbers(a, b),
+        Stated::Unequal(a, b) => are_numbers(a, b),
+    }
+}
+
+fn are_stated(stated: &[Stated]) -> bool
+    ensures { result ≡ list_all is_stated stated.now }
+{
+    stated.iter().all(|s| is_stated(*s))
+}
+
 fn is_section(s: &Section<'_>) -> bool
     ensures { result ≡ is_section (section_of s.now) }
 {
     is_number(s.implementation)
         && (is_number(s.place)
-            && (are_rows(&s.table) && (are_nodes(&s.nodes) && is_tree(&s.nodes))))
+            && (are_stated(&s.stated)
+                && (are_rows(&s.table) && (are_nodes(&s.nodes) && is_tree(&s.nodes)))))
 }
 
 fn are_sections(sections: &[Section<'_>]) -> bool
@@ -169,17 +200,48 @@ fn are_givens(givens: &[Given<'_>]) -> bool
     givens.iter().all(|given| is_given(given))
 }
 
-fn is_interp(interp: &Option<Vec<Given<'_>>>) -> bool
-    ensures { result ≡ is_interp (option_map (λ gs. map given_of gs.items) interp.now) }
+fn are_values(values: &[Value]) -> bool
+    ensures { result ≡ list_all is_value values.now }
+{
+    values.iter().all(|value| is_value(*value))
+}
+
+fn is_entry(entry: &Entry) -> bool
+    ensures { result ≡ is_entry (entry_of entry.now) }
+{
+    are_values(&entry.key) && is_value(entry.value)
+}
+
+fn are_spelled(entries: &[Entry]) -> bool
+    ensures { result ≡ list_all is_entry (map entry_of entries.now) }
+{
+    entries.iter().all(|entry| is_entry(entry))
+}
+
+fn is_function(f: &Function<'_>) -> bool
+    ensures { result ≡ is_function (function_of f.now) }
+{
+    is_name(f.name)
+        && (are_spelled(&f.entries) && (is_value(f.default) && are_entries(f.default, &f.entries)))
+}
+
+fn are_functions(functions: &[Function<'_>]) -> bool
+    ensures { result ≡ list_all is_function (map function_of functions.now) }
+{
+    functions.iter().all(|f| is_function(f))
+}
+
+fn is_interp(interp: &Option<Interp<'_>>) -> bool
+    ensures { result ≡ is_interp (option_map interp_of interp.now) }
 {
     match interp {
         None => true,
-        Some(givens) => are_givens(givens),
+        Some(interp) => are_givens(&interp.constants) && are_functions(&interp.functions),
     }
 }
 
-/// Whether a certificate has a text: its names are words, its numbers have numerals, and the nodes of each place are one whole
-/// tree. Takes time for each constant, name, row and node.
+/// Whether a certificate has a text: its names are words, its numbers have numerals, the tables of functions are in order,
+/// and the nodes of each place are one whole tree. Takes time for each constant, entry, name, row and node.
 pub fn is_spellable(cert: &CertText<'_>) -> bool
     ensures { result ≡ is_spellable (cert_of cert.now) }
 {

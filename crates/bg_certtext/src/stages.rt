@@ -1,11 +1,16 @@
 //! What the next line makes of what is read so far.
 ghost use Rattle.std.specs.Prelude.{◌≡◌, map, IfOk, OnOk};
 ghost use Rattle.bg_certtext.specs.declared.draft.Stage.TheVariants as at;
-ghost use Rattle.bg_certtext.specs.Machine.{draft_of, HasRoom, Takes, next, on_node, on_table, on_section, on_retained, on_given, on_version, on_interp, by_stage};
+ghost use Rattle.bg_certtext.specs.Machine.{draft_of, HasRoom, Takes, next, on_node, on_table, on_stated, on_section, on_retained, on_function, on_given, on_version, on_interp, by_stage};
 
-use crate::draft::{Draft, Stage, add_given, add_node, add_row, add_step};
+use crate::draft::{
+    Draft, Stage, add_function, add_given, add_node, add_row, add_stated, add_step,
+};
 use crate::nodes::node_in;
 use crate::parts::{count_in, given_in, name_in, row_in, step_in, two};
+use crate::stated::stated_in;
+use crate::tables::function_in;
+use crate::text::Interp;
 use crate::words::is_word;
 use std::alloc::{AllocError, Global};
 
@@ -27,7 +32,7 @@ fn on_node<'a>(alloc: Global, draft: &mut Draft<'a>, words: &[&'a [u8]]) -> Resu
     Ok(true)
 }
 
-/// A line behind a place.
+/// A line where a table may stand.
 fn on_table<'a>(
     alloc: Global,
     draft: &mut Draft<'a>,
@@ -47,6 +52,25 @@ fn on_table<'a>(
     }
 }
 
+/// A line behind a place or an instance.
+fn on_stated<'a>(
+    alloc: Global,
+    draft: &mut Draft<'a>,
+    words: &[&'a [u8]],
+) -> Result<bool, AllocError>
+    requires { HasRoom (draft_of draft.old) }
+    ensures made { IfOk result (λ yes. Takes (on_stated (map (λ w. w.now) words.entry.now) (draft_of draft.old)) (draft_of draft.new) yes) }
+    ensures room { OnOk result (HasRoom (draft_of draft.new)) }
+{
+    match stated_in(words) {
+        Some(stated) => {
+            add_stated(draft, stated)?;
+            Ok(true)
+        }
+        None => on_table(alloc, draft, words),
+    }
+}
+
 /// A line where a place may stand, or the end.
 fn on_section(draft: &mut Draft<'_>, words: &[&[u8]]) -> bool
     requires { HasRoom (draft_of draft.old) }
@@ -63,6 +87,7 @@ fn on_section(draft: &mut Draft<'_>, words: &[&[u8]]) -> bool
         draft.stage = Stage::Table;
         draft.implementation = implementation;
         draft.place = place;
+        draft.stated.clear();
         draft.trees = 1;
         true
     } else if is_word(key, b"end") && rest.is_empty() {
@@ -93,8 +118,35 @@ fn on_retained<'a>(draft: &mut Draft<'a>, words: &[&'a [u8]]) -> Result<bool, Al
     Ok(true)
 }
 
-/// A line where a constant may stand, a name, a place, or the end.
-fn on_given<'a>(draft: &mut Draft<'a>, words: &[&'a [u8]]) -> Result<bool, AllocError>
+/// A line where a function may stand, a name, a place, or the end.
+fn on_function<'a>(
+    alloc: Global,
+    draft: &mut Draft<'a>,
+    words: &[&'a [u8]],
+) -> Result<bool, AllocError>
+    requires { HasRoom (draft_of draft.old) }
+    ensures made { IfOk result (λ yes. Takes (on_function (map (λ w. w.now) words.entry.now) (draft_of draft.old)) (draft_of draft.new) yes) }
+    ensures room { OnOk result (HasRoom (draft_of draft.new)) }
+{
+    let [key, rest @ ..] = words else {
+        return Ok(false);
+    };
+    if !is_word(key, b"function") {
+        return on_retained(draft, words);
+    }
+    let Some(function) = function_in(alloc, rest)? else {
+        return Ok(false);
+    };
+    add_function(draft, function)?;
+    Ok(true)
+}
+
+/// A line where a constant may stand, a function, a name, a place, or the end.
+fn on_given<'a>(
+    alloc: Global,
+    draft: &mut Draft<'a>,
+    words: &[&'a [u8]],
+) -> Result<bool, AllocError>
     requires { HasRoom (draft_of draft.old) }
     ensures made { IfOk result (λ yes. Takes (on_given (map (λ w. w.now) words.entry.now) (draft_of draft.old)) (draft_of draft.new) yes) }
     ensures room { OnOk result (HasRoom (draft_of draft.new)) }
@@ -103,7 +155,7 @@ fn on_given<'a>(draft: &mut Draft<'a>, words: &[&'a [u8]]) -> Result<bool, Alloc
         return Ok(false);
     };
     if !is_word(key, b"const") {
-        return on_retained(draft, words);
+        return on_function(alloc, draft, words);
     }
     let Some(given) = given_in(rest) else {
         return Ok(false);
@@ -139,7 +191,10 @@ fn on_interp(alloc: Global, draft: &mut Draft<'_>, words: &[&[u8]]) -> bool
         [key] => {
             if is_word(key, b"interp") {
                 draft.stage = Stage::Givens;
-                draft.interp = Some(Vec::new(alloc));
+                draft.interp = Some(Interp {
+                    constants: Vec::new(alloc),
+                    functions: Vec::new(alloc),
+                });
                 true
             } else {
                 false
@@ -196,9 +251,10 @@ pub(crate) fn take_line<'a>(
     match draft.stage {
         Stage::Version => Ok(on_version(draft, words)),
         Stage::Interp => Ok(on_interp(alloc, draft, words)),
-        Stage::Givens => on_given(draft, words),
+        Stage::Givens => on_given(alloc, draft, words),
+        Stage::Functions => on_function(alloc, draft, words),
         Stage::Retained => on_retained(draft, words),
-        Stage::Table => on_table(alloc, draft, words),
+        Stage::Table => on_stated(alloc, draft, words),
         Stage::Rows => on_row(alloc, draft, words),
         Stage::Nodes => on_node(alloc, draft, words),
         Stage::Steps => on_step(alloc, draft, words),

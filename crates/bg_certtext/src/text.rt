@@ -30,17 +30,32 @@ pub enum TextNode<'a> {
     Rows(Vec<Step>),
 }
 
-/// The certificate of one place: the number of its implementation and its own, from 0, the rows of
-/// the certificate's table, and the nodes of its tree.
+/// A line of a place's terms and instances, by numbers of terms: two lines that add terms (the select of a map term at the index of a
+/// select or an update; the parts of an index at which two maps differ), the four forms of instances, and that two unique constants
+/// differ.
+#[derive(Clone, Copy)]
+pub enum Stated {
+    Pick(u128, u128),
+    Names(u128, u128),
+    Congruent(u128, u128),
+    AtIndex(u128, u128),
+    Elsewhere(u128, u128, u128),
+    Apart(u128, u128),
+    Unequal(u128, u128),
+}
+
+/// The certificate of one place: the number of its implementation and its own, from 0, the lines of
+/// its terms and instances, the rows of the certificate's table, and the nodes of its tree.
 #[derive(Drop)]
 pub struct Section<'a> {
     pub implementation: u128,
     pub place: u128,
+    pub stated: Vec<Stated>,
     pub table: Vec<TextRow>,
     pub nodes: Vec<TextNode<'a>>,
 }
 
-/// The value of a constant.
+/// The value of a constant, or one in a function's table.
 #[derive(Clone, Copy)]
 pub enum Value {
     Truth(bool),
@@ -54,11 +69,33 @@ pub struct Given<'a> {
     pub value: Value,
 }
 
-/// The certificate of a program: the interpretation, by the values of constants, where it has one,
-/// the names of the retained candidates, and the certificates of places.
+/// A function's value for these arguments.
+#[derive(Drop)]
+pub struct Entry {
+    pub key: Vec<Value>,
+    pub value: Value,
+}
+
+/// A function's name and its table: what it gives for the arguments that have an entry, and for others.
+#[derive(Drop)]
+pub struct Function<'a> {
+    pub name: &'a [u8],
+    pub entries: Vec<Entry>,
+    pub default: Value,
+}
+
+/// An interpretation: the values of constants and the tables of functions.
+#[derive(Drop)]
+pub struct Interp<'a> {
+    pub constants: Vec<Given<'a>>,
+    pub functions: Vec<Function<'a>>,
+}
+
+/// The certificate of a program: the interpretation, where it has one, the names of the retained
+/// candidates, and the certificates of places.
 #[derive(Drop)]
 pub struct CertText<'a> {
-    pub interp: Option<Vec<Given<'a>>>,
+    pub interp: Option<Interp<'a>>,
     pub retained: Vec<&'a [u8]>,
     pub sections: Vec<Section<'a>>,
 }

@@ -8,6 +8,7 @@ ghost use Rattle.bg_certtext.specs.Views.{Bounds, Derives, row_of, node_of, sect
 
 use crate::front::{put_interp, put_retained};
 use crate::put::{put_integer, put_line, put_number, put_numbered, put_pair};
+use crate::stated::{put_stated, put_two};
 use crate::text::{CertText, Section, Term, TextNode, TextRow};
 use bg_cert::Named;
 use bg_rows::Step;
@@ -142,10 +143,7 @@ fn put_table(out: &mut Vec<u8>, table: &[TextRow]) -> Result<(), AllocError>
 fn put_place(out: &mut Vec<u8>, implementation: u128, place: u128) -> Result<(), AllocError>
     ensures { OnOk result (out.new.items ≡ out.old.items ++ line (place_words implementation place)) }
 {
-    out.extend_from_slice(b"place")?;
-    put_number(out, implementation)?;
-    put_number(out, place)?;
-    out.extend_from_slice(b"\n")
+    put_two(out, b"place", implementation, place)
 }
 
 fn put_nodes(out: &mut Vec<u8>, nodes: &[TextNode<'_>]) -> Result<(), AllocError>
@@ -161,6 +159,7 @@ fn put_section(out: &mut Vec<u8>, section: &Section<'_>) -> Result<(), AllocErro
     ensures { OnOk result (out.new.items ≡ out.old.items ++ flat_map line (section_lines (section_of section.now))) }
 {
     put_place(out, section.implementation, section.place)?;
+    put_stated(out, &section.stated)?;
     put_table(out, &section.table)?;
     put_nodes(out, &section.nodes)
 }

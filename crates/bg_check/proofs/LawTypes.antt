@@ -1,11 +1,13 @@
 -- What the laws of the crates below say.
-use Rattle.std.proofs.Common.{◌≡◌, ℕ, ◌+◌, ◌<◌, ℤ, Bool, true, false, List, length, map, Option, Some, None, Ok}
-use Rattle.std.specs.Prelude.{slice_get, Contains}
+use Rattle.std.proofs.Common.{◌≡◌, ℕ, suc, ◌+◌, ◌<◌, ℤ, Bool, true, false, List, [], length, take, map, Option, Some, None, Ok}
+use Rattle.std.specs.Prelude.{slice_get, Contains, IsTrue}
 use Rattle.bg_ast.specs.Values.{Val}
-use Rattle.bg_ast.specs.Syntax.{Proc, Impl, Prog}
+use Rattle.bg_ast.specs.Syntax.{Ex, Fun, Proc, Impl, Prog}
 use Rattle.bg_ast.specs.Resolved as r
 use Rattle.bg_ast.specs.Meaning.{meaning_of}
 use Rattle.bg_ast.specs.Execution.{Interp, State, Choice, Spot, Place}
+use Rattle.bg_sense.specs.Eval.{body_of, value_at, ev, functions_to}
+use Rattle.bg_sense.specs.Tables.{are_tables}
 use Rattle.bg_sense.specs.Types.{are_of}
 use Rattle.bg_sense.specs.Clauses.{is_kept}
 use Rattle.bg_sense.specs.Variables.{procedure_of}
@@ -16,6 +18,7 @@ use Rattle.bg_sense.specs.Claims.{IsState, Safe, Fails}
 use Rattle.bg_sense.specs.Typed.{IsTyped}
 use Rattle.bg_sense.specs.Resolved.{IsResolved}
 use Rattle.bg_flow.specs.Core.{frame_decls}
+use Rattle.bg_passive.specs.Passive.{PassiveBlock}
 use Rattle.bg_passive.specs.Incarnations.{first_state}
 use Rattle.bg_passive.specs.Equations.{is_well}
 use Rattle.bg_block_types.specs.Typed.{blocks_in, incarnations_in, passives_in}
@@ -40,13 +43,20 @@ use Rattle.bg_clause.specs.Whole.{clauses_of}
 use Rattle.bg_linear.specs.declared.scalar.Sort.{Sort}
 use Rattle.bg_linear.specs.Sorts.{scalar_values, HoldScalars}
 use Rattle.bg_faithful.specs.Checks.{BlocksPlaced}
-use Rattle.bg_faithful.specs.Sorted.{sorts_in}
-use Rattle.bg_faithful.specs.Encoded.{Encoding, IsEncoding}
-use Rattle.bg_faithful.specs.Interps.{no_interp}
+use Rattle.bg_faithful.specs.Encoded.{Encoding, Encodes}
+use Rattle.bg_terms.specs.Terms.{Term, IsModel, over}
+use Rattle.bg_terms.specs.Flat.{HaveNoBodies, IsFlat}
+use Rattle.bg_terms.specs.Tables.{IsReadOff}
+use Rattle.bg_flatten.specs.Flattens.{AreFlattened}
+use Rattle.bg_flatten.specs.Mapless.{are_mapless}
+use Rattle.bg_read_off.specs.Leaves.{are_scalar, AreCongruent, silent}
+use Rattle.bg_termed.specs.Termed.{IsTabled, count_in, terms_in, flats_in, types_in, sorts_in}
 use Rattle.bg_places.specs.Placed.{placed, place_in}
 use Rattle.bg_fits.specs.Scalars.{is_over_scalars}
 use Rattle.bg_blocks.specs.Whole.{AreBlocks}
 use Rattle.bg_blocks.specs.declared.block.Block.{Block}
+use Rattle.bg_scalar.specs.Tables.{TableOf}
+use Rattle.bg_scalar.specs.Values.{tables_of}
 use Rattle.bg_scalar.specs.Choices.{choice_of, state_of}
 use Rattle.bg_scalar.specs.declared.choice.Choice as code
 use Rattle.bg_scalar.specs.declared.scalar.Scalar.{Scalar}
@@ -66,15 +76,20 @@ PlaceLaw = (p : r.Program) → map place_in (placed p) ≡ places (meaning_of p)
 
 abbrev pub WholeLaw : Type 0
 WholeLaw =
-    (p : Prog) (k : ℕ) (m : Impl) (q : Proc) → IsTyped p → is_over_scalars true p ≡ true →
-    slice_get p.implementations k ≡ Some m → procedure_of p m.procedure ≡ Some q →
-    (a : Encoding) → IsEncoding p k m q a → (target : Spot) (f : Formula) → clauses_of a.first a.named a.terms a.rows target a.blocks ≡ Ok f → is_whole f ≡ true
+    (sorts : List Sort) (candidates : ℕ) (blocks : List PassiveBlock) (a : Encoding) (target : Spot) (f : Formula) →
+    Encodes sorts candidates blocks a → clauses_of a.first a.named a.terms a.rows target a.blocks ≡ Ok f → is_whole f ≡ true
 
 abbrev pub ValueLaw : Type 0
 ValueLaw =
     (p : Prog) (k : ℕ) (m : Impl) (q : Proc) → IsTyped p → is_over_scalars true p ≡ true →
     slice_get p.implementations k ≡ Some m → procedure_of p m.procedure ≡ Some q →
-    (numbers : ℕ → ℤ) (truths : ℕ → Bool) → are_of (incarnations_in p k m q) (scalar_values numbers truths (sorts_in p k m q)) ≡ true
+    (numbers : ℕ → ℤ) (truths : ℕ → Bool) → are_of (types_in p k m q) (scalar_values numbers truths (sorts_in p k m q)) ≡ true
+
+abbrev pub FirstLaw : Type 0
+FirstLaw =
+    (p : Prog) (k : ℕ) (m : Impl) (q : Proc) → IsTyped p → is_over_scalars true p ≡ true →
+    slice_get p.implementations k ≡ Some m → procedure_of p m.procedure ≡ Some q →
+    (numbers : ℕ → ℤ) (truths : ℕ → Bool) → are_of (incarnations_in p k m q) (take (count_in p k m q) (scalar_values numbers truths (sorts_in p k m q))) ≡ true
 
 abbrev pub StartLaw : Type 0
 StartLaw =
@@ -83,7 +98,33 @@ StartLaw =
     (values : List Val) → are_of (incarnations_in p k m q) values ≡ true → IsState p k (first_state p (frame_decls m q) values)
 
 abbrev pub MeetLaw : Type 0
-MeetLaw = (p : Prog) → is_over_scalars true p ≡ true → Meets p no_interp
+MeetLaw =
+    (p : Prog) (i : Interp) → is_over_scalars true p ≡ true → i.constants ≡ [] → IsTrue (are_tables p.functions i.tables) → Meets p i
+
+abbrev pub ScalarLaw : Type 0
+ScalarLaw =
+    (p : Prog) (k : ℕ) (m : Impl) (q : Proc) → IsTyped p → is_over_scalars true p ≡ true →
+    slice_get p.implementations k ≡ Some m → procedure_of p m.procedure ≡ Some q → are_scalar (types_in p k m q) ≡ true
+
+-- of flat blocks
+abbrev pub TermLaw : Type 0
+TermLaw =
+    (p : Prog) (k : ℕ) (m : Impl) (q : Proc) → IsTabled p → slice_get p.implementations k ≡ Some m → procedure_of p m.procedure ≡ Some q →
+    are_mapless (incarnations_in p k m q) ≡ true →
+    AreFlattened p.functions (incarnations_in p k m q) (passives_in p k m q) (terms_in p k m q) (flats_in p k m q)
+
+abbrev pub FlatLaw : Type 0
+FlatLaw =
+    (i : Interp) (n depth : ℕ) (fs : List Fun) (ts : List Term) (w values : List Val) (e x : Ex) →
+    HaveNoBodies fs → IsModel i w n ts → ((j : ℕ) → j < n → value_at w j ≡ value_at values j) → IsFlat n ts e x →
+    ev x (over w) ≡ ev e (record { functions = functions_to (suc depth) fs i; constants = i.constants; globals = []; before = []; frame = values })
+
+abbrev pub ModelLaw : Type 0
+ModelLaw =
+    (p : Prog) (k : ℕ) (m : Impl) (q : Proc) → IsTyped p → is_over_scalars true p ≡ true →
+    slice_get p.implementations k ≡ Some m → procedure_of p m.procedure ≡ Some q →
+    (i : Interp) (s : List Val) → are_of (types_in p k m q) s ≡ true → AreCongruent s (count_in p k m q) (terms_in p k m q) →
+    IsReadOff i (silent p.functions) s (count_in p k m q) (terms_in p k m q) → IsModel i s (count_in p k m q) (terms_in p k m q)
 
 abbrev pub HoldLaw : Type 0
 HoldLaw = (sorts : List Sort) (numbers : ℕ → ℤ) (truths : ℕ → Bool) → HoldScalars sorts numbers truths (scalar_values numbers truths sorts)
@@ -145,6 +186,7 @@ CodeLaw =
 
 abbrev pub ReplayLaw : Type 0
 ReplayLaw =
-    (p : r.Program) (set : List Bool) (i : Interp) (number : ℕ) (m : r.Impl) (q : r.Proc) (bs : List Block) (gs fs : List Scalar) (cs : List code.Choice) (ending : Ending) →
-    slice_get p.implementations number ≡ Some m → slice_get p.procedures m.procedure ≡ Some q → AreBlocks p number m q bs → IsReplay p bs set number m q gs fs cs ending →
+    (p : r.Program) (set : List Bool) (i : Interp) (number : ℕ) (m : r.Impl) (q : r.Proc) (bs : List Block) (ts : List TableOf) (gs fs : List Scalar) (cs : List code.Choice) (ending : Ending) →
+    ((f : ℕ) → body_of (slice_get (meaning_of p).functions f) ≡ None) → i.tables ≡ tables_of ts →
+    slice_get p.implementations number ≡ Some m → slice_get p.procedures m.procedure ≡ Some q → AreBlocks p number m q bs → IsReplay p bs set number m q ts gs fs cs ending →
     IsRight ending (induction_run (meaning_of p) (set_of set) i number (state_of gs fs) (map choice_of cs))

@@ -5,8 +5,13 @@ pub mod Leaves
 pub mod Points
 pub mod Alike
 pub mod Worths
+pub mod Saying
+pub mod Firsts
 pub mod Refutes
+pub mod Placing
+pub mod Standing
 pub mod Over
+pub mod Defaulting
 pub mod Replaying
 pub mod Judging
 pub mod Trimming

@@ -3,7 +3,7 @@ use Rattle.std.proofs.Common.{◌≡◌, ℕ, zero, suc, Bool, true, false, List
 use Rattle.std.specs.Prelude.{slice_get}
 use Rattle.std.specs.List.{list_all}
 use Rattle.bg_ast.specs.Values.{Ty, IntTy, BoolTy, UserTy, MapTy}
-use Rattle.bg_ast.specs.Syntax.{Var, Global, Local, Op, And, Or, Implies, Iff, Equal, Unequal, Less, AtMost, Greater, AtLeast, Plus, Minus, Times, Ex, Number, Fact, Constant, Read, Not, Negative, Binary, Apply, Select, Update, Old, Exs, NoMore, More, Star, Test, Decl, Impl, Proc, Prog}
+use Rattle.bg_ast.specs.Syntax.{Var, Global, Local, Op, And, Or, Implies, Iff, Equal, Unequal, Less, AtMost, Greater, AtLeast, Plus, Minus, Times, Ex, Number, Fact, Constant, Read, Not, Negative, Binary, Apply, Select, Update, Old, Exs, NoMore, More, Star, Test, Decl, Fun, Impl, Proc, Prog}
 use Rattle.bg_sense.specs.Types.{types_of}
 use Rattle.bg_sense.specs.Variables.{type_in, procedure_of}
 use Rattle.bg_sense.specs.Typing.{Sig, OpHasType, HasType, HaveTypes}
@@ -13,11 +13,11 @@ use Rattle.bg_flow.specs.Blocks.{Exit, Leap, Either, Block}
 use Rattle.bg_passive.specs.Incarnations.{ty_of}
 use Rattle.bg_block_types.specs.TypedFlow.{sig_with, sig_here, DemandsAreTyped, SayingsAreTyped, PlanIsTyped, CmdIsTyped, CmdsAreTyped, ExitIsTyped, CodeIsTyped}
 use Rattle.bg_fits.specs.Scalars as fits
-use Rattle.bg_fits.specs.Scalars.{is_empty, decl_passes, decls_pass, proc_passes, impl_passes, clause_passes, st_passes, is_scalar_type, is_over_scalars}
+use Rattle.bg_fits.specs.Scalars.{is_empty, fun_passes, decl_passes, decls_pass, proc_passes, impl_passes, is_scalar_type, is_over_scalars}
 use Rattle.bg_fits.specs.Holdings.{holding_of, holdings_of}
-use Rattle.bg_scalar.specs.Typed.{is_scalar}
+use Rattle.bg_scalar.specs.Typed.{is_scalar, are_scalar}
 use Rattle.bg_replay.specs.Holds.{holds_scalars, hold_scalars}
-use Rattle.bg_replay.specs.Over.{over_exs, over_demands, over_sayings, over_plan, over_cmd, over_exit, over_cmds, over_blocks}
+use Rattle.bg_replay.specs.Over.{over_demands, over_sayings, over_plan, over_cmd, over_exit, over_cmds, over_blocks}
 
 -- `bool` or `int`, each of them
 abbrev all_scalar : List Ty → Bool
@@ -53,10 +53,10 @@ sides Plus a b t h = ((IntTy, h.1), ((IntTy, h.2), of_type t IntTy h.0 refl))
 sides Minus a b t h = ((IntTy, h.1), ((IntTy, h.2), of_type t IntTy h.0 refl))
 sides Times a b t h = ((IntTy, h.1), ((IntTy, h.2), of_type t IntTy h.0 refl))
 
--- each variable of a signature is a truth value or a number, and nothing else is there
+-- each variable of a signature is a truth value or a number, each function is one on these, and nothing else is there
 record Fine (g : Sig) : Type 0 where
   constants : g.constants ≡ []
-  functions : g.functions ≡ []
+  functions : list_all (fun_passes (is_scalar_type true)) g.functions ≡ true
   globals : all_scalar g.globals ≡ true
   frame : all_scalar g.frame ≡ true
 
@@ -67,32 +67,41 @@ nothing_at (y ∷ ys) k x none h = absurd (let bad : y ∷ ys ≡ [] = none in c
 no_map : {B : Type 0} → false ≡ true → B
 no_map h = absurd (let bad : false ≡ true = h in cc)
 
-module _ (g : Sig) (fine : Fine g) where
-  typed_scalar : (e : Ex) (t : Ty) → HasType e g t → (is_scalar e ≡ true) × (is_scalar_type true t ≡ true)
-  typed_scalar (Number z) t h = (refl, of_type t IntTy h refl)
-  typed_scalar (Fact b) t h = (refl, of_type t BoolTy h refl)
-  typed_scalar (Constant c) t h = nothing_at g.constants c t fine.constants h
-  typed_scalar (Read (Global y)) t h = (refl, passes_at (is_scalar_type true) g.globals y t fine.globals h)
-  typed_scalar (Read (Local y)) t h = (refl, passes_at (is_scalar_type true) g.frame y t fine.frame h)
-  typed_scalar (Not e) t h = ((typed_scalar e BoolTy h.1).0, of_type t BoolTy h.0 refl)
-  typed_scalar (Negative e) t h = ((typed_scalar e IntTy h.1).0, of_type t IntTy h.0 refl)
-  typed_scalar (Binary o a b) t h =
-      let z = sides o (HasType a g) (HasType b g) t h in
-      (both (is_scalar a) (is_scalar b) (typed_scalar a z.0.0 z.0.1).0 (typed_scalar b z.1.0.0 z.1.0.1).0, z.1.1)
-  typed_scalar (Apply f es) t h = nothing_at g.functions f h.0 fine.functions h.1
-  typed_scalar (Select a es) t h = no_map (typed_scalar a (MapTy h.0 t) h.1).1
-  typed_scalar (Update a es e) t h = no_map (typed_scalar a (MapTy h.0 h.1.0) h.1.2).1
-  typed_scalar (Old e) t h = typed_scalar e t h
+-- a function on scalars gives one
+pub result_scalar : (f : Fun) → fun_passes (is_scalar_type true) f ≡ true → is_scalar_type true f.result ≡ true
+result_scalar f h =
+    and_left (is_scalar_type true f.result) _ (and_right (list_all (is_scalar_type true) f.params) _ h)
 
-  exs_scalar : (es : Exs) (ts : List Ty) → HaveTypes es g ts → (over_exs es ≡ true) × (all_scalar ts ≡ true)
-  exs_scalar NoMore ts h = (refl, subst (λ us. all_scalar us ≡ true) (sym h) refl)
-  exs_scalar (More e es) [] h = absurd h
-  exs_scalar (More e es) (t ∷ ts) h =
-      let a = typed_scalar e t h.0 in
-      let b = exs_scalar es ts h.1 in (
-        both (is_scalar e) (over_exs es) a.0 b.0,
-        both (is_scalar_type true t) (all_scalar ts) a.1 b.1,
-      )
+module _ (g : Sig) (fine : Fine g) where
+  mutual
+    typed_scalar : (e : Ex) (t : Ty) → HasType e g t → (is_scalar e ≡ true) × (is_scalar_type true t ≡ true)
+    typed_scalar (Number z) t h = (refl, of_type t IntTy h refl)
+    typed_scalar (Fact b) t h = (refl, of_type t BoolTy h refl)
+    typed_scalar (Constant c) t h = nothing_at g.constants c t fine.constants h
+    typed_scalar (Read (Global y)) t h = (refl, passes_at (is_scalar_type true) g.globals y t fine.globals h)
+    typed_scalar (Read (Local y)) t h = (refl, passes_at (is_scalar_type true) g.frame y t fine.frame h)
+    typed_scalar (Not e) t h = ((typed_scalar e BoolTy h.1).0, of_type t BoolTy h.0 refl)
+    typed_scalar (Negative e) t h = ((typed_scalar e IntTy h.1).0, of_type t IntTy h.0 refl)
+    typed_scalar (Binary o a b) t h =
+        let z = sides o (HasType a g) (HasType b g) t h in
+        (both (is_scalar a) (is_scalar b) (typed_scalar a z.0.0 z.0.1).0 (typed_scalar b z.1.0.0 z.1.0.1).0, z.1.1)
+    typed_scalar (Apply f es) t h = (
+      (exs_scalar es h.0.params h.3).0,
+      of_type t h.0.result h.2 (result_scalar h.0 (passes_at (fun_passes (is_scalar_type true)) g.functions f h.0 fine.functions h.1)),
+    )
+    typed_scalar (Select a es) t h = no_map (typed_scalar a (MapTy h.0 t) h.1).1
+    typed_scalar (Update a es e) t h = no_map (typed_scalar a (MapTy h.0 h.1.0) h.1.2).1
+    typed_scalar (Old e) t h = typed_scalar e t h
+
+    exs_scalar : (es : Exs) (ts : List Ty) → HaveTypes es g ts → (are_scalar es ≡ true) × (all_scalar ts ≡ true)
+    exs_scalar NoMore ts h = (refl, subst (λ us. all_scalar us ≡ true) (sym h) refl)
+    exs_scalar (More e es) [] h = absurd h
+    exs_scalar (More e es) (t ∷ ts) h =
+        let a = typed_scalar e t h.0 in
+        let b = exs_scalar es ts h.1 in (
+          both (is_scalar e) (are_scalar es) a.0 b.0,
+          both (is_scalar_type true t) (all_scalar ts) a.1 b.1,
+        )
 
   demands_scalar : (ds : List Demand) → DemandsAreTyped g ds → over_demands ds ≡ true
   demands_scalar [] h = refl
@@ -129,7 +138,7 @@ variable_scalar (d ∷ ds) zero h = and_left (is_scalar_type true d.ty) (all_sca
 variable_scalar (d ∷ ds) (suc x) h =
     variable_scalar ds x (and_right (is_scalar_type true d.ty) (all_scalar (types_of ds)) h)
 
-module _ (p : Prog) (ds : List Decl) (constants : p.constants ≡ []) (functions : p.functions ≡ []) (globals : all_scalar (types_of p.globals) ≡ true) (frame : all_scalar (types_of ds) ≡ true) where
+module _ (p : Prog) (ds : List Decl) (constants : p.constants ≡ []) (functions : list_all (fun_passes (is_scalar_type true)) p.functions ≡ true) (globals : all_scalar (types_of p.globals) ≡ true) (frame : all_scalar (types_of ds) ≡ true) where
   fine_with : (fts : List Ty) → all_scalar fts ≡ true → Fine (sig_with p (types_of p.globals) fts)
   fine_with fts h =
       record { constants = subst (λ cs. (sig_with (record p { constants = cs }) (types_of p.globals) fts).constants ≡ []) (sym constants) refl; functions = functions; globals = globals; frame = h }
@@ -149,7 +158,7 @@ module _ (p : Prog) (ds : List Decl) (constants : p.constants ≡ []) (functions
       let args = exs_scalar (sig_here p ds) here k.args (types_of k.params) h.0.0 in
       let results = subst (λ ts. all_scalar ts ≡ true) h.1.1.1 (vars_scalar k.takes) in
       both (hold_scalars (holdings_of k.results)) _ (all_hold k.results results)
-      (both (over_exs k.args) _ args.0
+      (both (are_scalar k.args) _ args.0
       (both (over_demands k.needs) (over_sayings k.gives) (demands_scalar (sig_with p (types_of p.globals) (types_of k.params)) (fine_with (types_of k.params) args.1) k.needs h.1.0) (sayings_scalar (sig_with p (types_of p.globals) (types_of k.params ++ types_of k.results)) (fine_with (types_of k.params ++ types_of k.results) (append_pass (is_scalar_type true) (types_of k.params) (types_of k.results) args.1 results)) k.gives h.1.1.0)))
 
   cmd_scalar : (k : Cmd) → CmdIsTyped p ds k → over_cmd k ≡ true
@@ -184,7 +193,7 @@ pub typed_code_is_scalar : (p : Prog) (k : ℕ) (m : Impl) (q : Proc) → is_ove
 typed_code_is_scalar p k m q o im pr bs h =
     let o1 = and_right (decls_pass (is_scalar_type true) (fits.is_scalar true) p.globals) _ o in
     let o2 = and_right (is_empty p.constants) _ o1 in
-    let o3 = and_right (is_empty p.functions) _ o2 in
+    let o3 = and_right (list_all (fun_passes (is_scalar_type true)) p.functions) _ o2 in
     let o4 = and_right (is_empty p.axioms) _ o3 in
     let a = passes_at (proc_passes p.candidates (is_scalar_type true) (fits.is_scalar true)) p.procedures m.procedure q (and_left _ (list_all (impl_passes p.candidates (is_scalar_type true) (fits.is_scalar true)) p.implementations) o4) pr in
     let b = passes_at (impl_passes p.candidates (is_scalar_type true) (fits.is_scalar true)) p.implementations k m (and_right (list_all (proc_passes p.candidates (is_scalar_type true) (fits.is_scalar true)) p.procedures) _ o4) im in
@@ -193,4 +202,4 @@ typed_code_is_scalar p k m q o im pr bs h =
     let results = and_left (decls_pass (is_scalar_type true) (fits.is_scalar true) q.results) _ a1 in
     let locals = and_left (decls_pass (is_scalar_type true) (fits.is_scalar true) m.locals) _ b in
     let passes = decl_passes (is_scalar_type true) (fits.is_scalar true) in
-    code_scalar p (frame_decls m q) (empty_is p.constants (and_left (is_empty p.constants) _ o1)) (empty_is p.functions (and_left (is_empty p.functions) _ o2)) (types_scalar p.globals (and_left (decls_pass (is_scalar_type true) (fits.is_scalar true) p.globals) _ o)) (types_scalar (frame_decls m q) (append_pass passes q.params (q.results ++ m.locals) params (append_pass passes q.results m.locals results locals))) bs h
+    code_scalar p (frame_decls m q) (empty_is p.constants (and_left (is_empty p.constants) _ o1)) (and_left (list_all (fun_passes (is_scalar_type true)) p.functions) _ o2) (types_scalar p.globals (and_left (decls_pass (is_scalar_type true) (fits.is_scalar true) p.globals) _ o)) (types_scalar (frame_decls m q) (append_pass passes q.params (q.results ++ m.locals) params (append_pass passes q.results m.locals results locals))) bs h

@@ -1,30 +1,33 @@
 -- From a complete leaf to a run that fails.
-use Rattle.std.proofs.Common.{◌≡◌, ℕ, ◌+◌, pos, Bool, true, false, List, length, map, Option, Some, None, refl, sym, ap, ◌∙◌, subst, replicate, arith}
-use Rattle.std.specs.Prelude.{not, slice_get, unwrap_or, Contains}
+use Rattle.std.proofs.Common.{◌≡◌, ℕ, ◌+◌, Bool, true, false, List, [], length, map, Option, Some, None, refl, sym, ap, ◌∙◌, subst}
+use Rattle.std.specs.Prelude.{not, slice_get, Contains}
 use Rattle.std.proofs.lemmas.Option.{unwrap_or-slice_get}
-use Rattle.bg_ast.specs.Values.{Val}
+use Rattle.std.proofs.lemmas.List.{length-map}
+use Rattle.bg_ast.specs.Values.{Val, truth_of}
+use Rattle.bg_ast.specs.Syntax.{Ex}
 use Rattle.bg_ast.specs.Syntax as s
 use Rattle.bg_ast.specs.Resolved as r
 use Rattle.bg_ast.specs.Meaning.{meaning_of}
-use Rattle.bg_ast.specs.Execution.{Spot, Place}
+use Rattle.bg_ast.specs.Execution.{Interp, Spot, Place}
 use Rattle.bg_sense.specs.Types.{are_of}
 use Rattle.bg_sense.specs.Flow.{Failed}
 use Rattle.bg_sense.specs.Context.{Turning}
 use Rattle.bg_sense.specs.Run.{induction_run}
 use Rattle.bg_sense.specs.Clauses.{is_kept}
 use Rattle.bg_sense.specs.Places.{places}
-use Rattle.bg_sense.specs.Claims.{IsState}
+use Rattle.bg_sense.specs.Claims.{IsState, Fails}
+use Rattle.bg_sense.specs.Eval.{ev}
+use Rattle.bg_sense.specs.Variables.{procedure_of}
 use Rattle.bg_sense.specs.Typed.{IsTyped}
 use Rattle.bg_flow.specs.Core.{frame_decls}
 use Rattle.bg_passive.specs.Passive.{Walked}
 use Rattle.bg_passive.specs.Incarnations.{passives, MakesPassive, first_state, passive_scope}
 use Rattle.bg_passive.specs.Equations.{is_well}
-use Rattle.bg_block_types.specs.Typed.{blocks_in, arrivals_in, incarnations_in}
+use Rattle.bg_block_types.specs.Typed.{blocks_in, arrivals_in, incarnations_in, passives_in}
 use Rattle.bg_formula.specs.Atoms.{IsTruth, at}
 use Rattle.bg_formula.specs.Formulas.{Formula, is_whole}
 use Rattle.bg_formula.specs.Meaning.{Valuation, AtomsAgree, clauses_true}
 use Rattle.bg_cert.specs.Walks.{has}
-use Rattle.bg_cert.specs.declared.cert.Decision.{Decision}
 use Rattle.bg_point.specs.declared.spot.Spot as spots
 use Rattle.bg_point.specs.Points.{value_of}
 use Rattle.bg_tree.specs.declared.outcome.Leaf.{Leaf}
@@ -35,19 +38,29 @@ use Rattle.bg_forms.specs.Worth.{bools_at}
 use Rattle.bg_formed.specs.Agree.{RowsAgree}
 use Rattle.bg_formed.specs.Formed.{FormCmd, FormBlock}
 use Rattle.bg_formed.specs.Said.{SaidBlocks}
+use Rattle.bg_formed.specs.Used.{refused}
 use Rattle.bg_formed.specs.Wells.{form_equations}
 use Rattle.bg_clause.specs.Tables.{there_in}
 use Rattle.bg_clause.specs.Valued.{worth_in}
 use Rattle.bg_fits.specs.Scalars.{is_over_scalars}
 use Rattle.bg_linear.specs.declared.scalar.Sort.{Sort}
-use Rattle.bg_linear.specs.Sorts.{scalar_values}
 use Rattle.bg_atoms.specs.Ranks.{rank}
 use Rattle.bg_faithful.specs.Checks.{BlocksPlaced}
-use Rattle.bg_faithful.specs.Encoded.{Encoding, IsEncoding}
-use Rattle.bg_faithful.specs.Interps.{no_interp}
-use Rattle.bg_faithful.specs.Sorted.{sorts_in}
-use Rattle.bg_scalar.specs.Values.{val_of}
+use Rattle.bg_faithful.specs.Encoded.{Encoding}
+use Rattle.bg_terms.specs.Terms.{Term, IsModel, over}
+use Rattle.bg_terms.specs.Instances.{Instance, instance_ex}
+use Rattle.bg_flat.specs.Blocks.{IsFlatTruth, in_front}
+use Rattle.bg_flat.specs.Fronts.{stated}
+use Rattle.bg_flatten.specs.Flattens.{AreFlattened}
+use Rattle.bg_finish.specs.Finished.{AreReadOff}
+use Rattle.bg_termed.specs.Termed.{IsTabled, count_in, terms_in, flats_in, types_in, sorts_in, behind_in}
+use Rattle.bg_termed.specs.Clauses.{IsEncoding}
+use Rattle.bg_scalar.specs.Tables.{TableOf}
+use Rattle.bg_scalar.specs.Views.{tables_in}
+use Rattle.bg_scalar.specs.Values.{tables_of}
 use Rattle.bg_scalar.specs.Choices.{choice_of, state_of}
+use Rattle.bg_model.specs.Behind.{behind_front}
+use Rattle.bg_model.specs.Interps.{interp_of}
 use Rattle.bg_model.specs.Over.{walk_over}
 use Rattle.bg_model.specs.Turns.{turns, taken}
 use Rattle.bg_model.specs.Views.{set_of}
@@ -55,26 +68,52 @@ use Rattle.bg_model.specs.declared.failure.Counterexample.{Counterexample}
 use Rattle.bg_model.specs.Counterexamples.{is_denied, SetUp, IsCounterexample, IsTold}
 use Rattle.bg_task.specs.declared.cut.Cut.{Cut}
 use Rattle.bg_task.specs.declared.prepared.Prepared.{Prepared}
-use Rattle.bg_check.specs.Leaves.{marked, numbered, scalars_from}
 use Rattle.bg_task.specs.Prepared.{IsPrepared}
 use Rattle.bg_task.specs.Slices.{IsSliceFor, encoding_in}
 use Rattle.bg_task.specs.Made.{ClausesOf}
 use Rattle.bg_task.specs.Asked.{IsAsked}
 use Rattle.bg_check.specs.Verdicts.{IsFailure}
-use Rattle.bg_check.proofs.LawTypes.{WholeLaw, ValueLaw, StartLaw, MeetLaw, HoldLaw, DeniedLaw, WithinLaw, RowsLaw, LeafLaw, UnitLaw, SignLaw, SpotLaw, CheckLaw}
-use Rattle.bg_task.proofs.LawTypes.{BodyLaw, FitLaw, UnitAtomLaw, NamedUnitLaw}
+use Rattle.bg_check.proofs.LawTypes.{WholeLaw, ValueLaw, FirstLaw, StartLaw, MeetLaw, HoldLaw, TermLaw, FlatLaw, ModelLaw, DeniedLaw, WithinLaw, RowsLaw, LeafLaw, UnitLaw, SignLaw, SpotLaw, CheckLaw}
+use Rattle.bg_task.proofs.LawTypes.{BodyLaw, FitLaw, UnitAtomLaw, NamedUnitLaw, TabledLaw, MaplessLaw}
 use Rattle.bg_task.proofs.Formulas.{IsPlainFormula, plain_formula, plain_agree, own_number, unit_met}
-use Rattle.bg_check.proofs.Leaves.{leaf_number, scalars_are}
 use Rattle.bg_check.proofs.Alike.{blocks_kept, blocks_fewer}
-use Rattle.bg_check.specs.LeafRuns.{leaf_bools, HasLeaf}
+use Rattle.bg_check.specs.LeafRuns.{leaf_bools, vals_in, incarnation_vals, HasLeaf}
 use Rattle.bg_check.proofs.Worths.{leaf_valuation, truths_agree, worths_are}
+use Rattle.bg_check.proofs.Firsts.{first_at}
+use Rattle.bg_check.proofs.Saying.{said_alike, denied_behind, none_behind, below_behind}
 use Rattle.bg_task.proofs.Prepares.{impl, proc, impl_at, proc_at, frame_long, blocks_are, firsts_are, clauses_here}
 
 -- a set as a list, by either reading
 pub set_same : (bs : List Bool) → set_of bs ≡ has bs
 set_same bs = λ i b. unwrap_or-slice_get bs b false i
 
-module _ (bodies : BodyLaw) (fits : FitLaw) (whole : WholeLaw) (values : ValueLaw) (starts : StartLaw) (meets : MeetLaw) (holds : HoldLaw) (denies : DeniedLaw) (within : WithinLaw) (rows : RowsLaw) (units_own : UnitAtomLaw) (units_named : NamedUnitLaw) (leaves : LeafLaw) (units : UnitLaw) (signs : SignLaw) (own_spots : SpotLaw) (checks : CheckLaw) (p : r.Program) (n : ℕ) (w : Prepared) (h : IsPrepared p n w) (t : IsTyped (meaning_of p)) (o : is_over_scalars true (meaning_of p) ≡ true) where
+-- what the laws say from which a leaf gives a run
+pub record LeafLaws : Type 0 where
+  pub bodies : BodyLaw
+  pub fits : FitLaw
+  pub whole : WholeLaw
+  pub values : ValueLaw
+  pub first : FirstLaw
+  pub starts : StartLaw
+  pub meets : MeetLaw
+  pub holds : HoldLaw
+  pub denies : DeniedLaw
+  pub within : WithinLaw
+  pub rows : RowsLaw
+  pub units_own : UnitAtomLaw
+  pub units_named : NamedUnitLaw
+  pub leaves : LeafLaw
+  pub units : UnitLaw
+  pub signs : SignLaw
+  pub own_spots : SpotLaw
+  pub checks : CheckLaw
+  pub tabled : TabledLaw
+  pub mapless : MaplessLaw
+  pub terms : TermLaw
+  pub flat : FlatLaw
+  pub models : ModelLaw
+
+module _ (laws : LeafLaws) (p : r.Program) (n : ℕ) (w : Prepared) (h : IsPrepared p n w) (t : IsTyped (meaning_of p)) (o : is_over_scalars true (meaning_of p) ≡ true) where
   abbrev P : s.Prog
   P = meaning_of p
 
@@ -87,11 +126,29 @@ module _ (bodies : BodyLaw) (fits : FitLaw) (whole : WholeLaw) (values : ValueLa
   abbrev S : List Sort
   S = sorts_in P n M Q
 
-  module _ (spot : Spot) (candidate : Option ℕ) (cuts : Cut) (cut : IsSliceFor p n w spot cuts) (f : Formula) (set : List Bool) (leaf : Leaf) (made : ClausesOf cuts (record { implementation = n; spot = spot; candidate = candidate }) f) (is_leaf : IsLeaf f (has set) leaf) (asked : IsAsked P (has set) (record { implementation = n; spot = spot; candidate = candidate })) where
+  abbrev N : ℕ
+  N = count_in P n M Q
+
+  abbrev TS : List Term
+  TS = terms_in P n M Q
+
+  im : slice_get P.implementations n ≡ Some M
+  im = impl_at p n w h
+
+  pr : procedure_of P M.procedure ≡ Some Q
+  pr = proc_at p n w h
+
+  tabled_here : IsTabled P
+  tabled_here = laws.tabled P t o
+
+  flattened : AreFlattened P.functions (incarnations_in P n M Q) (passives_in P n M Q) TS (flats_in P n M Q)
+  flattened = laws.terms P n M Q tabled_here im pr (laws.mapless P n M Q t o im pr)
+
+  module _ (es : List Instance) (spot : Spot) (candidate : Option ℕ) (cuts : Cut) (cut : IsSliceFor p n w es spot cuts) (f : Formula) (set : List Bool) (leaf : Leaf) (made : ClausesOf cuts (record { implementation = n; spot = spot; candidate = candidate }) f) (is_leaf : IsLeaf f (has set) leaf) (asked : IsAsked P (has set) (record { implementation = n; spot = spot; candidate = candidate })) where
     abbrev A : Encoding
     A = encoding_in cuts
 
-    encoding : IsEncoding P n M Q A
+    encoding : IsEncoding P n M Q es A
     encoding = cut.encoding h
 
     plain : IsPlainFormula A.first A.rows f
@@ -110,140 +167,166 @@ module _ (bodies : BodyLaw) (fits : FitLaw) (whole : WholeLaw) (values : ValueLa
     T = bools_at (leaf_bools f leaf)
 
     is_whole_here : is_whole f ≡ true
-    is_whole_here = whole P n M Q t o (impl_at p n w h) (proc_at p n w h) A encoding spot f made
+    is_whole_here = laws.whole S P.candidates (behind_in P n M Q es) A spot f encoding made
 
     is_met : clauses_true V f.atoms f.clauses ≡ true
     is_met =
-        leaves f (has set) leaf V is_whole_here agree is_leaf (λ x. refl) (truths_agree f leaf own is_leaf.once)
+        laws.leaves f (has set) leaf V is_whole_here agree is_leaf (λ x. refl) (truths_agree f leaf own is_leaf.once)
 
     worths : worth_in V f.atoms ≡ T
-    worths = worths_are signs f (has set) leaf agree is_leaf own
+    worths = worths_are laws.signs f (has set) leaf agree is_leaf own
 
     -- named members of the set are there
     members : (b : ℕ) → bools_at A.named b ≡ true → set_of set b ≡ true → there_in f.candidates V.truths b ≡ true
     members b l s =
-        unit_met f A.named (units_own A.first A.terms A.named A.rows spot A.blocks f made) (units_named A.first A.terms A.named A.rows spot A.blocks f made) V (has set) (units f (has set) leaf V is_whole_here agree is_leaf (λ x. refl) (truths_agree f leaf own is_leaf.once)) b l (sym (ap (λ x. x b) (set_same set)) ∙ s)
+        unit_met f A.named (laws.units_own A.first A.terms A.named A.rows spot A.blocks f made) (laws.units_named A.first A.terms A.named A.rows spot A.blocks f made) V (has set) (laws.units f (has set) leaf V is_whole_here agree is_leaf (λ x. refl) (truths_agree f leaf own is_leaf.once)) b l (sym (ap (λ x. x b) (set_same set)) ∙ s)
 
     -- the check of the place is there under the set
     kept : (u : Place) → Contains (places P) u → u.spot ≡ spot → is_kept (set_of set) u.candidate ≡ true
     kept u mem e =
         ap (λ x. is_kept x u.candidate) (set_same set)
-        ∙ (ap (is_kept (has set)) (own_spots P u (record { implementation = n; spot = spot; candidate = candidate }) asked.resolved mem asked.is_place e) ∙ asked.kept)
+        ∙ (ap (is_kept (has set)) (laws.own_spots P u (record { implementation = n; spot = spot; candidate = candidate }) asked.resolved mem asked.is_place e) ∙ asked.kept)
 
-    -- ---- the values of the incarnations
+    -- ---- the values of incarnations and terms
 
     abbrev X : List Val
-    X = scalar_values (value_of leaf.spots.items) (λ j. T (rank S j)) S
+    X = vals_in P n M Q f leaf
 
-    values_are : map val_of (scalars_from (leaf_bools f leaf) (numbered leaf.spots.items (replicate (length w.sorts.items) (pos 0))) 0 0 w.sorts.items) ≡ X
-    values_are =
-        scalars_are (leaf_bools f leaf) (numbered leaf.spots.items (replicate (length w.sorts.items) (pos 0))) (value_of leaf.spots.items) (λ j. T (rank w.sorts.items j)) 0 0 w.sorts.items
-        (λ i l. ap (λ k. unwrap_or (slice_get (numbered leaf.spots.items (replicate (length w.sorts.items) (pos 0))) k) (pos 0)) (zero_plus i) ∙ leaf_number leaf.spots.items (length w.sorts.items) i l)
-        (λ i l. ap T (zero_plus (rank w.sorts.items i)))
-        ∙ ap (λ ss. scalar_values (value_of leaf.spots.items) (λ j. T (rank ss j)) ss) h.sorts
-      where
-        zero_plus : (i : ℕ) → 0 + i ≡ i
-        zero_plus i = omega arith
+    abbrev Y : List Val
+    Y = incarnation_vals P n M Q f leaf
 
-    typed : are_of (incarnations_in P n M Q) X ≡ true
-    typed =
-        values P n M Q t o (impl_at p n w h) (proc_at p n w h) (value_of leaf.spots.items) (λ j. T (rank S j))
+    pub all_typed : are_of (types_in P n M Q) X ≡ true
+    all_typed = laws.values P n M Q t o im pr (value_of leaf.spots.items) (λ j. T (rank S j))
+
+    typed : are_of (incarnations_in P n M Q) Y ≡ true
+    typed = laws.first P n M Q t o im pr (value_of leaf.spots.items) (λ j. T (rank S j))
 
     -- what is made of the implementation, with these values
-    set_up : SetUp P (map (block_of p) w.blocks.items) w.frame w.firsts.items X n M Q (first_state P (frame_decls M Q) X) (arrivals_in P n M Q).made (arrivals_in P n M Q).arrivals
+    set_up : SetUp P (map (block_of p) w.blocks.items) w.frame w.firsts.items Y n M Q (first_state P (frame_decls M Q) Y) (arrivals_in P n M Q).made (arrivals_in P n M Q).arrivals
     set_up =
         let a = arrivals_in P n M Q in
-        let start = first_state P (frame_decls M Q) X in
+        let start = first_state P (frame_decls M Q) Y in
+        let none : Interp = record { constants = []; tables = [] } in
         record {
-          implementation = impl_at p n w h;
-          procedure = proc_at p n w h;
+          implementation = im;
+          procedure = pr;
           blocks = blocks_are p n w h;
           frame_size = frame_long p n w h;
           firsts = firsts_are p n w h;
           suited =
-              subst (MakesPassive P (frame_decls M Q) a.made a.arrivals) (sym (blocks_are p n w h)) (fits P (λ b. false) no_interp n M Q start (bodies Turning P (λ b. false) no_interp n M Q start t (impl_at p n w h) (proc_at p n w h)));
+              subst (MakesPassive P (frame_decls M Q) a.made a.arrivals) (sym (blocks_are p n w h)) (laws.fits P (λ b. false) none n M Q start (laws.bodies Turning P (λ b. false) none n M Q start t im pr));
           values = record { typed = typed; first = refl };
         }
 
-    said : SaidBlocks T (passive_scope P no_interp X) (passives (arrivals_in P n M Q).arrivals (map (block_of p) w.blocks.items)) A.blocks
-    said =
-        let r = rows A.first A.terms A.named A.rows spot A.blocks f made encoding.below V encoding.rows in
+    -- the forms say what the flat blocks say under the values
+    said_flat : SaidBlocks T (over X) (in_front (stated N TS es) (flats_in P n M Q)) A.blocks
+    said_flat =
+        let r = laws.rows A.first A.terms A.named A.rows spot A.blocks f made encoding.below V encoding.rows in
         let agrees = subst (λ (u : ℕ → Bool). RowsAgree (value_of leaf.spots.items) u A.first A.rows) worths r in
-        let x = encoding.said (value_of leaf.spots.items) T (passive_scope P no_interp X) agrees (holds S (value_of leaf.spots.items) (λ j. T (rank S j))) in
-        subst (λ bs. SaidBlocks T (passive_scope P no_interp X) (passives (arrivals_in P n M Q).arrivals bs) A.blocks) (sym (blocks_are p n w h)) x
+        encoding.said (value_of leaf.spots.items) T (over X) agrees (laws.holds S (value_of leaf.spots.items) (λ j. T (rank S j)))
 
-    -- the equations of the forms deny the entry
-    denied : is_denied (set_of set) spot T A.blocks ≡ true
-    denied =
-        let d = denies A.first A.terms A.named A.rows spot A.blocks f made encoding.below V is_met in
-        let e = subst (λ (u : ℕ → Bool). is_well (slice_get (form_equations (there_in f.candidates V.truths) spot u A.blocks) 0) ≡ false) worths d in
-        let placed = subst (λ bs. BlocksPlaced P (passives (arrivals_in P n M Q).arrivals bs)) (sym (blocks_are p n w h)) (checks P n M Q o (impl_at p n w h) (proc_at p n w h)) in
-        let there = blocks_kept P (set_of set) spot T (passive_scope P no_interp X) kept (passives (arrivals_in P n M Q).arrivals (map (block_of p) w.blocks.items)) A.blocks said placed in
-        ap not (blocks_fewer (A.first + length A.rows) (bools_at A.named) (set_of set) (there_in f.candidates V.truths) members spot T A.blocks encoding.below there 0 e)
+    abbrev B : List FormBlock
+    B = behind_front (length es) A.blocks
 
-    failure : (cex : Counterexample) → IsCounterexample P (map (block_of p) w.blocks.items) w.frame w.firsts.items A.blocks (set_of set) spot T X cex → IsFailure P (has set) (record { implementation = n; spot = spot; candidate = candidate }) cex
-    failure cex c =
-        let a = arrivals_in P n M Q in
-        let start = first_state P (frame_decls M Q) X in
-        let same = c.starts n M Q start a.made a.arrivals set_up in
-        let run = c.fails no_interp n M Q start a.made a.arrivals set_up said (within A.first A.terms A.named A.rows spot A.blocks f made) in
-        record {
-          meets = meets P o;
-          state =
-              subst (IsState P n) same (starts P n M Q t o (impl_at p n w h) (proc_at p n w h) X typed);
-          fails =
-              subst (λ x. induction_run P x no_interp n (state_of cex.globals.items cex.frame.items) (map choice_of cex.choices.items) ≡ Failed spot) (set_same set)
-              (subst (λ x. induction_run P (set_of set) no_interp n x (map choice_of cex.choices.items) ≡ Failed spot) same run);
-        }
+    -- as many stand in front as there are instances
+    many : length (stated N TS es) ≡ length es
+    many = length-map es (instance_ex N TS)
+
+    none_refused : refused spot B ≡ None
+    none_refused =
+        subst (λ j. refused spot (behind_front j A.blocks) ≡ None) many
+        (none_behind spot T (over X) (stated N TS es) (flats_in P n M Q) A.blocks said_flat (laws.within A.first A.terms A.named A.rows spot A.blocks f made))
+
+    -- ---- under an interpretation that is read off
+
+    module _ (i : Interp) (off : AreReadOff P.functions N TS X i.tables) where
+      model : IsModel i X N TS
+      model = laws.models P n M Q t o im pr i X all_typed off.congruent (off.read_off i refl)
+
+      same : (e x : Ex) → IsFlatTruth (types_in P n M Q) N TS e x → truth_of (ev x (over X)) ≡ truth_of (ev e (passive_scope P i Y))
+      same e x g =
+          ap truth_of (laws.flat i N (length P.functions) P.functions TS X Y e x tabled_here.bodies model (λ j l. first_at N X j l) g.0)
+
+      said : SaidBlocks T (passive_scope P i Y) (passives (arrivals_in P n M Q).arrivals (map (block_of p) w.blocks.items)) B
+      said =
+          let all = said_alike (types_in P n M Q) N TS T (passive_scope P i Y) (over X) same (stated N TS es) (passives_in P n M Q) (flats_in P n M Q) A.blocks flattened.blocks said_flat in
+          let x = subst (λ j. SaidBlocks T (passive_scope P i Y) (passives_in P n M Q) (behind_front j A.blocks)) many all in
+          subst (λ bs. SaidBlocks T (passive_scope P i Y) (passives (arrivals_in P n M Q).arrivals bs) B) (sym (blocks_are p n w h)) x
+
+      -- the equations of the forms deny the entry
+      denied : is_denied (set_of set) spot T B ≡ true
+      denied =
+          let d = laws.denies A.first A.terms A.named A.rows spot A.blocks f made encoding.below V is_met in
+          let e = subst (λ (u : ℕ → Bool). is_well (slice_get (form_equations (there_in f.candidates V.truths) spot u A.blocks) 0) ≡ false) worths d in
+          let g = subst (λ j. is_well (slice_get (form_equations (there_in f.candidates V.truths) spot T (behind_front j A.blocks)) 0) ≡ false) many
+          (denied_behind (there_in f.candidates V.truths) spot T (over X) (stated N TS es) (flats_in P n M Q) A.blocks said_flat e) in
+          let below = below_behind (A.first + length A.rows) (bools_at A.named) (length es) A.blocks encoding.below in
+          let placed = subst (λ bs. BlocksPlaced P (passives (arrivals_in P n M Q).arrivals bs)) (sym (blocks_are p n w h)) (laws.checks P n M Q o im pr) in
+          let there = blocks_kept P (set_of set) spot T (passive_scope P i Y) kept (passives (arrivals_in P n M Q).arrivals (map (block_of p) w.blocks.items)) B said placed in
+          ap not (blocks_fewer (A.first + length A.rows) (bools_at A.named) (set_of set) (there_in f.candidates V.truths) members spot T B below there 0 g)
+
+      failure : (cex : Counterexample) → interp_of cex ≡ i → IsCounterexample P (map (block_of p) w.blocks.items) w.frame w.firsts.items B (set_of set) spot T Y (tables_in cex.tables.items) cex → i.constants ≡ [] → IsFailure P (has set) (record { implementation = n; spot = spot; candidate = candidate }) cex
+      failure cex is c none =
+          let a = arrivals_in P n M Q in
+          let start = first_state P (frame_decls M Q) Y in
+          let same = c.starts n M Q start a.made a.arrivals set_up in
+          let run = c.fails i n M Q start a.made a.arrivals set_up said none_refused in
+          subst (λ j. Fails P (has set) (record { implementation = n; spot = spot; candidate = candidate }) j (state_of cex.globals.items cex.frame.items) (map choice_of cex.choices.items)) (sym is)
+          (record {
+            meets = laws.meets P i o none off.normal;
+            state = subst (IsState P n) same (laws.starts P n M Q t o im pr Y typed);
+            fails =
+                subst (λ x. induction_run P x i n (state_of cex.globals.items cex.frame.items) (map choice_of cex.choices.items) ≡ Failed spot) (set_same set)
+                (subst (λ x. induction_run P (set_of set) i n x (map choice_of cex.choices.items) ≡ Failed spot) same run);
+          })
 
     abbrev W : (ℕ → Bool) → List FormCmd → Walked
     W x = walk_over x spot T
 
+    abbrev place : Place
+    place = record { implementation = n; spot = spot; candidate = candidate }
+
     -- it is the run of the leaf
-    run_of_leaf : (cex : Counterexample) → IsCounterexample P (map (block_of p) w.blocks.items) w.frame w.firsts.items A.blocks (set_of set) spot T X cex → HasLeaf P (has set) (record { implementation = n; spot = spot; candidate = candidate }) cex
-    run_of_leaf cex c =
+    run_of_leaf : (cex : Counterexample) → AreReadOff P.functions N TS X (interp_of cex).tables → IsCounterexample P (map (block_of p) w.blocks.items) w.frame w.firsts.items B (set_of set) spot T Y (tables_in cex.tables.items) cex → HasLeaf P (has set) place es cex
+    run_of_leaf cex off c =
         let a = arrivals_in P n M Q in
         record {
           formula = f;
-          is = clauses_here p n w h spot candidate cuts f cut made;
+          is = clauses_here p n w h es spot candidate cuts f cut made;
           leaf = leaf;
           is_leaf = is_leaf;
+          read_off = off;
           run =
               record {
-                state = sym (c.starts n M Q (first_state P (frame_decls M Q) X) a.made a.arrivals set_up);
+                state = sym (c.starts n M Q (first_state P (frame_decls M Q) Y) a.made a.arrivals set_up);
                 choices =
                     c.choices
-                    ∙ ap (λ x. taken (W x) X (map (block_of p) w.blocks.items) A.blocks w.firsts.items (turns (W x) A.blocks) 0) (set_same set)
-                    ∙ ap (λ bs. taken (W (has set)) X bs A.blocks w.firsts.items (turns (W (has set)) A.blocks) 0) (blocks_are p n w h)
-                    ∙ ap (λ ns. taken (W (has set)) X (blocks_in P n M Q) A.blocks ns (turns (W (has set)) A.blocks) 0) (firsts_are p n w h);
+                    ∙ ap (λ x. taken (W x) Y (map (block_of p) w.blocks.items) B w.firsts.items (turns (W x) B) 0) (set_same set)
+                    ∙ ap (λ bs. taken (W (has set)) Y bs B w.firsts.items (turns (W (has set)) B) 0) (blocks_are p n w h)
+                    ∙ ap (λ ns. taken (W (has set)) Y (blocks_in P n M Q) B ns (turns (W (has set)) B) 0) (firsts_are p n w h);
               };
         }
 
     -- a counterexample that is found is one, and the run of the leaf; and one is found
-    abbrev pub IsRefuted : Option Counterexample → Type 0
-    IsRefuted None = ⊥
-    IsRefuted (Some cex) =
-        HasLeaf P (has set) (record { implementation = n; spot = spot; candidate = candidate }) cex × IsFailure P (has set) (record { implementation = n; spot = spot; candidate = candidate }) cex
+    abbrev pub IsRun : Option Counterexample → Type 0
+    IsRun None = ⊥
+    IsRun (Some cex) = HasLeaf P (has set) place es cex × IsFailure P (has set) place cex
 
-    abbrev Told : List Block → List ℕ → List FormBlock → List Bool → List Val → Option Counterexample → Type 0
-    Told bs ns forms ts vs got =
-        IsTold (is_denied (set_of set) spot (bools_at ts) forms) got (IsCounterexample P (map (block_of p) bs) w.frame ns forms (set_of set) spot (bools_at ts) vs)
+    abbrev Told : List Block → List ℕ → List FormBlock → List Bool → List Val → List TableOf → Option Counterexample → Type 0
+    Told bs ns forms ts vs tables got =
+        IsTold (is_denied (set_of set) spot (bools_at ts) forms) got (IsCounterexample P (map (block_of p) bs) w.frame ns forms (set_of set) spot (bools_at ts) vs tables)
 
-    pub refutes : (bs : List Block) (ns : List ℕ) (forms : List FormBlock) (ts : List Bool) (vs : List Val) (got : Option Counterexample) → bs ≡ w.blocks.items → ns ≡ w.firsts.items → forms ≡ A.blocks → ts ≡ leaf_bools f leaf → vs ≡ X → Told bs ns forms ts vs got → IsRefuted got
-    refutes bs ns forms ts vs got eb en ef et ev told =
-        on got (subst (λ x. Told x w.firsts.items A.blocks (leaf_bools f leaf) X got) eb (subst (λ x. Told bs x A.blocks (leaf_bools f leaf) X got) en (subst (λ x. Told bs ns x (leaf_bools f leaf) X got) ef (subst (λ x. Told bs ns forms x X got) et (subst (λ x. Told bs ns forms ts x got) ev told)))))
+    pub refutes : (tables : List TableOf) → AreReadOff P.functions N TS X (tables_of tables) → (bs : List Block) (ns : List ℕ) (forms : List FormBlock) (ts : List Bool) (vs : List Val) (got : Option Counterexample) → bs ≡ w.blocks.items → ns ≡ w.firsts.items → forms ≡ B → ts ≡ leaf_bools f leaf → vs ≡ Y → Told bs ns forms ts vs tables got → IsRun got
+    refutes tables off bs ns forms ts vs got eb en ef et ev told =
+        on got (subst (λ x. Told x w.firsts.items B (leaf_bools f leaf) Y tables got) eb (subst (λ x. Told bs x B (leaf_bools f leaf) Y tables got) en (subst (λ x. Told bs ns x (leaf_bools f leaf) Y tables got) ef (subst (λ x. Told bs ns forms x Y tables got) et (subst (λ x. Told bs ns forms ts x tables got) ev told)))))
       where
-        on : (x : Option Counterexample) → Told w.blocks.items w.firsts.items A.blocks (leaf_bools f leaf) X x → IsRefuted x
-        on None d = absurd (let bad : true ≡ false = sym denied ∙ d in let worse : ⊥ = cc in worse)
-        on (Some cex) d = (run_of_leaf cex d.1, failure cex d.1)
+        i : Interp
+        i = record { constants = []; tables = tables_of tables }
 
-    -- the values that are made
-    pub values_from : (ss : List Sort) (ts : List Bool) (sp : List spots.Spot) → ss ≡ w.sorts.items → ts ≡ leaf_bools f leaf → sp ≡ leaf.spots.items → map val_of (scalars_from ts (numbered sp (replicate (length ss) (pos 0))) 0 0 ss) ≡ X
-    values_from ss ts sp a b c =
-        ap (λ x. map val_of (scalars_from ts (numbered sp (replicate (length x) (pos 0))) 0 0 x)) a
-        ∙ (ap (λ x. map val_of (scalars_from x (numbered sp (replicate (length w.sorts.items) (pos 0))) 0 0 w.sorts.items)) b
-        ∙ (ap (λ x. map val_of (scalars_from (leaf_bools f leaf) (numbered x (replicate (length w.sorts.items) (pos 0))) 0 0 w.sorts.items)) c ∙ values_are))
-
-    -- the truth values that are made
-    pub truths_from : (ds : List Decision) (k : ℕ) → ds ≡ leaf.path.items → k ≡ length f.atoms → marked ds (replicate k false) ≡ leaf_bools f leaf
-    truths_from ds k a b = ap (λ x. marked x (replicate k false)) a ∙ ap (λ x. marked leaf.path.items (replicate x false)) b
+        on : (x : Option Counterexample) → Told w.blocks.items w.firsts.items B (leaf_bools f leaf) Y tables x → IsRun x
+        on None d = absurd (let bad : true ≡ false = sym (denied i off) ∙ d in let worse : ⊥ = cc in worse)
+        on (Some cex) d =
+            let its = d.1.tables in
+            let own = subst (λ ts. IsCounterexample P (map (block_of p) w.blocks.items) w.frame w.firsts.items B (set_of set) spot T Y ts cex) (sym its) d.1 in
+            let is : interp_of cex ≡ i = ap (λ ts. record { constants = []; tables = tables_of ts }) its in
+            (run_of_leaf cex (subst (λ ts. AreReadOff P.functions N TS X (tables_of ts)) (sym its) off) own, failure i off cex is own refl)

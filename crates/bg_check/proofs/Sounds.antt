@@ -18,15 +18,17 @@ use Rattle.bg_check.specs.declared.verdict.Verdict.{Verdict}
 use Rattle.bg_check.specs.declared.verdict.Verdict.TheVariants.{Proved, Refuted, Unknown}
 use Rattle.bg_check.specs.declared.verdict.Judged.{Judged}
 use Rattle.bg_check.specs.Verdicts.{IsRight, placed_at, AreRightAt, AreRightFrom, is_proved, are_proved, ProvedAreSafe}
+use Rattle.bg_terms.specs.Instances.{Instance}
+use Rattle.bg_term_table.specs.Instances.{instances_of}
 use Rattle.bg_task.specs.Certified.{HasCertificate}
 use Rattle.bg_check.specs.Outcomes.{verdict_of, told_one, is_ordinary, told}
 
 -- what certificates give
 abbrev pub NoFailures : Prog → (ℕ → Bool) → Type 0
 NoFailures p set =
-    (t : Place) (cert : Cert) → HasCertificate p set t cert → (i : Interp) (s : State) (cs : List Choice) → Fails p set t i s cs → ⊥
+    (t : Place) (instances : List Instance) (cert : Cert) → HasCertificate p set t instances cert → (i : Interp) (s : State) (cs : List Choice) → Fails p set t i s cs → ⊥
 
-same_placed : (words : Cause → t.Why) (js : List Judged) → map t.placed_at (map (told_one words) js) ≡ map placed_at js
+same_placed : (words : ℕ → Cause → t.Why) (js : List Judged) → map t.placed_at (map (told_one words) js) ≡ map placed_at js
 same_placed words [] = refl
 same_placed words (j ∷ js) = ap (λ ys. placed_at j ∷ ys) (same_placed words js)
 
@@ -45,26 +47,26 @@ same_filtered (j ∷ js) h =
     ap (λ (b : Bool). cond b (j ∷ filter is_ordinary js) (filter is_ordinary js)) (and_left (is_ordinary j) (list_all t.is_ordinary (map placed_at js)) h)
     ∙ ap (λ ys. j ∷ ys) (same_filtered js (and_right (is_ordinary j) (list_all t.is_ordinary (map placed_at js)) h))
 
-module _ (p : Prog) (set : ℕ → Bool) (budget : Budget) (words : Cause → t.Why) (none_fail : NoFailures p set) where
+module _ (p : Prog) (set : ℕ → Bool) (budget : Budget) (words : ℕ → Cause → t.Why) (none_fail : NoFailures p set) where
   true_at : (u : Place) (v : Verdict) → IsRight budget p set u v → IsTrueAt p set u (verdict_of words v)
-  true_at u (Proved cert) h = none_fail u cert h
+  true_at u (Proved es cert) h = none_fail u (instances_of es.items) cert h
   true_at u (Refuted cex) h = (h.0, h.1.1)
-  true_at u (Unknown cause) h = tt
+  true_at u (Unknown rounds cause) h = tt
 
   all_true : (js : List Judged) → AreRightAt budget p set js → AreTrueAt p set (map (told_one words) js)
   all_true [] h = tt
   all_true (j ∷ js) h = (true_at (placed_at j).place j.verdict h.0, all_true js h.1)
 
-proved_one : (words : Cause → t.Why) (v : Verdict) → t.is_refuted (verdict_of words v) ≡ false → t.is_unknown (verdict_of words v) ≡ false → is_proved v ≡ true
-proved_one words (Proved cert) a b = refl
+proved_one : (words : ℕ → Cause → t.Why) (v : Verdict) → t.is_refuted (verdict_of words v) ≡ false → t.is_unknown (verdict_of words v) ≡ false → is_proved v ≡ true
+proved_one words (Proved es cert) a b = refl
 proved_one words (Refuted cex) a b = absurd (let bad : true ≡ false = a in cc)
-proved_one words (Unknown cause) a b = absurd (let bad : true ≡ false = b in cc)
+proved_one words (Unknown rounds cause) a b = absurd (let bad : true ≡ false = b in cc)
 
 or_none : (a b : Bool) → (a || b) ≡ false → (a ≡ false) × (b ≡ false)
 or_none true b h = absurd (let bad : true ≡ false = h in cc)
 or_none false b h = (refl, h)
 
-proved_all : (words : Cause → t.Why) (js : List Judged) → list_any (λ j. t.is_refuted j.verdict) (map (told_one words) js) ≡ false → list_any (λ j. t.is_unknown j.verdict) (map (told_one words) js) ≡ false → are_proved js ≡ true
+proved_all : (words : ℕ → Cause → t.Why) (js : List Judged) → list_any (λ j. t.is_refuted j.verdict) (map (told_one words) js) ≡ false → list_any (λ j. t.is_unknown j.verdict) (map (told_one words) js) ≡ false → are_proved js ≡ true
 proved_all words [] a b = refl
 proved_all words (j ∷ js) a b =
     let x = or_none (t.is_refuted (verdict_of words j.verdict)) _ a in
@@ -76,7 +78,7 @@ word_parts true b h = absurd (let bad : ⊥ = cc in bad)
 word_parts false true h = absurd (let bad : ⊥ = cc in bad)
 word_parts false false h = (refl, refl)
 
-pub true_from : (p : r.Program) (set : ℕ → Bool) (budget : Budget) (words : Cause → t.Why) → NoFailures (meaning_of p) set → (k : ℕ) (ms : List r.Impl) (os : List (List Judged)) → AreRightFrom budget p set k ms os → ProvedAreSafe p set k os → AreTrueFrom p set k ms (map (told words) os)
+pub true_from : (p : r.Program) (set : ℕ → Bool) (budget : Budget) (words : ℕ → Cause → t.Why) → NoFailures (meaning_of p) set → (k : ℕ) (ms : List r.Impl) (os : List (List Judged)) → AreRightFrom budget p set k ms os → ProvedAreSafe p set k os → AreTrueFrom p set k ms (map (told words) os)
 true_from p set budget words f k [] [] h s = tt
 true_from p set budget words f k [] (js ∷ os) h s = absurd h
 true_from p set budget words f k (m ∷ ms) [] h s = absurd h

@@ -1,5 +1,5 @@
 -- The run that a complete leaf gives.
-use Rattle.std.specs.Prelude.{◌≡◌, ℕ, Bool, false, List, length, map, replicate}
+use Rattle.std.specs.Prelude.{◌≡◌, ℕ, Bool, false, List, length, map, take, replicate}
 use Rattle.bg_ast.specs.Values.{Val}
 use Rattle.bg_ast.specs.Syntax.{Proc, Impl, Prog}
 use Rattle.bg_ast.specs.Execution.{Place}
@@ -16,10 +16,14 @@ use Rattle.bg_formed.specs.Formed.{FormBlock}
 use Rattle.bg_linear.specs.declared.scalar.Sort.{Sort}
 use Rattle.bg_linear.specs.Sorts.{scalar_values}
 use Rattle.bg_atoms.specs.Ranks.{rank}
-use Rattle.bg_faithful.specs.Sorted.{sorts_in}
 use Rattle.bg_scalar.specs.Choices.{choice_of, state_of}
+use Rattle.bg_terms.specs.Instances.{Instance}
+use Rattle.bg_finish.specs.Finished.{AreReadOff}
+use Rattle.bg_termed.specs.Termed.{count_in, terms_in, sorts_in}
+use Rattle.bg_model.specs.Behind.{behind_front}
 use Rattle.bg_model.specs.Over.{walk_over}
 use Rattle.bg_model.specs.Turns.{turns, taken}
+use Rattle.bg_model.specs.Interps.{interp_of}
 use Rattle.bg_model.specs.declared.failure.Counterexample.{Counterexample}
 use Rattle.bg_check.specs.Leaves.{marked}
 use Rattle.bg_task.specs.Cuts.{HasOwnClauses}
@@ -28,20 +32,30 @@ use Rattle.bg_task.specs.Cuts.{HasOwnClauses}
 abbrev pub leaf_bools : Formula → Leaf → List Bool
 leaf_bools f leaf = marked leaf.path.items (replicate (length f.atoms) false)
 
--- the values of incarnations of these sorts: a truth incarnation is worth what its atom is, a number what the near point says
+-- the values of incarnations and terms of these sorts: one that is a truth value is worth what its atom is, a number what the near point
+-- says
 abbrev pub leaf_vals : Formula → Leaf → List Sort → List Val
 leaf_vals f leaf sorts = scalar_values (value_of leaf.spots.items) (λ j. bools_at (leaf_bools f leaf) (rank sorts j)) sorts
+
+-- those of the incarnations and terms of an implementation, and of the incarnations alone
+abbrev pub vals_in : Prog → ℕ → Impl → Proc → Formula → Leaf → List Val
+vals_in p k m q f leaf = leaf_vals f leaf (sorts_in p k m q)
+
+abbrev pub incarnation_vals : Prog → ℕ → Impl → Proc → Formula → Leaf → List Val
+incarnation_vals p k m q f leaf = take (count_in p k m q) (vals_in p k m q f leaf)
 
 -- the run begins with the leaf's values, goes along the lowest edges from which some walk fails under the leaf's truth values, and chooses
 -- the leaf's values there
 pub record IsRunOf (p : Prog) (set : ℕ → Bool) (t : Place) (m : Impl) (q : Proc) (f : Formula) (forms : List FormBlock) (leaf : Leaf) (cex : Counterexample) : Type 0 where
-  pub state : state_of cex.globals.items cex.frame.items ≡ first_state p (frame_decls m q) (leaf_vals f leaf (sorts_in p t.implementation m q))
-  pub choices : map choice_of cex.choices.items ≡ taken (walk_over set t.spot (bools_at (leaf_bools f leaf))) (leaf_vals f leaf (sorts_in p t.implementation m q)) (blocks_in p t.implementation m q) forms (map next_in (arrivals_in p t.implementation m q).arrivals) (turns (walk_over set t.spot (bools_at (leaf_bools f leaf))) forms) 0
+  pub state : state_of cex.globals.items cex.frame.items ≡ first_state p (frame_decls m q) (incarnation_vals p t.implementation m q f leaf)
+  pub choices : map choice_of cex.choices.items ≡ taken (walk_over set t.spot (bools_at (leaf_bools f leaf))) (incarnation_vals p t.implementation m q f leaf) (blocks_in p t.implementation m q) forms (map next_in (arrivals_in p t.implementation m q).arrivals) (turns (walk_over set t.spot (bools_at (leaf_bools f leaf))) forms) 0
 
--- the counterexample is the run of a complete leaf of the place's clauses
-pub record HasLeaf (p : Prog) (set : ℕ → Bool) (t : Place) (cex : Counterexample) : Type 0 where
+-- the counterexample is the run of a complete leaf of the place's clauses behind these instances, at which no congruence is false, and
+-- its tables are read off the leaf's values
+pub record HasLeaf (p : Prog) (set : ℕ → Bool) (t : Place) (instances : List Instance) (cex : Counterexample) : Type 0 where
   pub formula : Formula
-  pub is : HasOwnClauses p t formula
+  pub is : HasOwnClauses p t instances formula
   pub leaf : Leaf
   pub is_leaf : IsLeaf formula set leaf
-  pub run : IsRunOf p set t is.clauses.implementation is.clauses.procedure formula is.clauses.encoding.blocks leaf cex
+  pub read_off : AreReadOff p.functions (count_in p t.implementation is.clauses.implementation is.clauses.procedure) (terms_in p t.implementation is.clauses.implementation is.clauses.procedure) (vals_in p t.implementation is.clauses.implementation is.clauses.procedure formula leaf) (interp_of cex).tables
+  pub run : IsRunOf p set t is.clauses.implementation is.clauses.procedure formula (behind_front (length instances) is.clauses.encoding.blocks) leaf cex

@@ -1,6 +1,9 @@
 pub mod Leaves
 pub mod LeafRuns
+pub mod Rounds
 pub mod Replays
 pub mod Verdicts
+pub mod Found
+pub mod Stands
 pub mod Dropped
 pub mod Outcomes

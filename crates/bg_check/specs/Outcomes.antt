@@ -1,6 +1,6 @@
--- Verdicts as what a report tells.
-use Rattle.std.specs.Prelude.{Bool, List, map, filter}
-use Rattle.bg_faithful.specs.Interps.{no_interp}
+-- Verdicts as what a report tells; a cause has words behind a number of rounds.
+use Rattle.std.specs.Prelude.{ℕ, Bool, List, length, map, filter}
+use Rattle.bg_model.specs.Interps.{interp_of}
 use Rattle.bg_scalar.specs.Choices.{choice_of, state_of}
 use Rattle.bg_sound.specs.Told as t
 use Rattle.bg_check.specs.declared.verdict.Cause.{Cause}
@@ -9,18 +9,18 @@ use Rattle.bg_check.specs.declared.verdict.Verdict.TheVariants.{Proved, Refuted,
 use Rattle.bg_check.specs.declared.verdict.Judged.{Judged}
 use Rattle.bg_check.specs.Verdicts.{placed_at}
 
-abbrev pub verdict_of : (Cause → t.Why) → Verdict → t.Verdict
-verdict_of words (Proved nodes) = t.Proved
+abbrev pub verdict_of : (ℕ → Cause → t.Why) → Verdict → t.Verdict
+verdict_of words (Proved instances cert) = t.Proved
 verdict_of words (Refuted cex) =
-    t.Refuted no_interp (state_of cex.globals.items cex.frame.items) (map choice_of cex.choices.items)
-verdict_of words (Unknown cause) = t.Unknown (words cause)
+    t.Refuted (interp_of cex) (state_of cex.globals.items cex.frame.items) (map choice_of cex.choices.items)
+verdict_of words (Unknown rounds cause) = t.Unknown (words (length rounds.items) cause)
 
-abbrev pub told_one : (Cause → t.Why) → Judged → t.Judged
+abbrev pub told_one : (ℕ → Cause → t.Why) → Judged → t.Judged
 told_one words j = record { placed = placed_at j; verdict = verdict_of words j.verdict }
 
 abbrev pub is_ordinary : Judged → Bool
 is_ordinary j = t.is_ordinary (placed_at j)
 
 -- the ordinary places
-abbrev pub told : (Cause → t.Why) → List Judged → List t.Judged
+abbrev pub told : (ℕ → Cause → t.Why) → List Judged → List t.Judged
 told words js = map (told_one words) (filter is_ordinary js)

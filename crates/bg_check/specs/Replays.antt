@@ -6,17 +6,19 @@ use Rattle.bg_fits.specs.Holdings.{holdings_of}
 use Rattle.bg_sense.specs.Variables.{procedure_of}
 use Rattle.bg_flow.specs.Core.{frame_decls}
 use Rattle.bg_block_types.specs.Typed.{blocks_in}
+use Rattle.bg_scalar.specs.Views.{tables_in}
 use Rattle.bg_replay.specs.Said.{Said}
 use Rattle.bg_replay.specs.Ways.{runs}
 use Rattle.bg_replay.specs.Endings.{moment_in}
 use Rattle.bg_model.specs.declared.failure.Counterexample.{Counterexample}
 
--- what the run of the implementation with this number over scalars says, from these values, with these choices
+-- what the run of the implementation with this number over scalars says, under these tables, from these values, with these choices
 abbrev pub run_in : Prog → (ℕ → Bool) → ℕ → Impl → Proc → Counterexample → Said
 run_in p set k m q cex =
     runs
     (record {
       set = set;
+      tables = tables_in cex.tables.items;
       before = cex.globals.items;
       globals = holdings_of p.globals;
       frame = holdings_of (frame_decls m q);

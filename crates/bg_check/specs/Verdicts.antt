@@ -1,6 +1,7 @@
 -- What is known of each place of a program, and when it is right.
-use Rattle.std.specs.Prelude.{◌≡◌, ℕ, suc, Bool, true, false, ◌&&◌, List, [], ◌∷◌, map, filter, Vec}
+use Rattle.std.specs.Prelude.{◌≡◌, ℕ, suc, ◌-◌, ◌≤◌, Bool, true, false, ◌&&◌, List, [], ◌∷◌, length, map, filter, Vec}
 use Rattle.std.specs.declared.alloc.Global.{Global}
+use Rattle.bg_base.specs.declared.exact.OutOfRange.{OutOfRange}
 use Rattle.bg_ast.specs.Syntax.{Prog}
 use Rattle.bg_ast.specs.Resolved as r
 use Rattle.bg_ast.specs.Meaning.{meaning_of}
@@ -9,54 +10,85 @@ use Rattle.bg_sense.specs.Claims.{Safe, Fails}
 use Rattle.bg_sense.specs.Flow.{Failed}
 use Rattle.bg_formula.specs.Formulas.{Formula}
 use Rattle.bg_tree.specs.declared.outcome.Budget.{Budget}
+use Rattle.bg_tree.specs.declared.outcome.Leaf.{Leaf}
 use Rattle.bg_tree.specs.declared.outcome.Why.{Why}
+use Rattle.bg_tree.specs.Ends.{IsLeaf}
 use Rattle.bg_tree.specs.Trees.{IsCause}
 use Rattle.bg_places.specs.Placed.{Placed, placed_impl}
 use Rattle.bg_places.specs.Views.{placed_of}
-use Rattle.bg_faithful.specs.Interps.{no_interp}
 use Rattle.bg_scalar.specs.Choices.{choice_of, state_of}
 use Rattle.bg_replay.specs.Said.{Stops, Leaves}
+use Rattle.bg_model.specs.Interps.{interp_of}
 use Rattle.bg_model.specs.declared.failure.Counterexample.{Counterexample}
 use Rattle.bg_sound.specs.Used.{UsesAll}
 use Rattle.bg_sound.specs.Told.{is_ordinary}
+use Rattle.bg_scalar.specs.Values.{val_of}
+use Rattle.bg_scalar.specs.declared.scalar.Scalar.{Scalar}
+use Rattle.bg_finish.specs.Finished.{LeavesFirst}
+use Rattle.bg_terms.specs.Instances.{Instance}
+use Rattle.bg_term_table.specs.Instances.{instances_of}
+use Rattle.bg_termed.specs.Termed.{terms_in}
 use Rattle.bg_task.specs.Cuts.{HasOwnClauses}
 use Rattle.bg_task.specs.Certified.{HasCertificate, HasOutside}
-use Rattle.bg_check.specs.LeafRuns.{HasLeaf}
+use Rattle.bg_check.specs.LeafRuns.{vals_in, HasLeaf}
+use Rattle.bg_check.specs.Rounds.{brought, AreRounds}
+use Rattle.bg_check.specs.declared.verdict.Round.{Round}
 use Rattle.bg_check.specs.declared.verdict.Cause.{Cause}
-use Rattle.bg_check.specs.declared.verdict.Cause.TheVariants.{Search, Form, Replay}
+use Rattle.bg_check.specs.declared.verdict.Cause.TheVariants.{Search, Rounds, Form, Argument, Replay}
 use Rattle.bg_check.specs.declared.verdict.Verdict.{Verdict}
 use Rattle.bg_check.specs.declared.verdict.Verdict.TheVariants.{Proved, Refuted, Unknown}
 use Rattle.bg_check.specs.declared.verdict.Judged.{Judged}
 use Rattle.bg_check.specs.Replays.{RunsTo}
 
--- this is why the place's clauses are left unknown within the budget
-pub record HasWhy (p : Prog) (set : ℕ → Bool) (t : Place) (budget : Budget) (why : Why) : Type 0 where
+-- this is why the place's clauses behind these instances are left unknown within the budget
+pub record HasWhy (p : Prog) (set : ℕ → Bool) (t : Place) (instances : List Instance) (budget : Budget) (why : Why) : Type 0 where
   pub formula : Formula
-  pub is : HasOwnClauses p t formula
+  pub is : HasOwnClauses p t instances formula
   pub cause : IsCause formula set budget why
 
--- the induction run from these values, with these choices, fails at the place
+-- the induction run under the counterexample's tables, from its values, with its choices, fails at the place
 abbrev pub IsFailure : Prog → (ℕ → Bool) → Place → Counterexample → Type 0
 IsFailure p set t cex =
-    Fails p set t no_interp (state_of cex.globals.items cex.frame.items) (map choice_of cex.choices.items)
+    Fails p set t (interp_of cex) (state_of cex.globals.items cex.frame.items) (map choice_of cex.choices.items)
 
 -- no choice is left over: without the last one the run lacks a choice
 abbrev pub IsUsed : Prog → (ℕ → Bool) → Place → Counterexample → Type 0
 IsUsed p set t cex =
-    UsesAll p set t no_interp (state_of cex.globals.items cex.frame.items) (map choice_of cex.choices.items)
+    UsesAll p set t (interp_of cex) (state_of cex.globals.items cex.frame.items) (map choice_of cex.choices.items)
 
--- why a place is left unknown, under a set of candidates
-abbrev pub IsUnknown : Budget → Prog → (ℕ → Bool) → Place → Cause → Type 0
-IsUnknown budget p set t (Search why) = HasWhy p set t budget why
-IsUnknown budget p set t (Form o) = HasOutside p t o
-IsUnknown budget p set t (Replay cex o) = HasLeaf p set t cex × (IsFailure p set t cex × RunsTo p set t cex (Leaves o))
+-- at a complete leaf of the place's clauses behind these instances an operation of a term's arguments, the first that does, leaves the
+-- range
+pub record HasArgument (p : Prog) (set : ℕ → Bool) (t : Place) (instances : List Instance) (leaf : Leaf) (o : OutOfRange) : Type 0 where
+  pub formula : Formula
+  pub is : HasOwnClauses p t instances formula
+  pub is_leaf : IsLeaf formula set leaf
+  pub values : List Scalar
+  pub are : map val_of values ≡ vals_in p t.implementation is.clauses.implementation is.clauses.procedure formula leaf
+  pub leaves : LeavesFirst (terms_in p t.implementation is.clauses.implementation is.clauses.procedure) values o
+
+-- a round counts as one of the budget's nodes
+abbrev pub left_after : List Round → Budget → Budget
+left_after rounds budget = record budget { nodes = budget.nodes - length rounds }
+
+-- why a place is left unknown under a set of candidates, behind these instances, where so much of the budget is left
+abbrev pub IsUnknown : Budget → Prog → (ℕ → Bool) → Place → List Instance → Cause → Type 0
+IsUnknown left p set t instances (Search why) = HasWhy p set t instances left why
+IsUnknown left p set t instances Rounds = left.nodes ≡ 0
+IsUnknown left p set t instances (Form o) = HasOutside p t instances o
+IsUnknown left p set t instances (Argument leaf o) = HasArgument p set t instances leaf o
+IsUnknown left p set t instances (Replay cex o) =
+    HasLeaf p set t instances cex × (IsFailure p set t cex × RunsTo p set t cex (Leaves o))
+
+-- the run fails at the place, each operation on its way is within the range, and no choice is left over
+abbrev pub IsRefuted : Prog → (ℕ → Bool) → Place → Counterexample → Type 0
+IsRefuted p set t cex = IsFailure p set t cex × (RunsTo p set t cex (Stops (Failed t.spot)) × IsUsed p set t cex)
 
 -- a verdict on a place, under a set of candidates
 abbrev pub IsRight : Budget → Prog → (ℕ → Bool) → Place → Verdict → Type 0
-IsRight budget p set t (Proved cert) = HasCertificate p set t cert
-IsRight budget p set t (Refuted cex) =
-    IsFailure p set t cex × (RunsTo p set t cex (Stops (Failed t.spot)) × IsUsed p set t cex)
-IsRight budget p set t (Unknown cause) = IsUnknown budget p set t cause
+IsRight budget p set t (Proved instances cert) = HasCertificate p set t (instances_of instances.items) cert
+IsRight budget p set t (Refuted cex) = IsRefuted p set t cex
+IsRight budget p set t (Unknown rounds cause) =
+    (length rounds.items ≤ budget.nodes) × (AreRounds p set t [] rounds.items × IsUnknown (left_after rounds.items budget) p set t (brought rounds.items) cause)
 
 abbrev pub placed_at : Judged → Placed
 placed_at j = placed_of j.place
@@ -83,9 +115,9 @@ abbrev pub AreRightUnder : (ℕ → Bool) → Budget → r.Program → List (Lis
 AreRightUnder set budget p outcome = AreRightFrom budget p set 0 p.implementations outcome
 
 abbrev pub is_proved : Verdict → Bool
-is_proved (Proved cert) = true
+is_proved (Proved instances cert) = true
 is_proved (Refuted cex) = false
-is_proved (Unknown cause) = false
+is_proved (Unknown rounds cause) = false
 
 abbrev pub are_proved : List Judged → Bool
 are_proved [] = true

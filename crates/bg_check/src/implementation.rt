@@ -13,7 +13,7 @@ ghost use Rattle.bg_task.specs.Prepared.{IsPrepared, ArePrepared};
 ghost use Rattle.bg_check.specs.Verdicts.{IsRight, placed_at, AreRightAt, AreRightOf};
 
 use crate::ordinary::ordinary_places;
-use crate::place::check_place;
+use crate::rounds::check_place;
 use crate::verdict::Judged;
 use bg_ast::resolved::Resolved;
 use bg_places::Place;

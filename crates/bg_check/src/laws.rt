@@ -5,6 +5,7 @@ ghost use Rattle.bg_ast.specs.Resolved.{Program, Impl, Proc};
 ghost use Rattle.bg_ast.specs.Meaning.{meaning_of};
 ghost use Rattle.bg_ast.specs.Execution.{Choice, Place};
 ghost use Rattle.bg_sense.specs.Typed.{IsTyped};
+ghost use Rattle.bg_sense.specs.Tables.{are_tables};
 ghost use Rattle.bg_sense.specs.Claims.{IsState, Inductive};
 ghost use Rattle.bg_sense.specs.Flow.{BadChoice, Failed};
 ghost use Rattle.bg_cert.specs.Walks.{has};
@@ -15,6 +16,9 @@ ghost use Rattle.bg_replay.specs.Said.{Stops, Leaves};
 ghost use Rattle.bg_replay.specs.Views.{said_by};
 ghost use Rattle.bg_replay.specs.Endings.{Tells, IsReplay};
 ghost use Rattle.bg_replay.specs.declared.ending.Ending.{Ending};
+ghost use Rattle.bg_scalar.specs.Tables.{TableOf};
+ghost use Rattle.bg_scalar.specs.Values.{tables_of};
+ghost use Rattle.bg_scalar.specs.Views.{tables_in};
 ghost use Rattle.bg_scalar.specs.Choices.{state_of};
 ghost use Rattle.bg_scalar.specs.declared.choice.Choice as replayed;
 ghost use Rattle.bg_scalar.specs.declared.scalar.Scalar.{Scalar};
@@ -32,13 +36,16 @@ ghost use Rattle.bg_check.specs.Verdicts.{IsFailure, IsRight, AreRightUnder, Pro
 use bg_block_types::laws::blocks_are_typed;
 use bg_cert::laws::{accepted_has_no_valuation, accepted_where_used};
 use bg_clause::laws::atoms_of_clauses;
-use bg_faithful::laws::clauses_over_scalars_fail_alike;
 use bg_passive::equations::equations_deny_failing_walks;
 use bg_passive::laws::{arrivals_fit, passive_blocks_fail_alike};
 use bg_places::laws::placed_are_places;
 use bg_replay::laws::replays_are_induction_runs;
 use bg_sense::laws::{typed_programs_have_typed_bodies, what_fails_at_no_place_is_safe};
 use bg_task::laws::proved_places_do_not_fail;
+use bg_termed::laws::{
+    denied_passive_blocks_have_valuations, implementations_over_scalars_have_scalars,
+    programs_over_scalars_are_tabled,
+};
 
 /// An implementation of a typed program over truth values and whole numbers is safe under an inductive set of candidates where each of its
 /// ordinary places is proved under it: no execution of it fails, of any number of steps.
@@ -51,19 +58,22 @@ pub fn proved_under_a_set_is_safe()
     passive_blocks_fail_alike();
     arrivals_fit();
     equations_deny_failing_walks();
-    clauses_over_scalars_fail_alike();
+    programs_over_scalars_are_tabled();
+    implementations_over_scalars_have_scalars();
+    denied_passive_blocks_have_valuations();
     accepted_has_no_valuation();
     accepted_where_used();
     atoms_of_clauses()
 }
 
 /// A replay of the blocks of an implementation of a typed program over truth values and whole numbers, from a state of the
-/// implementation, tells how the run ends: with an answer, or at an operation that leaves 128 bits.
+/// implementation and with a table of its type for each function, tells how the run ends: with an answer, or at an operation that leaves
+/// 128 bits.
 pub fn replays_over_scalars_tell()
-    ensures { (p : Program) (set : List Bool) (k : ℕ) (m : Impl) (q : Proc) (bs : List Block) (gs fs : List Scalar) (cs : List replayed.Choice) (ending : Ending) →
+    ensures { (p : Program) (set : List Bool) (k : ℕ) (m : Impl) (q : Proc) (bs : List Block) (ts : List TableOf) (gs fs : List Scalar) (cs : List replayed.Choice) (ending : Ending) →
         IsTyped (meaning_of p) → is_over_scalars true (meaning_of p) ≡ true →
         slice_get p.implementations k ≡ Some m → slice_get p.procedures m.procedure ≡ Some q → AreBlocks p k m q bs →
-        IsState (meaning_of p) k (state_of gs fs) → IsReplay p bs set k m q gs fs cs ending → Tells (said_by ending) }
+        are_tables (meaning_of p).functions (tables_of ts) ≡ true → IsState (meaning_of p) k (state_of gs fs) → IsReplay p bs set k m q ts gs fs cs ending → Tells (said_by ending) }
 {
     blocks_are_typed()
 }
@@ -74,7 +84,7 @@ pub fn failures_replay_or_leave()
         IsTyped (meaning_of p) → is_over_scalars true (meaning_of p) ≡ true →
         slice_get p.implementations t.implementation ≡ Some m → slice_get p.procedures m.procedure ≡ Some q → AreBlocks p t.implementation m q bs →
         IsFailure (meaning_of p) (has set) t cex →
-        IsReplay p bs set t.implementation m q cex.globals.items cex.frame.items cex.choices.items ending →
+        IsReplay p bs set t.implementation m q (tables_in cex.tables.items) cex.globals.items cex.frame.items cex.choices.items ending →
         (said_by ending ≡ Stops (Failed t.spot)) ⊎ ((o : OutOfRange) × (said_by ending ≡ Leaves o)) }
 {
     blocks_are_typed();
@@ -86,7 +96,7 @@ pub fn refuted_places_replay()
     ensures { (p : Program) (set : List Bool) (budget : Budget) (t : Place) (cex : Counterexample) (m : Impl) (q : Proc) (bs : List Block) (ending : Ending) →
         slice_get p.implementations t.implementation ≡ Some m → slice_get p.procedures m.procedure ≡ Some q → AreBlocks p t.implementation m q bs →
         IsRight budget (meaning_of p) (has set) t (Refuted cex) →
-        IsReplay p bs set t.implementation m q cex.globals.items cex.frame.items cex.choices.items ending → said_by ending ≡ Stops (Failed t.spot) }
+        IsReplay p bs set t.implementation m q (tables_in cex.tables.items) cex.globals.items cex.frame.items cex.choices.items ending → said_by ending ≡ Stops (Failed t.spot) }
 {}
 
 /// The replay of a counterexample without its last choice lacks a choice, or fails at the place.
@@ -94,14 +104,14 @@ pub fn shorter_replays_lack_a_choice_or_fail()
     ensures { (p : Program) (set : List Bool) (t : Place) (cex : Counterexample) (m : Impl) (q : Proc) (bs : List Block) (front : List replayed.Choice) (last : replayed.Choice) (ending : Ending) →
         slice_get p.implementations t.implementation ≡ Some m → slice_get p.procedures m.procedure ≡ Some q → AreBlocks p t.implementation m q bs →
         cex.choices.items ≡ front ++ (last ∷ []) → RunsTo (meaning_of p) (has set) t cex (Stops (Failed t.spot)) →
-        IsReplay p bs set t.implementation m q cex.globals.items cex.frame.items front ending →
+        IsReplay p bs set t.implementation m q (tables_in cex.tables.items) cex.globals.items cex.frame.items front ending →
         (said_by ending ≡ Stops BadChoice) ⊎ (said_by ending ≡ Stops (Failed t.spot)) }
 {}
 
 /// What a report tells of right verdicts under an inductive set of candidates is true, of a typed program over truth values and whole
 /// numbers, whatever words it has for causes.
 pub fn right_verdicts_are_true()
-    ensures { (p : Program) (set : ℕ → Bool) (budget : Budget) (outcome : List (List Judged)) (words : Cause → Why) → IsTyped (meaning_of p) → is_over_scalars true (meaning_of p) ≡ true →
+    ensures { (p : Program) (set : ℕ → Bool) (budget : Budget) (outcome : List (List Judged)) (words : ℕ → Cause → Why) → IsTyped (meaning_of p) → is_over_scalars true (meaning_of p) ≡ true →
         Inductive (meaning_of p) set → AreRightUnder set budget p outcome → AreTrueFrom p set 0 p.implementations (map (told words) outcome) }
 {
     proved_places_do_not_fail();

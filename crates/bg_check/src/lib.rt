@@ -1,16 +1,21 @@
-//! What is known of a place of a program over truth values and whole numbers: proved with a certificate, refuted with a
-//! counterexample, or unknown with what is kept of a budget, or an operation that leaves 128 bits.
+//! What is known of a place of a program over truth values, whole numbers and functions on them: proved with a certificate behind
+//! instances, refuted with a counterexample, or unknown with the rounds of instances and what is kept of a budget, or an operation that
+//! leaves 128 bits.
 #![tactic(auto)]
 
+mod defaults;
 mod dropping;
+mod failing;
+mod found;
 mod implementation;
 pub mod laws;
 mod leaf;
 mod ordinary;
 mod place;
 mod replayed;
+mod rounds;
 mod verdict;
 
 pub use implementation::judge_ordinary;
-pub use place::check_place;
-pub use verdict::{Cause, Judged, Verdict};
+pub use rounds::check_place;
+pub use verdict::{Cause, Judged, Round, Verdict};

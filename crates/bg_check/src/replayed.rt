@@ -1,5 +1,5 @@
 //! The replay of a counterexample.
-ghost use Rattle.std.specs.Prelude.{◌≡◌, true, IfOk};
+ghost use Rattle.std.specs.Prelude.{◌≡◌, List, true, IfOk};
 ghost use Rattle.bg_ast.specs.Meaning.{meaning_of};
 ghost use Rattle.bg_ast.specs.Views.{program_of};
 ghost use Rattle.bg_sense.specs.Typed.{IsTyped};
@@ -9,10 +9,13 @@ ghost use Rattle.bg_tree.specs.declared.outcome.Budget.{Budget};
 ghost use Rattle.bg_fits.specs.Scalars.{is_over_scalars};
 ghost use Rattle.bg_check.specs.LeafRuns.{HasLeaf};
 ghost use Rattle.bg_task.specs.Prepared.{IsPrepared};
-ghost use Rattle.bg_check.specs.Verdicts.{IsFailure, IsRight};
+ghost use Rattle.bg_terms.specs.Instances.{Instance};
+ghost use Rattle.bg_check.specs.Verdicts.{IsFailure};
+ghost use Rattle.bg_check.specs.Found.{IsFound};
 
 use crate::dropping::used_up;
-use crate::verdict::{Cause, Verdict};
+use crate::found::Found;
+use crate::verdict::Cause;
 use bg_block_types::laws::blocks_are_typed;
 use bg_model::Counterexample;
 use bg_replay::laws::replays_are_induction_runs;
@@ -26,13 +29,12 @@ pub fn replayed(
     alloc: Global,
     question: Question<'_, '_>,
     cex: Counterexample,
-) -> Result<Verdict, AllocError>
+) -> Result<Found, AllocError>
     requires typed { IsTyped (meaning_of (program_of question.program.now)) }
     requires scalars { is_over_scalars true (meaning_of (program_of question.program.now)) ≡ true }
     requires prepared { IsPrepared (program_of question.program.now) question.place.now.implementation question.prepared.now }
-    requires leaf { HasLeaf (meaning_of (program_of question.program.now)) (has question.set.now) (placed_of question.place.now).place cex }
     requires fails { IsFailure (meaning_of (program_of question.program.now)) (has question.set.now) (placed_of question.place.now).place cex }
-    ensures { IfOk result (λ verdict. (budget : Budget) → IsRight budget (meaning_of (program_of question.entry.program.now)) (has question.entry.set.now) (placed_of question.entry.place.now).place verdict) }
+    ensures { IfOk result (λ found. (left : Budget) (instances : List Instance) → HasLeaf (meaning_of (program_of question.entry.program.now)) (has question.entry.set.now) (placed_of question.entry.place.now).place instances cex → IsFound left (meaning_of (program_of question.entry.program.now)) (has question.entry.set.now) (placed_of question.entry.place.now).place instances found) }
 {
     blocks_are_typed();
     replays_are_induction_runs();
@@ -42,16 +44,17 @@ pub fn replayed(
         set: question.set,
     };
     let start = Start {
+        tables: &cex.tables,
         globals: &cex.globals,
         frame: &cex.frame,
         choices: &cex.choices,
     };
     let ending = replay(alloc, code, question.place.implementation, start)?;
     match ending {
-        Ending::OutOfRange(o) => Ok(Verdict::Unknown(Cause::Replay(cex, o))),
+        Ending::OutOfRange(o) => Ok(Found::Unknown(Cause::Replay(cex, o))),
         Ending::Failed(_) => {
             let left = used_up(alloc, question, cex)?;
-            Ok(Verdict::Refuted(left))
+            Ok(Found::Refuted(left))
         }
         Ending::Ended => unreachable!(),
         Ending::Blocked => unreachable!(),

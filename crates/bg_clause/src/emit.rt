@@ -1,9 +1,9 @@
 //! Clauses of forms.
-ghost use Rattle.std.specs.Prelude.{◌≡◌, ◌<◌, ◌∷◌, ◌++◌, map, IfOk, OnOk};
+ghost use Rattle.std.specs.Prelude.{◌≡◌, ◌<◌, ◌≤◌, ℕ, true, ◌∷◌, ◌++◌, map, IfOk, OnOk};
 ghost use Rattle.bg_clause.specs.Emitted.{after, emitted};
 ghost use Rattle.bg_forms.specs.Views.{form_in};
 ghost use Rattle.bg_clause.specs.Views.{clauses_in};
-ghost use Rattle.bg_clause.specs.Waiting.{Defines, says_of, waits_of, emitted_all, after_all, size_of, size_all};
+ghost use Rattle.bg_clause.specs.Waiting.{Says, Defines, says_of, waits_of, emitted_all, after_all, size_of, size_all};
 
 use crate::clause::add;
 use crate::naming::{name_for, signed_as};
@@ -13,6 +13,32 @@ use bg_forms::{Form, Parts, opposite};
 use bg_formula::Literal;
 use std::alloc::{AllocError, Global};
 use std::collections::VecDeque;
+
+/// One of the literals is true or both forms are: a literal has its clause, other forms wait.
+#[tactic(auto, using(crate::proofs::Emits::emit_forms))]
+fn emit_both(
+    alloc: Global,
+    out: &mut Vec<Vec<Literal>>,
+    waiting: &mut VecDeque<Waiting>,
+    literals: Vec<Literal>,
+    f: Form,
+    g: Form,
+) -> Result<(), AllocError>
+    ensures clauses { OnOk result ((n : ℕ) → clauses_in out.new.items ++ emitted_all (map waits_of waiting.new.items) n ≡ clauses_in out.old.items ++ emitted_all (Says true literals.items (form_in f) ∷ Says true literals.items (form_in g) ∷ map waits_of waiting.old.items) n) }
+    ensures more { OnOk result ((n : ℕ) → after_all (map waits_of waiting.new.items) n ≡ after_all (Says true literals.items (form_in f) ∷ Says true literals.items (form_in g) ∷ map waits_of waiting.old.items) n) }
+    ensures smaller { OnOk result (size_all (map waits_of waiting.new.items) ≤ size_all (Says true literals.items (form_in f) ∷ Says true literals.items (form_in g) ∷ map waits_of waiting.old.items)) }
+{
+    match &f {
+        Form::Is(l) => {
+            let mut all = literals;
+            all.push(*l)?;
+            add(alloc, out, all.as_slice())?;
+            all.pop();
+            say(waiting, true, all, g)
+        }
+        _ => say_both(alloc, waiting, literals, f, g),
+    }
+}
 
 /// One of the literals is true or the form is worth this: it has its clauses, or parts of it wait.
 #[tactic(auto, using(crate::proofs::Emits::emit_forms))]
@@ -48,7 +74,7 @@ fn emit_says(
         Parts::NotSo(f) => say(waiting, !sign, literals, f),
         Parts::Both(f, g) => {
             if sign {
-                say_both(alloc, waiting, literals, f, g)
+                emit_both(alloc, out, waiting, literals, f, g)
             } else {
                 let k = name_for(&f, next)?;
                 say_not_both(alloc, waiting, literals, k, f, g)

@@ -1,15 +1,15 @@
 -- The answer, of whether the axioms are met and of what the opened program answers.
-use Rattle.std.proofs.Common.{◌≡◌, List, Option, Some, None, refl}
+use Rattle.std.proofs.Common.{◌≡◌, Option, Some, None, refl}
 use Rattle.bg_ast.specs.Resolved as r
-use Rattle.bg_certtext.specs.Views.{GivenOf, CertOf}
+use Rattle.bg_certtext.specs.Views.{InterpOf, CertOf}
 use Rattle.bg_accept.specs.Accepted as accept
 use Rattle.bg_accept.specs.Answers as answers
 use Rattle.bg_accept.specs.Answers.{AnswerOf, Accepted, NoInterp, NotRetained, NotShown, NotRequired}
 use Rattle.bg_confirm.specs.Accepted.{judged_program, AreMet, IsInterpMet, IsAccepted, IsAnswer}
 
-none_met : (p : r.Program) (o : Option (List GivenOf)) → AreMet p o → o ≡ None → ⊥
+none_met : (p : r.Program) (o : Option InterpOf) → AreMet p o → o ≡ None → ⊥
 none_met p None h e = h
-none_met p (Some gs) h e = absurd (let b : ⊥ = cc in b)
+none_met p (Some i) h e = absurd (let b : ⊥ = cc in b)
 
 pub answered : (p : r.Program) (c : CertOf) (a : AnswerOf) → IsInterpMet p c → answers.IsAnswer (judged_program p) c a → IsAnswer p c a
 answered p c Accepted h g = (h, g)

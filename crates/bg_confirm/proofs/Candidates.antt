@@ -7,6 +7,7 @@ use Rattle.bg_sense.specs.Variables.{wheres_of}
 use Rattle.bg_flow.specs.Core.{Demand, Saying, Cmd, Check, Suppose, Forget, Put, Perform, Finish, Core, Seq, Do, plain, desugar, frame_decls, routine_of}
 use Rattle.bg_flow.specs.Blocks.{Exit, Leap, Either, Block, Coded, led, code, at_end}
 use Rattle.bg_block_types.specs.Typed.{blocks_in}
+use Rattle.bg_scalar.specs.Tables.{TableOf}
 use Rattle.bg_scalar.specs.Worths.{Seen}
 use Rattle.bg_scalar.specs.declared.scalar.Scalar.{Scalar}
 use Rattle.bg_replay.specs.Moments.{Moment, Around, Out, Goes, Over, Outside, Unknown, and_so, seen_at}
@@ -52,9 +53,9 @@ BareBlocks (b ∷ bs) = (BareCmds b.cmds × IsLeap b.exit) × BareBlocks bs
 
 -- ---- run alike
 
-module _ (xs : List Scalar) (gs fs : List Holding) (set other : ℕ → Bool) where
+module _ (ts : List TableOf) (xs : List Scalar) (gs fs : List Holding) (set other : ℕ → Bool) where
   abbrev pub this : (ℕ → Bool) → Around
-  this u = record { set = u; before = xs; globals = gs; frame = fs }
+  this u = record { set = u; tables = ts; before = xs; globals = gs; frame = fs }
 
   check_alike : (s : Seen) (d : Demand) → d.candidate ≡ None → check_one set s d ≡ check_one other s d
   check_alike s d e = rw e refl
@@ -163,5 +164,5 @@ module _ (depth : ℕ) (p : Prog) where
       (body_bare (map (opened 0 (bodies_of depth (of_axioms p))) (claims p)) (at_end r.wanted) (((tt, tt), tt), tt))
 
   -- what it says doesn't depend on the set
-  pub alike : (set other : ℕ → Bool) (xs : List Scalar) → run_in A set 0 M Q xs ≡ run_in A other 0 M Q xs
-  alike set other xs = runs_alike xs (holdings_of A.globals) (holdings_of (frame_decls M Q)) set other 0 (blocks_in A 0 M Q) (moment_in xs [] []) bare_blocks
+  pub alike : (set other : ℕ → Bool) (ts : List TableOf) (xs : List Scalar) → run_in A set 0 M Q ts xs ≡ run_in A other 0 M Q ts xs
+  alike set other ts xs = runs_alike ts xs (holdings_of A.globals) (holdings_of (frame_decls M Q)) set other 0 (blocks_in A 0 M Q) (moment_in xs [] []) bare_blocks

@@ -1,5 +1,10 @@
 pub mod Matching
 pub mod Candidates
+pub mod Applied
+pub mod Fitting
+pub mod Entering
+pub mod Tabling
+pub mod Each
 pub mod Running
 pub mod Meeting
 pub mod Safety

@@ -1,5 +1,7 @@
 -- Values that meet the axioms, as the replay tells, are an interpretation that meets the program.
-use Rattle.std.proofs.Common.{◌≡◌, List, [], refl, sym, ◌∙◌, subst}
+use Rattle.std.proofs.Common.{◌≡◌, ℕ, zero, suc, List, [], ◌∷◌, length, map, refl, ap, sym, ◌∙◌, subst}
+use Rattle.std.specs.Prelude.{Option, Some, None, slice_get}
+use Rattle.bg_ast.specs.Syntax.{Ex, Fun}
 use Rattle.bg_ast.specs.Resolved as r
 use Rattle.bg_ast.specs.Meaning.{meaning_of}
 use Rattle.bg_ast.specs.Execution.{Interp}
@@ -10,25 +12,41 @@ use Rattle.bg_flow.specs.Core.{frame_decls}
 use Rattle.bg_flow.proofs.BlockRuns.{blocks_same}
 use Rattle.bg_fits.specs.Holdings.{holdings_of}
 use Rattle.bg_block_types.specs.Typed.{blocks_in}
+use Rattle.bg_sense.specs.Eval.{functions_of, functions_to, body_of, body_value}
+use Rattle.bg_opened.specs.Programs.{bodiless}
+use Rattle.bg_scalar.specs.Values.{tables_of, MeanTables}
 use Rattle.bg_scalar.specs.Choices.{state_of}
 use Rattle.bg_replay.specs.Moments.{Around}
 use Rattle.bg_replay.specs.Said.{Said, Stops}
 use Rattle.bg_replay.specs.Endings.{moment_in}
 use Rattle.bg_replay.proofs.Agreeing.{declares}
 use Rattle.bg_replay.proofs.Running.{RunIs, runs_agree}
-use Rattle.bg_opened.specs.Moments.{nothing, interp_in}
+use Rattle.bg_opened.specs.Moments.{interp_in}
 use Rattle.bg_opened.specs.Openable.{IsOpenable}
 use Rattle.bg_opened.specs.Axioms.{of_axioms, axiom_place}
 use Rattle.bg_opened.proofs.Whole.{meets}
 use Rattle.bg_expanded.specs.Chains.{most_bodies}
-use Rattle.bg_certtext.specs.Views.{GivenOf}
+use Rattle.bg_certtext.specs.Views.{InterpOf}
 use Rattle.bg_confirm.specs.Met.{scalars_of, axioms_of, IsMet}
 use Rattle.bg_confirm.specs.Accepted.{AreMet}
 
 answer_is : (s : Said) (y x : Answer) → s ≡ Stops x → RunIs s y → y ≡ x
 answer_is s y x e h = subst (λ t. RunIs t y) e h
 
-module _ (p : r.Program) (gs : List GivenOf) (h : IsMet p gs) where
+-- functions without a body mean their tables
+no_body : (fs : List Fun) (f : ℕ) → body_of (slice_get (map bodiless fs) f) ≡ None
+no_body [] f = refl
+no_body (x ∷ fs) zero = refl
+no_body (x ∷ fs) (suc f) = no_body fs f
+
+module _ (p : r.Program) (i : InterpOf) (h : IsMet p i) where
+  abbrev gs : List Rattle.bg_certtext.specs.Views.GivenOf
+  gs = i.constants
+
+  -- the tables as an interpretation of the axioms' own program, which has no constants
+  abbrev tabled : Interp
+  tabled = record { constants = []; tables = tables_of h.tables }
+
   abbrev ds : List Rattle.bg_ast.specs.Syntax.Decl
   ds = frame_decls h.met.implementation h.met.procedure
 
@@ -36,29 +54,34 @@ module _ (p : r.Program) (gs : List GivenOf) (h : IsMet p gs) where
   around =
       record {
         set = h.set;
+        tables = h.tables;
         before = scalars_of gs;
         globals = holdings_of (axioms_of p).globals;
         frame = holdings_of ds;
       }
 
-  failing : Fails (axioms_of p) h.set axiom_place nothing (state_of (scalars_of gs) []) []
+  mean : MeanTables (functions_of (axioms_of p) tabled) h.tables
+  mean f args =
+      ap (λ (b : Option Ex). body_value b (functions_to (length (axioms_of p).functions) (axioms_of p).functions tabled) tabled f args) (no_body (meaning_of p).functions f)
+
+  failing : Fails (axioms_of p) h.set axiom_place tabled (state_of (scalars_of gs) []) []
   failing =
       record {
-        meets = record { interp = record { constants = refl; tables = refl }; unique = refl; axioms = refl };
+        meets = record { interp = record { constants = refl; tables = h.typed_tables }; unique = refl; axioms = refl };
         state = record { globals = h.typed; frame = refl };
         fails =
-            sym (blocks_same (axioms_of p) h.set nothing 0 h.met.implementation h.met.procedure (state_of (scalars_of gs) []) [] h.met.is_there h.met.is_its)
+            sym (blocks_same (axioms_of p) h.set tabled 0 h.met.implementation h.met.procedure (state_of (scalars_of gs) []) [] h.met.is_there h.met.is_its)
             ∙ answer_is _ _ (Failed axiom_place.spot) h.met.says
-            (runs_agree (axioms_of p) nothing 0 ds around (declares (axioms_of p) nothing 0 ds around refl refl) 0 (blocks_in (axioms_of p) 0 h.met.implementation h.met.procedure) (moment_in (scalars_of gs) [] []));
+            (runs_agree (axioms_of p) tabled 0 ds around mean (declares (axioms_of p) tabled 0 ds around refl refl) 0 (blocks_in (axioms_of p) 0 h.met.implementation h.met.procedure) (moment_in (scalars_of gs) [] []));
       }
 
-  pub an_interpretation : IsOpenable most_bodies (meaning_of p) → (i : Interp) × Meets (meaning_of p) i
+  pub an_interpretation : IsOpenable most_bodies (meaning_of p) → (j : Interp) × Meets (meaning_of p) j
   an_interpretation o = (
-    interp_in (of_axioms (meaning_of p)) (state_of (scalars_of gs) []),
-    meets most_bodies (meaning_of p) o h.set nothing (state_of (scalars_of gs) []) [] failing,
+    interp_in (of_axioms (meaning_of p)) tabled (state_of (scalars_of gs) []),
+    meets most_bodies (meaning_of p) o h.set tabled (state_of (scalars_of gs) []) [] failing,
   )
 
 -- the same of a certificate's interpretation
-pub met_by : (p : r.Program) (o : Rattle.std.specs.Prelude.Option (List GivenOf)) → AreMet p o → IsOpenable most_bodies (meaning_of p) → (i : Interp) × Meets (meaning_of p) i
-met_by p Rattle.std.specs.Prelude.None h o = absurd h
-met_by p (Rattle.std.specs.Prelude.Some gs) h o = an_interpretation p gs h o
+pub met_by : (p : r.Program) (o : Option InterpOf) → AreMet p o → IsOpenable most_bodies (meaning_of p) → (i : Interp) × Meets (meaning_of p) i
+met_by p None h o = absurd h
+met_by p (Some i) h o = an_interpretation p i h o

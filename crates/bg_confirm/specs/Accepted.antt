@@ -1,21 +1,21 @@
 -- When a program with constants, functions and axioms accepts a certificate, and what is answered of it.
-use Rattle.std.specs.Prelude.{List, Option, Some, None}
+use Rattle.std.specs.Prelude.{Option, Some, None}
 use Rattle.bg_ast.specs.Resolved as r
 use Rattle.bg_opened.specs.Written.{opened_program}
 use Rattle.bg_expanded.specs.Chains.{most_bodies}
-use Rattle.bg_certtext.specs.Views.{GivenOf, CertOf}
+use Rattle.bg_certtext.specs.Views.{InterpOf, CertOf}
 use Rattle.bg_accept.specs.Accepted as accept
 use Rattle.bg_accept.specs.Answers as answers
 use Rattle.bg_accept.specs.Answers.{AnswerOf, NoInterp}
 use Rattle.bg_confirm.specs.Met.{IsMet}
 
--- the program without constants, functions and axioms that is judged in its place
+-- the program without constants, axioms and bodies of functions that is judged in its place
 abbrev pub judged_program : r.Program → r.Program
 judged_program p = opened_program most_bodies p
 
-abbrev pub AreMet : r.Program → Option (List GivenOf) → Type 0
+abbrev pub AreMet : r.Program → Option InterpOf → Type 0
 AreMet p None = ⊥
-AreMet p (Some gs) = IsMet p gs
+AreMet p (Some i) = IsMet p i
 
 -- the certificate has an interpretation that meets the axioms
 abbrev pub IsInterpMet : r.Program → CertOf → Type 0

@@ -7,23 +7,26 @@ ghost use Rattle.bg_sense.specs.Flow as flow;
 ghost use Rattle.bg_replay.specs.Said.{Stops};
 ghost use Rattle.bg_replay.specs.Views.{set_of, said_by};
 ghost use Rattle.bg_opened.specs.Axioms.{axiom_place};
+ghost use Rattle.bg_scalar.specs.Views.{tables_in};
 ghost use Rattle.bg_confirm.specs.Met.{run_in};
 
 use bg_ast::resolved::Resolved;
 use bg_blocks::{blocks, callees_of};
 use bg_places::Spot;
 use bg_replay::{Code, Ending, Start, replay};
-use bg_scalar::Scalar;
+use bg_scalar::{Scalar, Table};
 use std::alloc::{AllocError, Global};
 
-/// How the run of a program's first implementation ends, from these values of globals, without a frame, choices and candidates.
+/// How the run of a program's first implementation ends, where functions have these tables, from these values of globals, without a
+/// frame, choices and candidates.
 pub fn ending_from(
     alloc: Global,
     program: &Resolved,
+    tables: &[Table],
     values: &[Scalar],
 ) -> Result<Ending, AllocError>
     ensures { IfOk result (λ ending. (m : r.Impl) (q : r.Proc) → slice_get (program_of program.now).implementations 0 ≡ Some m → slice_get (program_of program.now).procedures m.procedure ≡ Some q →
-        said_by ending ≡ run_in (meaning_of (program_of program.now)) (set_of []) 0 (impl_of (named_of (program_of program.now).types) m) (proc_of (named_of (program_of program.now).types) q) values.now) }
+        said_by ending ≡ run_in (meaning_of (program_of program.now)) (set_of []) 0 (impl_of (named_of (program_of program.now).types) m) (proc_of (named_of (program_of program.now).types) q) (tables_in tables.now) values.now) }
 {
     let callees = callees_of(alloc, program)?;
     let blocks = blocks(alloc, program, &callees, 0)?;
@@ -33,6 +36,7 @@ pub fn ending_from(
         set: &[],
     };
     let start = Start {
+        tables,
         globals: values,
         frame: &[],
         choices: &[],

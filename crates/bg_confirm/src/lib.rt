@@ -1,12 +1,14 @@
 //! Whether a program with constants, functions and axioms accepts the text of a certificate, checked without search: the constants'
-//! values are replayed through the axioms, and the opened program is asked for the rest.
+//! values and the functions' tables are replayed through the axioms, and the opened program is asked for the rest.
 #![tactic(auto)]
 
 mod ending;
+mod functions;
 pub mod laws;
 mod met;
 mod names;
 mod program;
+mod tables;
 mod text;
 mod values;
 

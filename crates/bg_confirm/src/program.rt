@@ -27,10 +27,10 @@ pub struct Checked<'c> {
     pub answer: Answer<'c>,
 }
 
-/// Whether a program accepts a certificate that has a text, or the first reason why not: first the values that it gives the constants
-/// are replayed through the axioms, within 128 bits; then the opened program, in which constants are variables, bodies of functions are
-/// put in, 16 deep, and in front of each body it is assumed that unique constants differ, and the axioms, is asked for the rest. No
-/// search is made.
+/// Whether a program accepts a certificate that has a text, or the first reason why not: first the values and tables that it gives
+/// constants and functions are replayed through the axioms, within 128 bits; then the opened program, in which constants are variables,
+/// bodies of functions are put in, 16 deep, and in front of each body it is assumed that unique constants differ, and the axioms, is asked
+/// for the rest. No search is made.
 ///
 /// Only want of memory is an error; what `bg_accept::check` and `bg_opening::open_program` count as such counts here too.
 pub fn check<'c>(

@@ -14,7 +14,7 @@ use bg_fits::{Holding, push_holdings};
 use bg_scalar::Scalar;
 use std::alloc::{AllocError, Global};
 
-fn scalar_of(value: Value) -> Scalar
+pub(crate) fn scalar_of(value: Value) -> Scalar
     ensures { result ≡ scalar_of value }
 {
     match value {

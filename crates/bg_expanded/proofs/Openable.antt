@@ -1,26 +1,19 @@
--- In a typed program without recursion whose functions have bodies, a function's longest chain tells its rank.
-use Rattle.std.proofs.Common.{◌≡◌, ◌≤◌, ◌<◌, ℕ, zero, suc, ◌-◌, Bool, true, false, ◌&&◌, List, [], ◌∷◌, length, map, Option, Some, None, option_map, refl, sym, ap, ◌∙◌, subst, arith}
+-- In a program without recursion the longest chains of functions tell how deep it can be opened.
+use Rattle.std.proofs.Common.{◌≡◌, ◌≤◌, ◌<◌, ℕ, zero, suc, true, List, length, Option, Some, None, option_map, refl, sym, ap, ◌∙◌, arith}
 use Rattle.std.specs.Prelude.{slice_get}
-use Rattle.std.specs.List.{list_all}
 use Rattle.std.proofs.lemmas.List.{length-map}
 use Rattle.std.proofs.lemmas.Option.{slice_get-map, slice_get_within}
 use mathlib.Core.Logic.{dite}
 use native.Mathlib.Decide.{ℕ_discrete}
-use Rattle.bg_ast.specs.Values.{Ty, IntTy, BoolTy, MapTy}
 use Rattle.bg_ast.specs.Syntax as s
 use Rattle.bg_ast.specs.Resolved as r
 use Rattle.bg_ast.specs.Meaning.{ex_of, body_of, fun_of, named_of, meaning_of}
-use Rattle.bg_sense.specs.Typing.{Sig, HasType, HaveTypes, key_ty}
-use Rattle.bg_sense.specs.Types.{const_types}
 use Rattle.bg_sense.specs.Typed.{IsTyped}
 use Rattle.bg_sense.specs.Resolved.{IsResolved}
 use Rattle.bg_sense.specs.Recursion.{AppliesBelow, EachAppliesBelow, HasNoRecursion}
-use Rattle.bg_sense.proofs.Bools.{and_left, and_right}
-use Rattle.bg_fits.specs.Scalars.{is_scalar_type, decls_pass, proc_passes, impl_passes}
 use Rattle.bg_opened.specs.Changed.{body_in, bodies_in}
-use Rattle.bg_opened.specs.Judged.{is_judged_ex, body_judged, fun_judged, const_judged, is_judged}
-use Rattle.bg_opened.specs.Openable.{IsOpenable}
-use Rattle.bg_opened.proofs.Worths.{sides}
+use Rattle.bg_opened.specs.Judged.{is_judged}
+use Rattle.bg_opened.specs.Openable.{HasShortChains, IsOpenable}
 use Rattle.bg_expanded.specs.Chains.{through, chain_to, greatest_below, longest_chain}
 use Rattle.bg_expanded.proofs.Meant.{deep, all_deep, deepest_is, deep_same}
 
@@ -46,41 +39,28 @@ module _ (c : ℕ → ℕ) (n : ℕ) (small : (f : ℕ) → c f ≤ n) where
     list_least s.NoMore = omega arith
     list_least (s.More e es) = let i = deep_least e in let j = list_least es in omega (arith, i, j)
 
-module _ (c : ℕ → ℕ) (g : Sig) (there : (f : ℕ) (fn : s.Fun) → slice_get g.functions f ≡ Some fn → 0 < c f) where
+module _ (c : ℕ → ℕ) where
   mutual
-    -- what a typed expression applies ranks below a chain that is longer
-    below : (e : s.Ex) (t : Ty) → HasType e g t → (n : ℕ) → deep c e < n → AppliesBelow (λ f. c f - 1) (n - 1) e
-    below (s.Number z) t h n l = tt
-    below (s.Fact b) t h n l = tt
-    below (s.Constant k) t h n l = tt
-    below (s.Read x) t h n l = tt
-    below (s.Not e) t h n l = below e BoolTy h.1 n l
-    below (s.Negative e) t h n l = below e IntTy h.1 n l
-    below (s.Binary o a b) t h n l =
-        let z = sides o (HasType a g) (HasType b g) t h in
-        (below a z.0.0 z.0.1 n (omega (arith, l)), below b z.1.0 z.1.1 n (omega (arith, l)))
-    below (s.Apply f es) t h n l =
-        let some = there f h.0 h.1 in
-        (omega (arith, l, some), list_below es h.0.params h.3 n (omega (arith, l)))
-    below (s.Select m es) t h n l =
-        (below m (MapTy h.0 t) h.1 n (omega (arith, l)), list_below es (map key_ty h.0) h.2 n (omega (arith, l)))
-    below (s.Update m es e) t h n l =
-        (below m (MapTy h.0 h.1.0) h.1.2 n (omega (arith, l)), list_below es (map key_ty h.0) h.1.3 n (omega (arith, l)), below e h.1.0 h.1.4 n (omega (arith, l)))
-    below (s.Old e) t h n l = below e t h n l
+    -- what an expression applies is below each number that is above its chains
+    below : (e : s.Ex) (n : ℕ) → deep c e < n → AppliesBelow c n e
+    below (s.Number z) n l = tt
+    below (s.Fact b) n l = tt
+    below (s.Constant k) n l = tt
+    below (s.Read x) n l = tt
+    below (s.Not e) n l = below e n l
+    below (s.Negative e) n l = below e n l
+    below (s.Binary o a b) n l = (below a n (omega (arith, l)), below b n (omega (arith, l)))
+    below (s.Apply f es) n l = (omega (arith, l), list_below es n (omega (arith, l)))
+    below (s.Select m es) n l = (below m n (omega (arith, l)), list_below es n (omega (arith, l)))
+    below (s.Update m es e) n l =
+        (below m n (omega (arith, l)), list_below es n (omega (arith, l)), below e n (omega (arith, l)))
+    below (s.Old e) n l = below e n l
 
-    list_below : (es : s.Exs) (ts : List Ty) → HaveTypes es g ts → (n : ℕ) → all_deep c es < n → EachAppliesBelow (λ f. c f - 1) (n - 1) es
-    list_below s.NoMore ts h n l = tt
-    list_below (s.More e es) [] h n l = absurd h
-    list_below (s.More e es) (t ∷ ts) h n l =
-        (below e t h.0 n (omega (arith, l)), list_below es ts h.1 n (omega (arith, l)))
+    list_below : (es : s.Exs) (n : ℕ) → all_deep c es < n → EachAppliesBelow c n es
+    list_below s.NoMore n l = tt
+    list_below (s.More e es) n l = (below e n (omega (arith, l)), list_below es n (omega (arith, l)))
 
 -- ---- lists
-at_place : {A : Type 0} (f : A → Bool) (xs : List A) (k : ℕ) (x : A) → list_all f xs ≡ true → slice_get xs k ≡ Some x → f x ≡ true
-at_place f [] k x h e = absurd (let bad : ⊥ = cc in bad)
-at_place f (y ∷ ys) zero x h e =
-    let same : y ≡ x = cc in subst (λ z. f z ≡ true) same (and_left (f y) (list_all f ys) h)
-at_place f (y ∷ ys) (suc k) x h e = at_place f ys k x (and_right (f y) (list_all f ys) h) e
-
 greatest : (c : ℕ → ℕ) (n k : ℕ) → k < n → c k ≤ greatest_below c n
 greatest c zero k h = absurd (omega (arith, h))
 greatest c (suc n) k h =
@@ -159,63 +139,24 @@ module _ (p : r.Program) where
         ∙ (ap (deep (chain_to Fs m)) w.2
         ∙ deep_same h.rank (h.rank f) (chain_to Fs m) (chain_to Fs (suc m)) (λ g i. stable m (suc m) g (omega (arith, l, n, i)) (omega (arith, l, n, i))) e (h.falls f fn e at body)))
 
-    module _ (typed : IsTyped (meaning_of p)) (has : (f : ℕ) (fn : s.Fun) → slice_get (meaning_of p).functions f ≡ Some fn → (e : s.Ex) × (fn.body ≡ Some e)) where
-      abbrev pub chain : ℕ → ℕ
-      chain = chain_to Fs (length Fs)
+    abbrev pub chain : ℕ → ℕ
+    chain = chain_to Fs (length Fs)
 
-      some : (f : ℕ) (fn : s.Fun) → slice_get (meaning_of p).functions f ≡ Some fn → 0 < chain f
-      some f fn at =
-          let b = has f fn at in
-          let e = own (length Fs) f fn b.0 refl at b.1 in
-          omega (arith, e)
+    falls : (f : ℕ) (fn : s.Fun) (e : s.Ex) → slice_get (meaning_of p).functions f ≡ Some fn → fn.body ≡ Some e → (0 < chain f) × AppliesBelow chain (chain f) e
+    falls f fn e at body =
+        let same = own (length Fs) f fn e refl at body in
+        (omega (arith, same), below chain e (chain f) (omega (arith, same)))
 
-      falls : (f : ℕ) (fn : s.Fun) (e : s.Ex) → slice_get (meaning_of p).functions f ≡ Some fn → fn.body ≡ Some e → AppliesBelow (λ g. chain g - 1) (chain f - 1) e
-      falls f fn e at body =
-          let g : Sig = record { constants = const_types (meaning_of p).constants; functions = (meaning_of p).functions; globals = []; frame = fn.params } in
-          let same = own (length Fs) f fn e refl at body in
-          below chain g some e fn.result (typed.bodies f fn e at body) (chain f) (omega (arith, same))
+    lower : (depth : ℕ) → longest_chain p ≤ depth → (f : ℕ) (fn : s.Fun) → slice_get (meaning_of p).functions f ≡ Some fn → chain f ≤ depth
+    lower depth l f fn at =
+        let within = slice_get_within (meaning_of p).functions f fn at in
+        let m = length-map Fs Of in
+        let g = greatest chain (length Fs) f (omega (arith, within, m)) in
+        omega (arith, l, g)
 
-      place : (f : ℕ) (fn : s.Fun) → slice_get (meaning_of p).functions f ≡ Some fn → chain f - 1 < length (meaning_of p).functions
-      place f fn at =
-          let l = small (length Fs) f in
-          let i = some f fn at in
-          let m = length-map Fs Of in
-          omega (arith, l, i, m)
-
-      pub ranked : HasNoRecursion (meaning_of p)
-      ranked = record { rank = λ f. chain f - 1; is_place = place; falls = falls }
-
-      pub lower : (depth : ℕ) → longest_chain p ≤ depth → (f : ℕ) (fn : s.Fun) → slice_get (meaning_of p).functions f ≡ Some fn → chain f - 1 < depth
-      lower depth l f fn at =
-          let within = slice_get_within (meaning_of p).functions f fn at in
-          let m = length-map Fs Of in
-          let i = some f fn at in
-          let g = greatest chain (length Fs) f (omega (arith, within, m)) in
-          omega (arith, l, i, g)
-
-has_body : (o : Option s.Ex) → body_judged o ≡ true → (e : s.Ex) × (o ≡ Some e)
-has_body None h = absurd (let bad : false ≡ true = h in cc)
-has_body (Some e) h = (e, refl)
-
-have_bodies : (p : s.Prog) → is_judged p ≡ true → (f : ℕ) (fn : s.Fun) → slice_get p.functions f ≡ Some fn → (e : s.Ex) × (fn.body ≡ Some e)
-have_bodies p h f fn at =
-    let ty = is_scalar_type true in
-    let two = list_all (proc_passes p.candidates ty is_judged_ex) p.procedures && list_all (impl_passes p.candidates ty is_judged_ex) p.implementations in
-    let three = list_all is_judged_ex p.axioms && two in
-    let four = list_all fun_judged p.functions && three in
-    let five = list_all const_judged p.constants && four in
-    let rest = and_right (list_all const_judged p.constants) four (and_right (decls_pass ty is_judged_ex p.globals) five h) in
-    let here = at_place fun_judged p.functions f fn (and_left (list_all fun_judged p.functions) three rest) at in
-    has_body fn.body (and_right (ty fn.result) (body_judged fn.body) (and_right (list_all ty fn.params) (ty fn.result && body_judged fn.body) here))
+    pub short_chains : (depth : ℕ) → longest_chain p ≤ depth → HasShortChains depth (meaning_of p)
+    short_chains depth l = record { chain = chain; deep = lower depth l; falls = falls }
 
 pub openable : (depth : ℕ) (p : r.Program) → IsTyped (meaning_of p) → IsResolved (meaning_of p) → HasNoRecursion (meaning_of p) → is_judged (meaning_of p) ≡ true → longest_chain p ≤ depth → IsOpenable depth (meaning_of p)
-unfolding ranked
 openable depth p typed resolved recursion judged short =
-    let has = have_bodies (meaning_of p) judged in
-    record {
-      typed = typed;
-      resolved = resolved;
-      recursion = ranked p recursion typed has;
-      judged = judged;
-      deep = lower p recursion typed has depth short;
-    }
+    record { typed = typed; resolved = resolved; recursion = recursion; judged = judged; chains = short_chains p recursion depth short }

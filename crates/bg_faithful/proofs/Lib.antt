@@ -4,10 +4,8 @@ pub mod Kinded
 pub mod Guards
 pub mod Incs
 pub mod Passes
-pub mod Sorting
 pub mod Whole
 pub mod Values
 pub mod Starts
 pub mod Meets
 pub mod Packed
-pub mod Clauses

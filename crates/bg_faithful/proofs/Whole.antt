@@ -1,26 +1,20 @@
 -- What an implementation of a program over scalars has.
-use Rattle.std.proofs.Common.{◌≡◌, ℕ, ◌+◌, Bool, true, List, [], ◌∷◌, ◌++◌, length, Some, ap, ◌∙◌, subst}
+use Rattle.std.proofs.Common.{◌≡◌, ℕ, ◌+◌, Bool, true, List, [], ◌∷◌, ◌++◌, length, Some}
 use Rattle.std.specs.Prelude.{◌&&◌, slice_get}
 use Rattle.std.specs.List.{list_all}
-use Rattle.bg_ast.specs.Values.{Ty}
-use Rattle.bg_ast.specs.Syntax.{Decl, Proc, Impl, Prog}
+use Rattle.bg_ast.specs.Syntax.{Decl, Fun, Proc, Impl, Prog}
 use Rattle.bg_ast.specs.Execution.{AtReturn}
-use Rattle.bg_sense.specs.Types.{types_of, const_types}
-use Rattle.bg_sense.specs.Typing.{Sig}
+use Rattle.bg_sense.specs.Types.{types_of}
 use Rattle.bg_sense.specs.Variables.{procedure_of, wheres_of}
 use Rattle.bg_sense.proofs.Bools.{and_left, and_right}
 use Rattle.bg_flow.specs.Core.{frame_decls, demands, sayings, each_one, plain}
-use Rattle.bg_fits.specs.Scalars.{is_empty, decls_pass, proc_passes, impl_passes, st_passes, is_scalar_type, is_scalar, is_over_scalars}
-use Rattle.bg_atoms.specs.Sorted.{blocks_sorted}
-use Rattle.bg_block_types.specs.Typed.{sig_over, TypedBlocks, blocks_in, arrivals_in, incarnations_in, passives_in}
+use Rattle.bg_fits.specs.Scalars.{is_empty, decls_pass, fun_passes, proc_passes, impl_passes, st_passes, is_scalar_type, is_scalar, is_over_scalars}
+use Rattle.bg_block_types.specs.Typed.{blocks_in, arrivals_in, incarnations_in, passives_in}
 use Rattle.bg_faithful.specs.Checks.{BlocksPlaced}
-use Rattle.bg_faithful.specs.Sorted.{sorts_in}
 use Rattle.bg_faithful.proofs.Scalars.{AreScalars, scalars_append, decls_scalar, ScalarProc, scalar_proc, passes_at, none_there}
-use Rattle.bg_faithful.proofs.Kinded.{sig_bare}
 use Rattle.bg_faithful.proofs.Guards.{FitBlocks, fit_demands, fit_sayings, fit_plain, routine_fits, body_placed, ends_placed}
 use Rattle.bg_faithful.proofs.Incs.{made_scalars}
 use Rattle.bg_faithful.proofs.Passes.{FitPassives, passives_fit, blocks_placed}
-use Rattle.bg_faithful.proofs.Sorting.{blocks_all}
 
 module _ (p : Prog) (o : is_over_scalars true p ≡ true) where
   abbrev globals_pass : Bool
@@ -32,14 +26,17 @@ module _ (p : Prog) (o : is_over_scalars true p ≡ true) where
   abbrev impls_pass : Bool
   impls_pass = list_all (impl_passes p.candidates (is_scalar_type true) (is_scalar true)) p.implementations
 
-  behind_globals : (is_empty p.constants && (is_empty p.functions && (is_empty p.axioms && (procs_pass && impls_pass)))) ≡ true
+  abbrev functions_pass : Bool
+  functions_pass = list_all (fun_passes (is_scalar_type true)) p.functions
+
+  behind_globals : (is_empty p.constants && (functions_pass && (is_empty p.axioms && (procs_pass && impls_pass)))) ≡ true
   behind_globals = and_right globals_pass _ o
 
-  behind_constants : (is_empty p.functions && (is_empty p.axioms && (procs_pass && impls_pass))) ≡ true
+  behind_constants : (functions_pass && (is_empty p.axioms && (procs_pass && impls_pass))) ≡ true
   behind_constants = and_right (is_empty p.constants) _ behind_globals
 
   behind_functions : (is_empty p.axioms && (procs_pass && impls_pass)) ≡ true
-  behind_functions = and_right (is_empty p.functions) _ behind_constants
+  behind_functions = and_right functions_pass _ behind_constants
 
   parts : (procs_pass && impls_pass) ≡ true
   parts = and_right (is_empty p.axioms) _ behind_functions
@@ -47,8 +44,9 @@ module _ (p : Prog) (o : is_over_scalars true p ≡ true) where
   pub no_constants : p.constants ≡ []
   no_constants = none_there p.constants (and_left (is_empty p.constants) _ behind_globals)
 
-  pub no_functions : p.functions ≡ []
-  no_functions = none_there p.functions (and_left (is_empty p.functions) _ behind_constants)
+  pub each_function : (f : ℕ) (fn : Fun) → slice_get p.functions f ≡ Some fn → fun_passes (is_scalar_type true) fn ≡ true
+  each_function f fn e =
+      passes_at (fun_passes (is_scalar_type true)) p.functions f fn (and_left functions_pass _ behind_constants) e
 
   pub no_axioms : p.axioms ≡ []
   no_axioms = none_there p.axioms (and_left (is_empty p.axioms) _ behind_functions)
@@ -59,11 +57,6 @@ module _ (p : Prog) (o : is_over_scalars true p ≡ true) where
   procs : (j : ℕ) (c : Proc) → slice_get p.procedures j ≡ Some c → ScalarProc p.candidates c
   procs j c e =
       scalar_proc p.candidates c (passes_at (proc_passes p.candidates (is_scalar_type true) (is_scalar true)) p.procedures j c (and_left procs_pass _ parts) e)
-
-  sig_same : (incs : List Ty) → sig_over p incs ≡ sig_bare incs
-  sig_same incs =
-      ap (λ cs. let s : Sig = record { constants = const_types cs; functions = p.functions; globals = []; frame = incs } in s) no_constants
-      ∙ ap (λ fs. let s : Sig = record { constants = []; functions = fs; globals = []; frame = incs } in s) no_functions
 
   module _ (k : ℕ) (m : Impl) (q : Proc) (im : slice_get p.implementations k ≡ Some m) (pr : procedure_of p m.procedure ≡ Some q) where
     abbrev ds : List Decl
@@ -99,13 +92,8 @@ module _ (p : Prog) (o : is_over_scalars true p ≡ true) where
         scalars_append (types_of p.globals) _ globals_scalar
         (scalars_append (types_of ds) _ frame_scalar (made_scalars p ds globals_scalar frame_scalar (blocks_in p k m q) [] (length p.globals + length ds) fits))
 
-    fits_passive : FitPassives p (passives_in p k m q)
+    pub fits_passive : FitPassives p (passives_in p k m q)
     fits_passive = passives_fit p (arrivals_in p k m q).arrivals (blocks_in p k m q) fits
 
     pub placed : BlocksPlaced p (passives_in p k m q)
     placed = blocks_placed p (passives_in p k m q) fits_passive
-
-    pub sorted : TypedBlocks (sig_over p (incarnations_in p k m q)) (passives_in p k m q) → blocks_sorted (sorts_in p k m q) p.candidates (passives_in p k m q) ≡ true
-    sorted h =
-        let t = subst (λ g. TypedBlocks g (passives_in p k m q)) (sig_same (incarnations_in p k m q)) h in
-        blocks_all (incarnations_in p k m q) scalars p (passives_in p k m q) t fits_passive

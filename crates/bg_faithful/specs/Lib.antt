@@ -1,4 +1,3 @@
-pub mod Sorted
 pub mod Encoded
 pub mod Interps
 pub mod Checks

@@ -1,1 +1,2 @@
 pub mod Synonyms
+pub mod Bare

@@ -1,8 +1,9 @@
--- Programs over truth values and whole numbers, and nothing else: what passes a test of types and one of expressions.
-use Rattle.std.specs.Prelude.{ℕ, nat_lt, Bool, true, false, ◌&&◌, List, [], ◌∷◌, Option, Some, None}
+-- Programs over truth values and whole numbers, and functions on them without a body: what passes a test of types and one of expressions.
+use Rattle.std.specs.Prelude.{ℕ, nat_lt, Bool, true, false, not, ◌&&◌, List, [], ◌∷◌, Option, Some, None}
 use Rattle.std.specs.List.{list_all}
 use Rattle.bg_ast.specs.Values.{Ty, IntTy, BoolTy}
-use Rattle.bg_ast.specs.Syntax.{Ex, Number, Fact, Read, Not, Negative, Binary, Old, Exs, NoMore, More, Clause, Guard, Star, Test, St, Skip, Then, Label, Assert, Assume, Havoc, Assign, Invoke, If, While, Break, Goto, Return, Decl, Proc, Impl, Prog}
+use Rattle.bg_ast.specs.Syntax.{Ex, Number, Fact, Read, Not, Negative, Binary, Old, Apply, Exs, NoMore, More, Clause, Guard, Star, Test, St, Skip, Then, Label, Assert, Assume, Havoc, Assign, Invoke, If, While, Break, Goto, Return, Decl, Fun, Proc, Impl, Prog}
+use Rattle.bg_sense.specs.Tables.{has_body}
 
 abbrev pub is_empty : {A : Type 0} → List A → Bool
 is_empty [] = true
@@ -59,11 +60,15 @@ proc_passes n ty ex q =
 abbrev pub impl_passes : ℕ → (Ty → Bool) → (Ex → Bool) → Impl → Bool
 impl_passes n ty ex m = decls_pass ty ex m.locals && st_passes n ex m.body
 
--- variables, procedures and implementations that pass, candidates, and nothing else
+-- a function without a body, between types that pass
+abbrev pub fun_passes : (Ty → Bool) → Fun → Bool
+fun_passes ty f = list_all ty f.params && (ty f.result && not (has_body f.body))
+
+-- variables, functions, procedures and implementations that pass, candidates, and nothing else
 abbrev pub passes : (Ty → Bool) → (Ex → Bool) → Prog → Bool
 passes ty ex p =
     decls_pass ty ex p.globals
-    && (is_empty p.constants && (is_empty p.functions && (is_empty p.axioms && (list_all (proc_passes p.candidates ty ex) p.procedures && list_all (impl_passes p.candidates ty ex) p.implementations))))
+    && (is_empty p.constants && (list_all (fun_passes ty) p.functions && (is_empty p.axioms && (list_all (proc_passes p.candidates ty ex) p.procedures && list_all (impl_passes p.candidates ty ex) p.implementations))))
 
 -- `bool`, and `int` where numbers may stand
 abbrev pub is_scalar_type : (numbers : Bool) → Ty → Bool
@@ -71,17 +76,24 @@ is_scalar_type numbers BoolTy = true
 is_scalar_type numbers IntTy = numbers
 is_scalar_type numbers _ = false
 
--- truth values, variables, `old` and operators, and numbers where they may stand
-abbrev pub is_scalar : (numbers : Bool) → Ex → Bool
-is_scalar numbers (Number z) = numbers
-is_scalar numbers (Fact b) = true
-is_scalar numbers (Read x) = true
-is_scalar numbers (Not e) = is_scalar numbers e
-is_scalar numbers (Negative e) = is_scalar numbers e
-is_scalar numbers (Binary o a b) = is_scalar numbers a && is_scalar numbers b
-is_scalar numbers (Old e) = is_scalar numbers e
-is_scalar numbers _ = false
+abbrev mutual
+  -- truth values, variables, `old`, operators and applications of functions, and numbers where they may stand
+  pub is_scalar : (numbers : Bool) → Ex → Bool
+  is_scalar numbers (Number z) = numbers
+  is_scalar numbers (Fact b) = true
+  is_scalar numbers (Read x) = true
+  is_scalar numbers (Not e) = is_scalar numbers e
+  is_scalar numbers (Negative e) = is_scalar numbers e
+  is_scalar numbers (Binary o a b) = is_scalar numbers a && is_scalar numbers b
+  is_scalar numbers (Old e) = is_scalar numbers e
+  is_scalar numbers (Apply f es) = are_scalar numbers es
+  is_scalar numbers _ = false
 
--- a program over truth values, and over whole numbers where they may stand
+  -- each of a list is so
+  pub are_scalar : (numbers : Bool) → Exs → Bool
+  are_scalar numbers NoMore = true
+  are_scalar numbers (More e es) = is_scalar numbers e && are_scalar numbers es
+
+-- a program over truth values, and over whole numbers where they may stand, and functions on them without a body
 abbrev pub is_over_scalars : (numbers : Bool) → Prog → Bool
 is_over_scalars numbers p = passes (is_scalar_type numbers) (is_scalar numbers) p

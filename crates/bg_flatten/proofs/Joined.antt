@@ -1,33 +1,16 @@
 -- From what was made to flat blocks.
-use Rattle.std.proofs.Common.{◌≡◌, ℕ, zero, suc, List, [], ◌∷◌, length, refl, sym, ap, ◌∙◌, subst}
+use Rattle.std.proofs.Common.{List, [], ◌∷◌, length, refl}
 use Rattle.bg_ast.specs.Values.{Ty, BoolTy}
 use Rattle.bg_ast.specs.Syntax.{Ex, Fun}
 use Rattle.bg_passive.specs.Passive.{PassiveCmd, Claims, Supposes, Edge, PassiveBlock}
-use Rattle.bg_terms.specs.Terms.{Selects, Term}
+use Rattle.bg_terms.specs.Terms.{Term}
 use Rattle.bg_terms.specs.Flat.{IsFlat}
 use Rattle.bg_terms.specs.Alike.{HasFlatType}
 use Rattle.bg_terms.specs.Typed.{types_with}
 use Rattle.bg_terms.proofs.Typed.{flat_typed}
 use Rattle.bg_flat.specs.Blocks.{FlatCmds, FlatEdges, FlatBlocks}
-use Rattle.bg_flat.specs.Fronts.{AreIndexed}
-use Rattle.bg_term_table.specs.declared.table.Head as code
-use Rattle.bg_term_table.specs.declared.table.Head.TheVariants as head
-use Rattle.bg_term_table.specs.declared.table.Term as kept
-use Rattle.bg_term_table.specs.Views.{head_of, term_of, terms_in}
 use Rattle.bg_numbered.specs.Fair.{FairTerms}
-use Rattle.bg_flatten.specs.Makes.{IsFine, FineCmds, FineEdges, FineBlocks, CmdsFlat, EdgesFlat, BlocksFlat, MakesBlocks}
-use Rattle.bg_flatten.specs.Flattens.{Flattens}
-
--- no term selects
-no_select : (h : code.Head) (t : Ty) → head_of h ≡ Selects [] t → ⊥
-no_select (head.Function f) t e = cc
-
-pub are_indexed : (fs : List Fun) (ts : List kept.Term) → AreIndexed (terms_in fs ts)
-are_indexed fs [] a u t e h = let bad : ⊥ = cc in bad
-are_indexed fs (k ∷ ts) zero u t e h =
-    let same : term_of fs k ≡ u = cc in
-    no_select k.head t (ap (λ v. v.head) same ∙ h)
-are_indexed fs (k ∷ ts) (suc a) u t e h = are_indexed fs ts a u t e h
+use Rattle.bg_flatten.specs.Makes.{IsFine, FineCmds, FineEdges, FineBlocks, CmdsFlat, EdgesFlat, BlocksFlat}
 
 module _ (fs : List Fun) (incs : List Ty) (ts : List Term) (terms : FairTerms fs incs ts) where
   truth : (e x : Ex) → IsFine fs incs e → IsFlat (length incs) ts e x → HasFlatType (types_with incs ts) x BoolTy
@@ -61,12 +44,3 @@ module _ (fs : List Fun) (incs : List Ty) (ts : List Term) (terms : FairTerms fs
 pub no_terms : (fs : List Fun) (incs : List Ty) → FairTerms fs incs []
 no_terms fs incs =
     record { order = refl; linear = λ a t e. absurd (let bad : ⊥ = cc in bad); typed = λ a t e. absurd (let bad : ⊥ = cc in bad) }
-
-pub flattens : (fs : List Fun) (n : ℕ) (ts : List Term) (blocks flat : List PassiveBlock) → AreIndexed ts → MakesBlocks fs n [] ts blocks flat → Flattens fs n blocks ts flat
-flattens fs n ts blocks flat indexed m incs c fine =
-    let terms = m.fair incs c fine (no_terms fs incs) in
-    record {
-      terms = terms;
-      indexed = indexed;
-      blocks = all_blocks fs incs ts terms blocks flat fine (subst (λ k. BlocksFlat k ts blocks flat) (sym c) (m.flat incs c fine));
-    }

@@ -1,5 +1,6 @@
 pub mod Lists
 pub mod Forms
+pub mod Pieces
 pub mod Joined
 pub mod Handled
 pub mod Numbered

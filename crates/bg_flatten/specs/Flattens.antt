@@ -1,5 +1,5 @@
 -- Passive blocks made flat.
-use Rattle.std.specs.Prelude.{◌≡◌, ℕ, List, length}
+use Rattle.std.specs.Prelude.{List, length}
 use Rattle.bg_ast.specs.Values.{Ty}
 use Rattle.bg_ast.specs.Syntax.{Fun}
 use Rattle.bg_passive.specs.Passive.{PassiveBlock}
@@ -8,15 +8,9 @@ use Rattle.bg_terms.specs.Typed.{types_with}
 use Rattle.bg_flat.specs.Blocks.{FlatBlocks}
 use Rattle.bg_flat.specs.Fronts.{AreIndexed}
 use Rattle.bg_numbered.specs.Fair.{FairTerms}
-use Rattle.bg_flatten.specs.Makes.{FineBlocks}
 
 -- flat blocks over incarnations of these types and these terms
 pub record AreFlattened (fs : List Fun) (incs : List Ty) (source : List PassiveBlock) (ts : List Term) (made : List PassiveBlock) : Type 0 where
   pub terms : FairTerms fs incs ts
   pub indexed : AreIndexed ts
   pub blocks : FlatBlocks (types_with incs ts) (length incs) ts source made
-
--- so it is whatever the types of so many incarnations are, where the blocks are fine
-abbrev pub Flattens : List Fun → ℕ → List PassiveBlock → List Term → List PassiveBlock → Type 0
-Flattens fs n blocks ts flat =
-    (incs : List Ty) → length incs ≡ n → FineBlocks fs incs blocks → AreFlattened fs incs blocks ts flat

@@ -1,5 +1,5 @@
--- Commands, edges and blocks that are made flat over a table of terms that grows.
-use Rattle.std.specs.Prelude.{◌≡◌, ℕ, List, [], ◌∷◌, length}
+-- Commands, edges and blocks that are fine, and such ones made flat.
+use Rattle.std.specs.Prelude.{◌≡◌, ℕ, List, [], ◌∷◌}
 use Rattle.bg_ast.specs.Values.{Ty, BoolTy}
 use Rattle.bg_ast.specs.Syntax.{Ex, Fun}
 use Rattle.bg_sense.specs.Typing.{HasType}
@@ -8,7 +8,7 @@ use Rattle.bg_passive.specs.Passive.{PassiveCmd, Claims, Supposes, Edge, Passive
 use Rattle.bg_terms.specs.Terms.{Term}
 use Rattle.bg_terms.specs.Flat.{IsFlat}
 use Rattle.bg_terms.specs.Typed.{sig_with}
-use Rattle.bg_numbered.specs.Fair.{IsHandled, FairTerms, Grows}
+use Rattle.bg_numbered.specs.Fair.{IsHandled}
 
 -- a truth over incarnations of these types that is linear and handled, where functions are these
 pub record IsFine (fs : List Fun) (incs : List Ty) (e : Ex) : Type 0 where
@@ -67,27 +67,3 @@ FlatBlock n ts b f = CmdsFlat n ts b.cmds f.cmds × EdgesFlat n ts b.next f.next
 
 abbrev pub BlocksFlat : ℕ → List Term → List PassiveBlock → List PassiveBlock → Type 0
 BlocksFlat n ts bs gs = Pairwise (FlatBlock n ts) bs gs
-
--- the table has grown, and behind it the second is the first one made flat, where that is fine; fair terms stay fair
-pub record Makes (A : Type 0) (Is : List Term → A → A → Type 0) (Fine : List Ty → A → Type 0) (fs : List Fun) (n : ℕ) (old new : List Term) (e x : A) : Type 0 where
-  pub grows : Grows old new
-  pub flat : (incs : List Ty) → length incs ≡ n → Fine incs e → Is new e x
-  pub fair : (incs : List Ty) → length incs ≡ n → Fine incs e → FairTerms fs incs old → FairTerms fs incs new
-
-abbrev pub MakesCmd : List Fun → ℕ → List Term → List Term → PassiveCmd → PassiveCmd → Type 0
-MakesCmd fs n = Makes PassiveCmd (FlatCmd n) (FineCmd fs) fs n
-
-abbrev pub MakesCmds : List Fun → ℕ → List Term → List Term → List PassiveCmd → List PassiveCmd → Type 0
-MakesCmds fs n = Makes (List PassiveCmd) (CmdsFlat n) (FineCmds fs) fs n
-
-abbrev pub MakesEdge : List Fun → ℕ → List Term → List Term → Edge → Edge → Type 0
-MakesEdge fs n = Makes Edge (FlatEdge n) (FineEdge fs) fs n
-
-abbrev pub MakesEdges : List Fun → ℕ → List Term → List Term → List Edge → List Edge → Type 0
-MakesEdges fs n = Makes (List Edge) (EdgesFlat n) (FineEdges fs) fs n
-
-abbrev pub MakesBlock : List Fun → ℕ → List Term → List Term → PassiveBlock → PassiveBlock → Type 0
-MakesBlock fs n = Makes PassiveBlock (FlatBlock n) (FineBlock fs) fs n
-
-abbrev pub MakesBlocks : List Fun → ℕ → List Term → List Term → List PassiveBlock → List PassiveBlock → Type 0
-MakesBlocks fs n = Makes (List PassiveBlock) (BlocksFlat n) (FineBlocks fs) fs n

@@ -38,6 +38,46 @@ impl Form {
             Form::Same(f, g) => Parts::Same(Box::into_inner(f), Box::into_inner(g)),
         }
     }
+
+    /// The denial.
+    fn denial(self, alloc: Global) -> Result<Form, AllocError>
+        ensures { IfOk result (λ x. form_in x ≡ denied (form_in self)) }
+    {
+        match self {
+            Form::Plain(b) => Ok(Form::Plain(!b)),
+            Form::Is(l) => Ok(Form::Is(opposite(l))),
+            Form::NotSo(f) => Ok(Box::into_inner(f)),
+            Form::Both(f, g) => Ok(Form::NotSo(Box::new(alloc, Form::Both(f, g))?)),
+            Form::Same(f, g) => Ok(Form::NotSo(Box::new(alloc, Form::Same(f, g))?)),
+        }
+    }
+
+    /// The denial of the denial, without a new mark where one would be taken away again.
+    fn denied_twice(self, alloc: Global) -> Result<Form, AllocError>
+        ensures { IfOk result (λ x. form_in x ≡ denied (denied (form_in self))) }
+    {
+        match self {
+            Form::Plain(b) => denied(alloc, Form::Plain(!b)),
+            Form::Is(l) => denied(alloc, Form::Is(opposite(l))),
+            Form::NotSo(f) => denied(alloc, Box::into_inner(f)),
+            Form::Both(f, g) => Ok(Form::Both(f, g)),
+            Form::Same(f, g) => Ok(Form::Same(f, g)),
+        }
+    }
+
+    /// This form or another one: what is plain needs nothing new.
+    fn or(self, alloc: Global, g: Form) -> Result<Form, AllocError>
+        ensures { IfOk result (λ x. form_in x ≡ any_of (form_in self) (form_in g)) }
+    {
+        match self {
+            Form::Plain(true) => Ok(Form::Plain(true)),
+            Form::Plain(false) => g.denied_twice(alloc),
+            Form::Is(l) => any_beside(alloc, Form::Is(l), g),
+            Form::NotSo(f) => any_beside(alloc, Form::NotSo(f), g),
+            Form::Both(f, h) => any_beside(alloc, Form::Both(f, h), g),
+            Form::Same(f, h) => any_beside(alloc, Form::Same(f, h), g),
+        }
+    }
 }
 
 /// What stands behind others is let go in a loop, since chains and commands make long rows of it.
@@ -100,19 +140,7 @@ pub fn opposite(l: Literal) -> Literal
 pub fn denied(alloc: Global, f: Form) -> Result<Form, AllocError>
     ensures { IfOk result (λ x. form_in x ≡ denied (form_in f)) }
 {
-    match f.parts() {
-        Parts::Plain(b) => Ok(Form::Plain(!b)),
-        Parts::Is(l) => Ok(Form::Is(opposite(l))),
-        Parts::NotSo(f) => Ok(f),
-        Parts::Both(f, g) => {
-            let whole = Form::Both(Box::new(alloc, f)?, Box::new(alloc, g)?);
-            Ok(Form::NotSo(Box::new(alloc, whole)?))
-        }
-        Parts::Same(f, g) => {
-            let whole = Form::Same(Box::new(alloc, f)?, Box::new(alloc, g)?);
-            Ok(Form::NotSo(Box::new(alloc, whole)?))
-        }
-    }
+    f.denial(alloc)
 }
 
 fn both_beside(alloc: Global, f: Form, g: Form) -> Result<Form, AllocError>
@@ -146,14 +174,21 @@ pub fn both_of(alloc: Global, f: Form, g: Form) -> Result<Form, AllocError>
     }
 }
 
-/// The disjunction.
-pub fn any_of(alloc: Global, f: Form, g: Form) -> Result<Form, AllocError>
+/// The disjunction of forms that aren't plain.
+fn any_beside(alloc: Global, f: Form, g: Form) -> Result<Form, AllocError>
     ensures { IfOk result (λ x. form_in x ≡ any_of (form_in f) (form_in g)) }
 {
     let not_f = denied(alloc, f)?;
     let not_g = denied(alloc, g)?;
     let neither = both_of(alloc, not_f, not_g)?;
     denied(alloc, neither)
+}
+
+/// The disjunction.
+pub fn any_of(alloc: Global, f: Form, g: Form) -> Result<Form, AllocError>
+    ensures { IfOk result (λ x. form_in x ≡ any_of (form_in f) (form_in g)) }
+{
+    f.or(alloc, g)
 }
 
 fn same_behind(alloc: Global, f: Form, g: Form) -> Result<Form, AllocError>

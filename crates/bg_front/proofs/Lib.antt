@@ -1,5 +1,4 @@
 pub mod Firsts
-pub mod FirstBodiless
 pub mod Guessing
 pub mod Large
 pub mod Lengths

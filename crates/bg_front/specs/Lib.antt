@@ -1,5 +1,4 @@
 pub mod Later
-pub mod Bodiless
 pub mod Limits
 pub mod Refusals
 pub mod Lines

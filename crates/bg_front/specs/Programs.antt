@@ -1,6 +1,5 @@
 -- The program of a text, and why it has none.
-use Rattle.std.specs.Prelude.{◌≡◌, ◌≤◌, ◌<◌, ◌⊎◌, ◌-◌, ◌^◌, codes, ℕ, min, nat_lt, Bool, true, false, if◌then◌else◌, List, length, Option, Some, None}
-use Rattle.bg_base.specs.declared.pos.Pos.{Pos}
+use Rattle.std.specs.Prelude.{◌≡◌, ◌≤◌, ◌<◌, ◌-◌, ◌^◌, ℕ, min, nat_lt, Bool, true, false, if◌then◌else◌, List, length, Option, Some, None}
 use Rattle.bg_text.specs.Tokens.{Tok}
 use Rattle.bg_text.specs.Trees.{Decl}
 use Rattle.bg_ast.specs.Resolved as r
@@ -13,7 +12,6 @@ use Rattle.bg_types.specs.Verdicts.{IsFault}
 use Rattle.bg_typed.specs.Rules.{KeepsTypes}
 use Rattle.bg_guess.specs.Guessed.{guessed}
 use Rattle.bg_front.specs.Later.{AreJudged, IsUnjudged}
-use Rattle.bg_front.specs.Bodiless.{HaveBodies, IsFirstBodiless}
 use Rattle.bg_front.specs.Limits.{most_bytes, most_implementations, most_candidates}
 use Rattle.bg_front.specs.Refusals as f
 use Rattle.bg_front.specs.Refusals.{refusal_of}
@@ -71,15 +69,14 @@ abbrev pub with_guesses : Bool → r.Program → r.Program
 with_guesses false p = p
 with_guesses true p = guessed p
 
--- the bytes spell a program that keeps the rules of types, each of its tokens is judged, and its functions have bodies; this is the
--- program, with its guesses where these are asked for, and it exceeds no limit
+-- the bytes spell a program that keeps the rules of types, and each of its tokens is judged; this is the program, with its guesses where
+-- these are asked for, and it exceeds no limit
 pub record IsProgramOf (guess : Bool) (bytes : List ℕ) (program : r.Program) : Type 0 where
   pub tokens : List Tok
   pub written : r.Program
   pub spelled : IsMeaningOf bytes tokens written
   pub typed : KeepsTypes written
   pub judged : AreJudged tokens
-  pub bodies : HaveBodies spelled.decls
   pub is : program ≡ with_guesses guess written
   pub within : limit_of program ≡ None
 
@@ -87,23 +84,17 @@ pub record IsProgramOf (guess : Bool) (bytes : List ℕ) (program : r.Program) :
 abbrev pub IsProgramFrom : Bool → List ℕ → List Decl → r.Program → Type 0
 IsProgramFrom guess bytes decls program = (p : IsProgramOf guess bytes program) × (p.spelled.decls ≡ decls)
 
--- what isn't judged yet: the first token that isn't, at this position and written so; or, where all tokens are, the word `function` of the
--- first function without a body
-abbrev pub IsLater : List Tok → List Decl → Pos → List ℕ → Type 0
-IsLater ts ds pos word =
-    IsUnjudged ts pos word ⊎ (AreJudged ts × (IsFirstBodiless ds pos × (word ≡ codes "function")))
-
 -- the bytes spell a program that is typed and judged, and exceeds this limit first, with its guesses where these are asked for
 abbrev pub ExceedsLimit : Bool → List ℕ → f.Refusal → Type 0
 ExceedsLimit guess bytes limit =
-    (ts : List Tok) × (p : r.Program) × (m : IsMeaningOf bytes ts p) × KeepsTypes p × AreJudged ts × HaveBodies m.decls × (limit_of (with_guesses guess p) ≡ Some limit)
+    (ts : List Tok) × (p : r.Program) × IsMeaningOf bytes ts p × KeepsTypes p × AreJudged ts × (limit_of (with_guesses guess p) ≡ Some limit)
 
 -- why a text has no program; each reason stands only where none before it does, and limits alone look at guesses
 abbrev pub IsRefusedBy : Bool → List ℕ → f.Refusal → Type 0
 IsRefusedBy guess bytes f.TooLong = most_bytes < length bytes
 IsRefusedBy guess bytes (f.Names fault) = (length bytes ≤ most_bytes) × (ts : List Tok) × (ds : List Decl) × IsTreeOf bytes ts ds × IsToldFault ds fault
 IsRefusedBy guess bytes (f.Types ds fault) = (ts : List Tok) × (p : r.Program) × IsMeaningOf bytes ts p × IsFault p fault × (ds ≡ p.types)
-IsRefusedBy guess bytes (f.Later pos word) = (ts : List Tok) × (p : r.Program) × (m : IsMeaningOf bytes ts p) × KeepsTypes p × IsLater ts m.decls pos word
+IsRefusedBy guess bytes (f.Later pos word) = (ts : List Tok) × (p : r.Program) × IsMeaningOf bytes ts p × KeepsTypes p × IsUnjudged ts pos word
 IsRefusedBy guess bytes (f.Implementations n) = ExceedsLimit guess bytes (f.Implementations n)
 IsRefusedBy guess bytes (f.Candidates n) = ExceedsLimit guess bytes (f.Candidates n)
 IsRefusedBy guess bytes (f.Places n) = ExceedsLimit guess bytes (f.Places n)

@@ -1,7 +1,6 @@
 //! From the bytes of a text to its program, or to the one line that refuses it.
 #![tactic(auto)]
 
-mod bodiless;
 mod faults;
 mod later;
 pub mod laws;
@@ -12,7 +11,6 @@ mod sizes;
 mod text;
 mod tree;
 
-pub use bodiless::first_bodiless;
 pub use later::first_unjudged;
 pub use limits::{MOST_BYTES, MOST_CANDIDATES, MOST_IMPLEMENTATIONS};
 pub use refusal::{ReadError, Refusal};

@@ -6,11 +6,9 @@ ghost use Rattle.bg_ast.specs.Views.{program_of};
 ghost use Rattle.bg_typed.specs.Rules.{KeepsTypes};
 ghost use Rattle.bg_front.specs.Later.{AreJudged};
 ghost use Rattle.bg_front.specs.Limits.{most_bytes};
-ghost use Rattle.bg_front.specs.Bodiless.{HaveBodies};
 ghost use Rattle.bg_front.specs.Programs.{IsMeaningFrom, IsProgramFrom, IsProgramOf, IsRefused};
 ghost use Rattle.bg_front.specs.Trees.{IsTreeOf};
 
-use crate::bodiless::first_bodiless;
 use crate::later::first_unjudged;
 use crate::limits::MOST_BYTES;
 use crate::refusal::{ReadError, Refusal};
@@ -92,7 +90,6 @@ fn counted<'a>(
     requires meant { IsMeaningFrom bytes.now (views tokens.now) (decls_of decls.now) (program_of typed.program) }
     requires typed { KeepsTypes (program_of typed.program) }
     requires judged { AreJudged (views tokens.now) }
-    requires bodies { HaveBodies (decls_of decls.now) }
     ensures program { IfOk result (λ t. IsProgramFrom guess bytes.now (decls_of decls.now) (program_of t.program)) }
     ensures refused { IfErr result (λ e. IsRefused guess bytes.now e) }
 {
@@ -100,7 +97,7 @@ fn counted<'a>(
     Ok(Typed { program })
 }
 
-/// The same, where each token is judged, and each function has a body.
+/// The same, where each token is judged.
 fn judged<'a>(
     alloc: Global,
     bytes: &'a [u8],
@@ -117,10 +114,7 @@ fn judged<'a>(
     if let Some((pos, word)) = first_unjudged(tokens) {
         return Err(ReadError::Refused(Refusal::Later(pos, word)));
     }
-    match first_bodiless(decls) {
-        Some(pos) => Err(ReadError::Refused(Refusal::Later(pos, b"function"))),
-        None => counted(alloc, bytes, tokens, decls, typed, guess),
-    }
+    counted(alloc, bytes, tokens, decls, typed, guess)
 }
 
 /// The tree of a text, and its program, with its guesses where these are asked for.
@@ -135,12 +129,11 @@ pub struct Written {
 /// # Errors
 /// `Refused` with the first of these that holds: there are too many bytes (`TooLong`); the bytes hold no tokens (`Bytes`);
 /// the tokens spell no program (`Syntax`) or open a 201st bracket (`Nesting`), whichever comes first; a rule of names
-/// (`Names`) or of types (`Types`) is broken; a token isn't judged yet (`Later`), or else a function has no body (`Later` at its
-/// word `function`); there are too many implementations (`Implementations`) or candidates (`Candidates`), the guesses that are
-/// asked for among them and counted before they are made; an implementation has with them too many places (`Places`), a chain
-/// of functions too many bodies (`Bodies`), or the axioms together or an implementation, with bodies in the place of
-/// applications, too many expression nodes (`Expanded`). `Memory` where memory ran out. Positions are lines and byte columns
-/// from 1.
+/// (`Names`) or of types (`Types`) is broken; a token isn't judged yet (`Later`); there are too many implementations
+/// (`Implementations`) or candidates (`Candidates`), the guesses that are asked for among them and counted before they are
+/// made; an implementation has with them too many places (`Places`), a chain of functions too many bodies (`Bodies`), or the
+/// axioms together or an implementation, with bodies in the place of applications, too many expression nodes (`Expanded`).
+/// `Memory` where memory ran out. Positions are lines and byte columns from 1.
 pub fn read_text<'a>(alloc: Global, bytes: &'a [u8], guess: bool) -> Result<Written, ReadError<'a>>
     ensures program { IfOk result (λ w. IsProgramFrom guess bytes.now (decls_of w.tree.decls.items) (program_of w.typed.program)) }
     ensures refused { IfErr result (λ e. IsRefused guess bytes.now e) }

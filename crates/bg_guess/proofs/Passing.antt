@@ -12,7 +12,7 @@ use Rattle.bg_ast.specs.Meaning.{ex_of, clause_of, guard_of, proc_of, impl_of, n
 use Rattle.bg_sense.specs.Resolved.{clauses_in, specified, in_bodies, clauses_of, HasCandidate, IsResolved}
 use Rattle.bg_sense.proofs.Members.{In, contained}
 use Rattle.bg_sense.proofs.Bools.{and_left, and_right, both}
-use Rattle.bg_fits.specs.Scalars.{is_declared, is_empty, clause_passes, guard_passes, st_passes, decls_pass, proc_passes, impl_passes, is_scalar_type, is_scalar, is_over_scalars}
+use Rattle.bg_fits.specs.Scalars.{is_declared, is_empty, fun_passes, clause_passes, guard_passes, st_passes, decls_pass, proc_passes, impl_passes, is_scalar_type, is_scalar, is_over_scalars}
 use Rattle.bg_guess.specs.declared.claim.Claim.{Claim}
 use Rattle.bg_guess.specs.declared.claim.Claim.TheVariants.{NotNegative, AtMost, Unchanged}
 use Rattle.bg_guess.specs.Claims.{Subjects, claims, says}
@@ -118,6 +118,9 @@ mutual
 
 abbrev decls_in : List s.Decl → Bool
 decls_in = decls_pass (is_scalar_type true) (is_scalar true)
+
+abbrev funs_in : List s.Fun → Bool
+funs_in = list_all (fun_passes (is_scalar_type true))
 
 abbrev proc_in : ℕ → s.Proc → Bool
 proc_in n = proc_passes n (is_scalar_type true) (is_scalar true)
@@ -228,14 +231,14 @@ over_scalars p c h =
     let impls = list_all (impl_in n) old.implementations in
     let procs' = list_all (proc_in m) new.procedures in
     let impls' = list_all (impl_in m) new.implementations in
-    let one = and_right (decls_in old.globals) (is_empty old.constants && (is_empty old.functions && (is_empty old.axioms && (procs && impls)))) h in
-    let two = and_right (is_empty old.constants) (is_empty old.functions && (is_empty old.axioms && (procs && impls))) one in
-    let three = and_right (is_empty old.functions) (is_empty old.axioms && (procs && impls)) two in
+    let one = and_right (decls_in old.globals) (is_empty old.constants && (funs_in old.functions && (is_empty old.axioms && (procs && impls)))) h in
+    let two = and_right (is_empty old.constants) (funs_in old.functions && (is_empty old.axioms && (procs && impls))) one in
+    let three = and_right (funs_in old.functions) (is_empty old.axioms && (procs && impls)) two in
     let four = and_right (is_empty old.axioms) (procs && impls) three in
-    both (decls_in old.globals) (is_empty old.constants && (is_empty old.functions && (is_empty old.axioms && (procs' && impls'))))
-    (and_left (decls_in old.globals) (is_empty old.constants && (is_empty old.functions && (is_empty old.axioms && (procs && impls)))) h)
-    (both (is_empty old.constants) (is_empty old.functions && (is_empty old.axioms && (procs' && impls'))) (and_left (is_empty old.constants) (is_empty old.functions && (is_empty old.axioms && (procs && impls))) one)
-    (both (is_empty old.functions) (is_empty old.axioms && (procs' && impls')) (and_left (is_empty old.functions) (is_empty old.axioms && (procs && impls)) two)
+    both (decls_in old.globals) (is_empty old.constants && (funs_in old.functions && (is_empty old.axioms && (procs' && impls'))))
+    (and_left (decls_in old.globals) (is_empty old.constants && (funs_in old.functions && (is_empty old.axioms && (procs && impls)))) h)
+    (both (is_empty old.constants) (funs_in old.functions && (is_empty old.axioms && (procs' && impls'))) (and_left (is_empty old.constants) (funs_in old.functions && (is_empty old.axioms && (procs && impls))) one)
+    (both (funs_in old.functions) (is_empty old.axioms && (procs' && impls')) (and_left (funs_in old.functions) (is_empty old.axioms && (procs && impls)) two)
     (both (is_empty old.axioms) (procs' && impls') (and_left (is_empty old.axioms) (procs && impls) three)
     (both procs' impls'
     (procs_pass n m named v loops above (length p.candidates) 0 qs (and_left procs impls four) (all_left (Declared m) (specified new.procedures) (in_bodies clauses_in new.implementations) d))

@@ -1,5 +1,6 @@
 -- What a verdict on a task tells.
-use Rattle.std.proofs.Common.{◌≡◌, ℕ, Bool, true, ◌&&◌, length, Some, sym, ap, ◌∙◌, subst}
+use Rattle.std.proofs.Common.{◌≡◌, ℕ, Bool, true, ◌&&◌, length, Some, sym, ap, ◌∙◌, subst, Vec}
+use Rattle.std.specs.declared.alloc.Global.{Global}
 use Rattle.std.specs.Prelude.{slice_get, nat_lt}
 use Rattle.std.proofs.lemmas.Bool.{lt-ltb}
 use Rattle.bg_ast.specs.Syntax.{Prog}
@@ -17,14 +18,17 @@ use Rattle.bg_check.specs.declared.verdict.Verdict.{Verdict}
 use Rattle.bg_check.specs.declared.verdict.Verdict.TheVariants.{Proved}
 use Rattle.bg_check.specs.Verdicts.{IsRight}
 use Rattle.bg_task.specs.Certified.{HasCertificate}
+use Rattle.bg_term_table.specs.declared.instance.Instance.{Instance}
+use Rattle.bg_term_table.specs.Instances.{instances_of}
+use Rattle.bg_houdini.specs.declared.proof.Proof.{Proof}
 use Rattle.bg_houdini.specs.Tasks.{tasks_of}
 use Rattle.bg_houdini.specs.Checks.{AreUsed, TaskPasses}
 
 -- a certificate under a set is one under the members that it uses
-pub passes_by : (p : Prog) (k : ℕ) (t : Place) (set used : Numbers) (cert : Cert) → slice_get (tasks_of p) k ≡ Some t → HasCertificate p (has set) t cert → AreUsed (length set) cert used → TaskPasses p k (has used) cert × IsSubset used set × (length used ≡ length set)
-passes_by p k t set used cert there h exact =
-    let names = (cert_of cert).nodes in
-    let inside : (c : ℕ) → uses names c ≡ true → has set c ≡ true = λ c u. certificate_lies_in h.formula (has set) no_instance (cert_of cert) h.accepted c u in
+pub passes_by : (p : Prog) (k : ℕ) (t : Place) (set used : Numbers) (proof : Proof) → slice_get (tasks_of p) k ≡ Some t → HasCertificate p (has set) t (instances_of proof.instances.items) proof.cert → AreUsed (length set) proof.cert used → TaskPasses p k (has used) proof × IsSubset used set × (length used ≡ length set)
+passes_by p k t set used proof there h exact =
+    let names = (cert_of proof.cert).nodes in
+    let inside : (c : ℕ) → uses names c ≡ true → has set c ≡ true = λ c u. certificate_lies_in h.formula (has set) no_instance (cert_of proof.cert) h.accepted c u in
     let marked : (c : ℕ) → uses names c ≡ true → has used c ≡ true = λ c u.
     exact.exact c ∙ (ap (λ (b : Bool). b && uses names c) (lt-ltb c (length set) (has_below set c (inside c u))) ∙ u) in (
       record {
@@ -33,16 +37,18 @@ passes_by p k t set used cert there h exact =
         so = record {
           formula = h.formula;
           is = h.is;
-          accepted = certificate_above h.formula (has set) (has used) no_instance (cert_of cert) h.accepted marked;
+          there = h.there;
+          accepted = certificate_above h.formula (has set) (has used) no_instance (cert_of proof.cert) h.accepted marked;
         };
       },
       λ c here. inside c (and_right (nat_lt c (length set)) (uses names c) (sym (exact.exact c) ∙ here)),
       exact.count,
     )
 
-pub passes_of : (budget : Budget) (p : Prog) (k : ℕ) (t : Place) (set : Numbers) (n : ℕ) (v : Verdict) (cert : Cert) (made : Kept Cert) → slice_get (tasks_of p) k ≡ Some t → length set ≡ n → v ≡ Proved cert → IsRight budget p (has set) t v → made.proof ≡ cert → AreUsed n cert made.used
+pub passes_of : (budget : Budget) (p : Prog) (k : ℕ) (t : Place) (set : Numbers) (n : ℕ) (v : Verdict) (instances : Vec Instance Global) (cert : Cert) (proof : Proof) (made : Kept Proof) → slice_get (tasks_of p) k ≡ Some t → length set ≡ n → v ≡ Proved instances cert → proof ≡ record { instances = instances; cert = cert } → IsRight budget p (has set) t v → made.proof ≡ proof → AreUsed n proof.cert made.used
     → TaskPasses p k (has made.used) made.proof × IsSubset made.used set × (length made.used ≡ length set)
-passes_of budget p k t set n v cert made there long is right same exact =
-    let h : HasCertificate p (has set) t cert = subst (IsRight budget p (has set) t) is right in
-    subst (λ (c : Cert). TaskPasses p k (has made.used) c × IsSubset made.used set × (length made.used ≡ length set)) (sym same)
-    (passes_by p k t set made.used cert there h (subst (λ (m : ℕ). AreUsed m cert made.used) (sym long) exact))
+passes_of budget p k t set n v instances cert proof made there long is one right same exact =
+    let h : HasCertificate p (has set) t (instances_of instances.items) cert = subst (IsRight budget p (has set) t) is right in
+    let g : HasCertificate p (has set) t (instances_of proof.instances.items) proof.cert = subst (λ (x : Proof). HasCertificate p (has set) t (instances_of x.instances.items) x.cert) (sym one) h in
+    subst (λ (x : Proof). TaskPasses p k (has made.used) x × IsSubset made.used set × (length made.used ≡ length set)) (sym same)
+    (passes_by p k t set made.used proof there g (subst (λ (m : ℕ). AreUsed m proof.cert made.used) (sym long) exact))

@@ -6,6 +6,7 @@ pub mod Answering
 pub mod Once
 pub mod Means
 pub mod Telling
+pub mod Blank
 pub mod Whole
 pub mod Listed
 pub mod Pieces

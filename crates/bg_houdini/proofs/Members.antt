@@ -15,9 +15,12 @@ use Rattle.bg_cert.specs.Certs.{cert_of, uses}
 use Rattle.bg_cert.specs.Walks.{no_instance}
 use Rattle.bg_cert.proofs.Uses.{certificate_lies_in}
 use Rattle.bg_tree.specs.declared.outcome.Budget.{Budget}
-use Rattle.bg_faithful.specs.Interps.{no_interp}
+use Rattle.bg_terms.specs.Instances.{Instance}
+use Rattle.bg_term_table.specs.Instances.{instances_of}
+use Rattle.bg_model.specs.Interps.{interp_of}
 use Rattle.bg_scalar.specs.Choices.{choice_of, state_of}
 use Rattle.bg_task.specs.Certified.{HasCertificate}
+use Rattle.bg_houdini.specs.declared.proof.Proof.{Proof}
 use Rattle.bg_houdini.specs.declared.reason.Reason.{Reason}
 use Rattle.bg_houdini.specs.declared.reason.Reason.TheVariants.{Refuted, Unknown}
 use Rattle.bg_houdini.specs.Tasks.{tasks_of, candidate_of}
@@ -29,7 +32,7 @@ use Rattle.bg_houdini.proofs.Tasks.{get_there, task_place, task_candidate}
 -- no induction run fails at a place under a set that has what a certificate of its clauses uses
 abbrev pub CertificatesHold : Prog → Type 0
 CertificatesHold p =
-    (set other : ℕ → Bool) (t : Place) (cert : Cert) → HasCertificate p set t cert → ((c : ℕ) → uses (cert_of cert).nodes c ≡ true → other c ≡ true) →
+    (set other : ℕ → Bool) (t : Place) (instances : List Instance) (cert : Cert) → HasCertificate p set t instances cert → ((c : ℕ) → uses (cert_of cert).nodes c ≡ true → other c ≡ true) →
     (i : Interp) (s : State) (choices : List Choice) → Fails p other t i s choices → ⊥
 
 pub task_below : (p : Prog) → IsResolved p → (k : ℕ) → k < length (tasks_of p) → candidate_of p k < p.candidates
@@ -55,11 +58,11 @@ task_shrinks p h k set sub within here f =
 pub same_task : (p : Prog) (k : ℕ) (t u : Place) → slice_get (tasks_of p) k ≡ Some t → slice_get (tasks_of p) k ≡ Some u → t ≡ u
 same_task p k t u e h = let s : Some t ≡ Some u = sym e ∙ h in cc
 
-pub task_passing : (p : Prog) → CertificatesHold p → (k : ℕ) (used set : Candidates) (cert : Cert) → TaskPasses p k used cert → Subset used set → TaskFails p k set → ⊥
-task_passing p hold k used set cert h within f =
+pub task_passing : (p : Prog) → CertificatesHold p → (k : ℕ) (used set : Candidates) (proof : Proof) → TaskPasses p k used proof → Subset used set → TaskFails p k set → ⊥
+task_passing p hold k used set proof h within f =
     let same : f.task ≡ h.task = same_task p k f.task h.task f.is_there h.is_there in
     let run = subst (FailsAt p set) same f.so in
-    hold used set h.task cert h.so (λ c u. within c (certificate_lies_in h.so.formula used no_instance (cert_of cert) h.so.accepted c u)) run.interp run.state run.choices run.run
+    hold used set h.task (instances_of proof.instances.items) proof.cert h.so (λ c u. within c (certificate_lies_in h.so.formula used no_instance (cert_of proof.cert) h.so.accepted c u)) run.interp run.state run.choices run.run
 
 pub task_failing : (budget : Budget) (p : Prog) (k : ℕ) (set : Candidates) (reason : Reason) → TaskFinds budget p k set false reason → TaskFails p k set
 task_failing budget p k set (Refuted cex) h =
@@ -67,13 +70,13 @@ task_failing budget p k set (Refuted cex) h =
       task = h.task;
       is_there = h.is_there;
       so = record {
-        interp = no_interp;
+        interp = interp_of cex;
         state = state_of cex.globals.items cex.frame.items;
         choices = map choice_of cex.choices.items;
         run = h.so.0;
       };
     }
-task_failing budget p k set (Unknown cause) h = absurd h.so
+task_failing budget p k set (Unknown rounds cause) h = absurd h.so
 
 pub owed : (budget : Budget) (p : Prog) → IsResolved p → CertificatesHold p → Owes budget p
 owed budget p resolved hold = record {

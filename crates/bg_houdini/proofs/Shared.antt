@@ -38,6 +38,7 @@ use Rattle.std.specs.contracts.vec.Vec as vec_row
 use Rattle.std.specs.contracts.impls.GlobalAllocator.TheImpl.{ghosts}
 use Rattle.bg_places.proofs.place.Group.TheSendSync as group
 use Rattle.bg_places.proofs.place.Place.TheSendSync as place
+use Rattle.bg_places.proofs.place.Spot.TheSendSync as spot
 use Rattle.bg_linear.proofs.scalar.Sort.TheSendSync as sort
 use Rattle.bg_tree.proofs.outcome.Budget.TheSendSync as budget
 use Rattle.bg_forms.proofs.form.Form.TheLaws.TheKnot as knot_form
@@ -46,6 +47,11 @@ use Rattle.bg_blocks.specs.contracts.block.Cmd as cmd
 use Rattle.bg_blocks.specs.contracts.block.Exit as exit
 use Rattle.bg_blocks.specs.contracts.block.Block as block
 use Rattle.bg_atoms.specs.contracts.product.Atoms as atoms
+use Rattle.bg_term_table.proofs.table.Head.TheSendSync as head
+use Rattle.bg_term_table.specs.contracts.table.Term as term
+use Rattle.bg_incarnate.specs.contracts.blocks.PassiveCmd as passive_cmd
+use Rattle.bg_incarnate.specs.contracts.blocks.Edge as edge
+use Rattle.bg_incarnate.specs.contracts.blocks.PassiveBlock as passive_block
 use Rattle.bg_task.specs.contracts.prepared.Prepared as prepared
 use Rattle.bg_houdini.specs.contracts.judging.Judging as judging
 
@@ -124,8 +130,20 @@ block_sync a = search (cmd_sync, exit_field, parts) depth 60 fits 20000
 atoms_field : IsSync (atoms.the_field).row
 atoms_field = search (knot_form.crosses, knot_expr.crosses, parts) depth 60 fits 20000
 
+term_sync : IsSync term.the_row
+term_sync = search (head.the_field_sync, expr_sync, parts) depth 60 fits 20000
+
+passive_cmd_sync : IsSync passive_cmd.the_row
+passive_cmd_sync = search (spot.the_field_sync, expr_field, parts) depth 60 fits 20000
+
+edge_sync : IsSync edge.the_row
+edge_sync = search (passive_cmd_sync, parts) depth 60 fits 20000
+
+passive_block_sync : IsSync passive_block.the_row
+passive_block_sync = search (passive_cmd_sync, edge_sync, parts) depth 60 fits 20000
+
 pub prepared_sync : (a : NamedLft) → IsSync (prepared.the_row a)
-prepared_sync a = search (block_sync, sort.the_sync, atoms_field, parts) depth 60 fits 20000
+prepared_sync a = search (block_sync, term_sync, passive_block_sync, sort.the_sync, atoms_field, parts) depth 60 fits 20000
 
 pub judging_sync : (a : NamedLft) → IsSync (judging.the_row a)
 judging_sync a = search (resolved_sync, prepared_sync, place.the_sync, budget.the_field_sync, parts) depth 60 fits 20000
@@ -149,8 +167,26 @@ block_send a = search (cmd_send, exit_send, leaving) depth 60 fits 20000
 atoms_send : IsSend (atoms.the_field).row
 atoms_send = search (knot_form.crosses, knot_expr.crosses, leaving) depth 60 fits 20000
 
+expr_send : IsSend expr.the_row
+expr_send = search (knot_expr.crosses, leaving) depth 60 fits 20000
+
+expr_field_send : IsSend (expr.the_field).row
+expr_field_send = search (knot_expr.crosses, leaving) depth 60 fits 20000
+
+term_send : IsSend term.the_row
+term_send = search (head.the_field_send, expr_send, leaving) depth 60 fits 20000
+
+passive_cmd_send : IsSend passive_cmd.the_row
+passive_cmd_send = search (spot.the_field_send, expr_field_send, leaving) depth 60 fits 20000
+
+edge_send : IsSend edge.the_row
+edge_send = search (passive_cmd_send, leaving) depth 60 fits 20000
+
+passive_block_send : IsSend passive_block.the_row
+passive_block_send = search (passive_cmd_send, edge_send, leaving) depth 60 fits 20000
+
 pub prepared_send : (a : NamedLft) → IsSend (prepared.the_row a)
-prepared_send a = search (block_send, sort.the_send, atoms_send, leaving) depth 60 fits 20000
+prepared_send a = search (block_send, term_send, passive_block_send, sort.the_send, atoms_send, leaving) depth 60 fits 20000
 
 -- what the closure captures that prepares a piece
 pub preparing_sync : (name : List ℕ) (a b c : NamedLft) → IsSync (TupleAt name ((shr_ref_field a heap.the_row tt).row ∷ (shr_ref_field b resolved.the_row tt).row ∷ (shr_slice_field c (vec_row.the_row variable_row.the_row heap.the_row ghosts) tt).row ∷ []))

@@ -45,21 +45,21 @@ each_past : {A : Type 0} (n : ℕ) (f : ℕ → A) (k : ℕ) → n ≤ k → sli
 each_past n f k l = slice_get_past (each_below n f) k (let e = length_each n f in omega (arith, e, l))
 
 -- a dropped candidate isn't told to be kept, and none is unchecked
-dropped_for : (words : Cause → t.Why) (d : Reason) → t.is_kept_by (fate_for words d) ≡ false
+dropped_for : (words : ℕ → Cause → t.Why) (d : Reason) → t.is_kept_by (fate_for words d) ≡ false
 dropped_for words (Refuted cex) = refl
-dropped_for words (Unknown cause) = refl
+dropped_for words (Unknown rounds cause) = refl
 
-dropped_by : (words : Cause → t.Why) (o : Option (Removal Reason)) → t.is_kept_by (fate_by words o) ≡ false
+dropped_by : (words : ℕ → Cause → t.Why) (o : Option (Removal Reason)) → t.is_kept_by (fate_by words o) ≡ false
 dropped_by words None = refl
 dropped_by words (Some d) = dropped_for words d.told
 
-kept_by : (words : Cause → t.Why) (here checked : Bool) (o : Option (Removal Reason)) → t.is_kept_by (if here then (if checked then t.Retained else t.Unchecked) else fate_by words o) ≡ here
+kept_by : (words : ℕ → Cause → t.Why) (here checked : Bool) (o : Option (Removal Reason)) → t.is_kept_by (if here then (if checked then t.Retained else t.Unchecked) else fate_by words o) ≡ here
 kept_by words true true o = refl
 kept_by words true false o = refl
 kept_by words false checked o = dropped_by words o
 
 -- the retained candidates that are told
-told_retained : (words : Cause → t.Why) (p : Prog) (o : Outcome) → length o.inferred.retained ≡ p.candidates → t.retained (outcome_of words p o) ≡ has o.inferred.retained
+told_retained : (words : ℕ → Cause → t.Why) (p : Prog) (o : Outcome) → length o.inferred.retained ≡ p.candidates → t.retained (outcome_of words p o) ≡ has o.inferred.retained
 told_retained words p o long = fun_ext (λ b. by b (ltb b p.candidates) refl)
   where
     by : (b : ℕ) (x : Bool) → ltb b p.candidates ≡ x → t.retained (outcome_of words p o) b ≡ has o.inferred.retained b
@@ -78,15 +78,15 @@ seen b (x ∷ us) u (inl s) e =
 seen b (x ∷ us) u (inr i) e =
     or_right (is_candidate b x.candidate) (list_any (λ y. is_candidate b y.candidate) us) (seen b us u i e)
 
-unchecked_for : (words : Cause → t.Why) (d : Reason) → fate_for words d ≡ t.Unchecked → ⊥
+unchecked_for : (words : ℕ → Cause → t.Why) (d : Reason) → fate_for words d ≡ t.Unchecked → ⊥
 unchecked_for words (Refuted cex) e = let bad : ⊥ = cc in bad
-unchecked_for words (Unknown cause) e = let bad : ⊥ = cc in bad
+unchecked_for words (Unknown rounds cause) e = let bad : ⊥ = cc in bad
 
-unchecked_by : (words : Cause → t.Why) (o : Option (Removal Reason)) → fate_by words o ≡ t.Unchecked → ⊥
+unchecked_by : (words : ℕ → Cause → t.Why) (o : Option (Removal Reason)) → fate_by words o ≡ t.Unchecked → ⊥
 unchecked_by words None e = let bad : ⊥ = cc in bad
 unchecked_by words (Some d) e = unchecked_for words d.told e
 
-unchecked_is : (words : Cause → t.Why) (here checked : Bool) (o : Option (Removal Reason)) → (if here then (if checked then t.Retained else t.Unchecked) else fate_by words o) ≡ t.Unchecked → checked ≡ false
+unchecked_is : (words : ℕ → Cause → t.Why) (here checked : Bool) (o : Option (Removal Reason)) → (if here then (if checked then t.Retained else t.Unchecked) else fate_by words o) ≡ t.Unchecked → checked ≡ false
 unchecked_is words true true o e = absurd (let bad : ⊥ = cc in bad)
 unchecked_is words true false o e = refl
 unchecked_is words false checked o e = absurd (unchecked_by words o e)
@@ -94,7 +94,7 @@ unchecked_is words false checked o e = absurd (unchecked_by words o e)
 same_some : {A : Type 0} (x y : A) → Some x ≡ Some y → x ≡ y
 same_some x y e = cc
 
-told_unchecked : (words : Cause → t.Why) (p : Prog) (o : Outcome) → AreUnchecked p (outcome_of words p o)
+told_unchecked : (words : ℕ → Cause → t.Why) (p : Prog) (o : Outcome) → AreUnchecked p (outcome_of words p o)
 told_unchecked words p o b u is there e = by (ltb b p.candidates) refl
   where
     sees : is_checked p b ≡ true
@@ -114,7 +114,7 @@ none_unknown [] e = All-nil (λ (d : Removal Reason). d.unknown ≡ false)
 none_unknown (d ∷ ds) e =
     All-cons (λ (x : Removal Reason). x.unknown ≡ false) d ds (not_true d.unknown (and_left (not d.unknown) (are_known ds) e)) (none_unknown ds (and_right (not d.unknown) (are_known ds) e))
 
-module _ (budget : Budget) (p : r.Program) (o : Outcome) (hold : CertificatesHold (meaning_of p)) (resolved : IsResolved (meaning_of p)) (truth : IsTrueOutcome budget p o) (words : Cause → t.Why) where
+module _ (budget : Budget) (p : r.Program) (o : Outcome) (hold : CertificatesHold (meaning_of p)) (resolved : IsResolved (meaning_of p)) (truth : IsTrueOutcome budget p o) (words : ℕ → Cause → t.Why) where
   retained_is : (b : Bool) → are_known o.inferred.removals.items ≡ b → IsRetained (meaning_of p) (has o.inferred.retained) b
   retained_is true e = places_greatest budget p o hold truth resolved (none_unknown o.inferred.removals.items e)
   retained_is false e = (is_set budget p o hold truth, places_inductive budget p o hold truth)

@@ -6,7 +6,6 @@ use Rattle.bg_ast.specs.Meaning.{meaning_of}
 use Rattle.bg_ast.specs.Views.{program_of}
 use Rattle.bg_sense.specs.Typed.{IsTyped}
 use Rattle.bg_sense.specs.Resolved.{IsResolved}
-use Rattle.bg_cert.specs.declared.cert.Cert.{Cert}
 use Rattle.bg_core.specs.Inductive.{Candidates, Subset}
 use Rattle.bg_tree.specs.declared.outcome.Budget.{Budget}
 use Rattle.bg_fits.specs.Scalars.{is_over_scalars}
@@ -15,6 +14,7 @@ use Rattle.bg_places.specs.Views.{placed_in}
 use Rattle.bg_task.specs.declared.prepared.Prepared.{Prepared}
 use Rattle.bg_task.specs.Prepared.{IsPrepared}
 use Rattle.bg_houdini.specs.declared.judging.Judging.{Judging}
+use Rattle.bg_houdini.specs.declared.proof.Proof.{Proof}
 use Rattle.bg_houdini.specs.declared.reason.Reason.{Reason}
 use Rattle.bg_houdini.specs.Tasks.{tasks_of, candidate_of}
 use Rattle.bg_houdini.specs.Checks.{TaskFails, TaskPasses, TaskFinds}
@@ -46,7 +46,7 @@ meaning_in j = meaning_of (program_in j)
 pub record Owes (budget : Budget) (p : Prog) : Type 0 where
   pub below : (k : ℕ) → k < length (tasks_of p) → candidate_of p k < p.candidates
   pub shrinks : (k : ℕ) (set sub : Candidates) → Subset sub set → sub (candidate_of p k) ≡ true → TaskFails p k set → TaskFails p k sub
-  pub passing : (k : ℕ) (used set : Candidates) (cert : Cert) → TaskPasses p k used cert → Subset used set → TaskFails p k set → ⊥
+  pub passing : (k : ℕ) (used set : Candidates) (proof : Proof) → TaskPasses p k used proof → Subset used set → TaskFails p k set → ⊥
   pub failing : (k : ℕ) (set : Candidates) (reason : Reason) → TaskFinds budget p k set false reason → TaskFails p k set
 
 -- a typed program over truth values and whole numbers with numbers of its own, each implementation prepared, the tasks in order, and how

@@ -9,7 +9,9 @@ use Rattle.bg_cert.specs.Certs.{cert_of, uses}
 use Rattle.bg_tree.specs.declared.outcome.Budget.{Budget}
 use Rattle.bg_check.specs.declared.verdict.Verdict.TheVariants as verdict
 use Rattle.bg_check.specs.Verdicts.{IsRight}
+use Rattle.bg_term_table.specs.Instances.{instances_of}
 use Rattle.bg_task.specs.Certified.{HasCertificate}
+use Rattle.bg_houdini.specs.declared.proof.Proof.{Proof}
 use Rattle.bg_houdini.specs.declared.reason.Reason.{Reason}
 use Rattle.bg_houdini.specs.declared.reason.Reason.TheVariants.{Refuted, Unknown}
 use Rattle.bg_houdini.specs.Tasks.{tasks_of}
@@ -36,16 +38,16 @@ pub record IsSo (p : Prog) (k : ℕ) (says : Place → Type 0) : Type 0 where
 abbrev pub TaskFails : Prog → ℕ → (ℕ → Bool) → Type 0
 TaskFails p k set = IsSo p k (FailsAt p set)
 
--- the task's clauses have this certificate under these candidates
-abbrev pub TaskPasses : Prog → ℕ → (ℕ → Bool) → Cert → Type 0
-TaskPasses p k used cert = IsSo p k (λ t. HasCertificate p used t cert)
+-- the task's clauses behind these instances have this certificate under these candidates
+abbrev pub TaskPasses : Prog → ℕ → (ℕ → Bool) → Proof → Type 0
+TaskPasses p k used proof = IsSo p k (λ t. HasCertificate p used t (instances_of proof.instances.items) proof.cert)
 
 -- why the place isn't proved under the set: a run that fails there, or, where the flag says so, a cause to leave it unknown
 abbrev pub IsReason : Budget → Prog → (ℕ → Bool) → Place → Bool → Reason → Type 0
 IsReason budget p set t false (Refuted cex) = IsRight budget p set t (verdict.Refuted cex)
-IsReason budget p set t true (Unknown cause) = IsRight budget p set t (verdict.Unknown cause)
+IsReason budget p set t true (Unknown rounds cause) = IsRight budget p set t (verdict.Unknown rounds cause)
 IsReason budget p set t true (Refuted cex) = ⊥
-IsReason budget p set t false (Unknown cause) = ⊥
+IsReason budget p set t false (Unknown rounds cause) = ⊥
 
 -- why the task isn't proved under the set
 abbrev pub TaskFinds : Budget → Prog → ℕ → (ℕ → Bool) → Bool → Reason → Type 0

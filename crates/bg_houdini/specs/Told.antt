@@ -1,5 +1,5 @@
 -- An outcome as what a report tells.
-use Rattle.std.specs.Prelude.{ℕ, zero, suc, Bool, false, not, ◌==◌, nat_lt, if◌then◌else◌, List, [], ◌∷◌, Option, Some, None, map}
+use Rattle.std.specs.Prelude.{ℕ, zero, suc, Bool, false, not, ◌==◌, nat_lt, if◌then◌else◌, length, List, [], ◌∷◌, Option, Some, None, map}
 use Rattle.std.specs.List.{list_any, list_all}
 use Rattle.bg_ast.specs.Syntax.{Prog}
 use Rattle.bg_sense.specs.Places.{places}
@@ -31,16 +31,16 @@ abbrev pub first_of : ℕ → List (Removal Reason) → Option (Removal Reason)
 first_of b [] = None
 first_of b (d ∷ ds) = if d.cand.0 == b then Some (earlier d (first_of b ds)) else first_of b ds
 
-abbrev pub fate_for : (Cause → t.Why) → Reason → t.Fate
+abbrev pub fate_for : (ℕ → Cause → t.Why) → Reason → t.Fate
 fate_for words (Refuted cex) = t.Dropped
-fate_for words (Unknown cause) = t.DroppedFor (words cause)
+fate_for words (Unknown rounds cause) = t.DroppedFor (words (length rounds.items) cause)
 
-abbrev pub fate_by : (Cause → t.Why) → Option (Removal Reason) → t.Fate
+abbrev pub fate_by : (ℕ → Cause → t.Why) → Option (Removal Reason) → t.Fate
 fate_by words None = t.Dropped
 fate_by words (Some d) = fate_for words d.told
 
 -- what became of the candidate: retained, which is unchecked where no place has it, or dropped, for the reason of its first removal
-abbrev pub fate : (Cause → t.Why) → Prog → Outcome → ℕ → t.Fate
+abbrev pub fate : (ℕ → Cause → t.Why) → Prog → Outcome → ℕ → t.Fate
 fate words p o b =
     if has o.inferred.retained b then (if is_checked p b then t.Retained else t.Unchecked)
     else fate_by words (first_of b o.inferred.removals.items)
@@ -54,7 +54,7 @@ each_below (suc n) f = f 0 ∷ each_below n (λ k. f (suc k))
 abbrev pub are_known : List (Removal Reason) → Bool
 are_known ds = list_all (λ d. not d.unknown) ds
 
-abbrev pub outcome_of : (Cause → t.Why) → Prog → Outcome → t.Outcome
+abbrev pub outcome_of : (ℕ → Cause → t.Why) → Prog → Outcome → t.Outcome
 outcome_of words p o =
     record {
       axioms = t.Consistent;

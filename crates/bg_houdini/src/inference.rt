@@ -13,15 +13,15 @@ use crate::ordinary::judge_all;
 use bg_ast::resolved::Resolved;
 use bg_blocks::callees_of;
 use bg_claims::Gate;
-use bg_faithful::laws::no_interpretation_is_needed_for_scalars;
+use bg_faithful::laws::tables_meet_programs_over_scalars;
 use bg_tree::Budget;
 use std::alloc::{AllocError, Global};
 use std::thread::Threads;
 
-/// The candidates of a typed program over truth values and whole numbers that hold together, inferred with `workers` workers in threads
-/// (C. Flanagan and K. R. M. Leino, Houdini, an annotation assistant for ESC/Java, FME 2001): checks of places with a candidate drop
-/// what isn't proved, until what is left proves itself. Then each ordinary place is checked under what is retained, in at most as many
-/// pieces as workers. In a search at most the budget's nodes count, and it keeps at most its rows.
+/// The candidates of a typed program over truth values, whole numbers and functions on them without a body that hold together, inferred
+/// with `workers` workers in threads (C. Flanagan and K. R. M. Leino, Houdini, an annotation assistant for ESC/Java, FME 2001): checks of
+/// places with a candidate drop what isn't proved, until what is left proves itself. Then each ordinary place is checked under what is
+/// retained, in at most as many pieces as workers. In a search at most the budget's nodes count, and it keeps at most its rows.
 ///
 /// Only want of memory is an error; 2^32 places with a candidate count as such, and so do 2^32 incarnations, atoms or branches of an
 /// implementation.
@@ -39,7 +39,7 @@ pub fn infer<R: Threads + Sync, G: Gate>(
     requires workers { (0 < workers) × (workers ≤ 16) }
     ensures { IfOk result (IsTrueOutcome budget (program_of program.now)) }
 {
-    no_interpretation_is_needed_for_scalars();
+    tables_meet_programs_over_scalars();
     let callees = callees_of(alloc, program)?;
     let checker = checker_of(rt, alloc, program, &callees, budget, workers)?;
     let inferred = bg_rounds::infer(rt, alloc, &checker, gate, workers)?;

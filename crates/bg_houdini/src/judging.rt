@@ -7,12 +7,11 @@ ghost use Rattle.bg_houdini.specs.Tasks.{tasks_of, candidate_of};
 ghost use Rattle.bg_houdini.specs.Checks.{TaskFails, TaskPasses, TaskFinds};
 ghost use Rattle.bg_houdini.specs.Checkers.{IsJudging, meaning_in};
 
-use crate::Reason;
 use crate::answer::answer;
 use crate::desk::{Desk, lay, new_desk};
+use crate::{Proof, Reason};
 use bg_ast::resolved::Resolved;
 use bg_base::{CandId, TargetId};
-use bg_cert::Cert;
 use bg_check::{Verdict, check_place};
 use bg_places::Place;
 use bg_places::laws::placed_are_places;
@@ -59,7 +58,7 @@ fn verdict_on(
     check_place(alloc, question, judging.budget)
 }
 
-impl<'p> Checker<Cert, Reason, Desk> for Judging<'p> {
+impl<'p> Checker<Proof, Reason, Desk> for Judging<'p> {
     ghost stands = { IsJudging };
 
     ghost cands = { λ s. (meaning_in s).candidates };
@@ -99,7 +98,7 @@ impl<'p> Checker<Cert, Reason, Desk> for Judging<'p> {
         desk: &mut Desk,
         t: TargetId,
         set: &CandSet,
-    ) -> Result<Answer<Cert, Reason>, AllocError> {
+    ) -> Result<Answer<Proof, Reason>, AllocError> {
         let verdict = verdict_on(alloc, self, desk, t, set)?;
         answer(alloc, verdict, self.candidates)
     }

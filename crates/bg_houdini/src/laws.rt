@@ -7,26 +7,28 @@ ghost use Rattle.bg_sense.specs.Resolved.{IsResolved};
 ghost use Rattle.bg_ast.specs.Execution.{Place};
 ghost use Rattle.bg_sense.specs.Places.{places};
 ghost use Rattle.bg_sense.specs.Claims.{Inductive, Greatest};
-ghost use Rattle.bg_cert.specs.declared.cert.Cert.{Cert};
 ghost use Rattle.bg_fits.specs.Scalars.{is_over_scalars};
 ghost use Rattle.bg_words.specs.Sets.{has};
 ghost use Rattle.bg_tree.specs.declared.outcome.Budget.{Budget};
 ghost use Rattle.bg_sound.specs.Told.{Why};
 ghost use Rattle.bg_sound.specs.Sound.{IsSound};
 ghost use Rattle.bg_check.specs.declared.verdict.Cause.{Cause};
+ghost use Rattle.bg_term_table.specs.Instances.{instances_of};
 ghost use Rattle.bg_task.specs.Certified.{HasCertificate};
 ghost use Rattle.bg_rounds.specs.Outcomes.{NoneUnknown};
 ghost use Rattle.bg_houdini.specs.declared.outcome.Outcome.{Outcome};
+ghost use Rattle.bg_houdini.specs.declared.proof.Proof.{Proof};
 ghost use Rattle.bg_houdini.specs.Outcomes.{IsTrueOutcome};
 ghost use Rattle.bg_houdini.specs.Told.{outcome_of};
 
 use bg_check::laws::right_verdicts_are_true;
 use bg_task::laws::proved_places_do_not_fail;
 
-/// Each place of a retained candidate of a true outcome has a certificate that is accepted for its clauses under what is retained.
+/// Each place of a retained candidate of a true outcome has a certificate that is accepted for its clauses, behind instances, under what
+/// is retained.
 pub fn retained_places_have_certificates()
     ensures { (budget : Budget) (p : Program) (o : Outcome) (t : Place) (b : ℕ) → IsTrueOutcome budget p o →
-        Contains (places (meaning_of p)) t → t.candidate ≡ Some b → has o.inferred.retained b ≡ true → (cert : Cert) × HasCertificate (meaning_of p) (has o.inferred.retained) t cert }
+        Contains (places (meaning_of p)) t → t.candidate ≡ Some b → has o.inferred.retained b ≡ true → (proof : Proof) × HasCertificate (meaning_of p) (has o.inferred.retained) t (instances_of proof.instances.items) proof.cert }
 {}
 
 /// The retained set of a true outcome is inductive: no place of a candidate in it fails under it.
@@ -55,7 +57,7 @@ pub fn outcomes_agree()
 
 /// What a report tells of a true outcome is true, whatever words it has for causes.
 pub fn true_outcomes_are_sound()
-    ensures { (budget : Budget) (p : Program) (o : Outcome) (words : Cause → Why) → IsTyped (meaning_of p) → is_over_scalars true (meaning_of p) ≡ true → IsResolved (meaning_of p) →
+    ensures { (budget : Budget) (p : Program) (o : Outcome) (words : ℕ → Cause → Why) → IsTyped (meaning_of p) → is_over_scalars true (meaning_of p) ≡ true → IsResolved (meaning_of p) →
         IsTrueOutcome budget p o → IsSound p (outcome_of words (meaning_of p) o) }
 {
     proved_places_do_not_fail();

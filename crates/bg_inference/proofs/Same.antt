@@ -19,7 +19,7 @@ use Rattle.bg_expanded.specs.Chains.{most_bodies}
 use Rattle.bg_inference.specs.Outcomes.{judged_program}
 
 -- by the number of candidates and the places
-abbrev told_by : (Cause → t.Why) → Outcome → ℕ → List Place → t.Outcome
+abbrev told_by : (ℕ → Cause → t.Why) → Outcome → ℕ → List Place → t.Outcome
 told_by words u n ts =
     record {
       axioms = t.Consistent;
@@ -28,9 +28,9 @@ told_by words u n ts =
       implementations = map (told words) (judged u.verdicts.items);
     }
 
-pub same_opened : (words : Cause → t.Why) (u : Outcome) (p : Prog) → outcome_of words (o.opened_program most_bodies p) u ≡ outcome_of words p u
+pub same_opened : (words : ℕ → Cause → t.Why) (u : Outcome) (p : Prog) → outcome_of words (o.opened_program most_bodies p) u ≡ outcome_of words p u
 same_opened words u p = ap (told_by words u p.candidates) (places_alike most_bodies p)
 
-pub same_told : (words : Cause → t.Why) (u : Outcome) (p : r.Program) → outcome_of words (meaning_of (judged_program p)) u ≡ outcome_of words (meaning_of p) u
+pub same_told : (words : ℕ → Cause → t.Why) (u : Outcome) (p : r.Program) → outcome_of words (meaning_of (judged_program p)) u ≡ outcome_of words (meaning_of p) u
 same_told words u p =
     ap (λ (q : Prog). outcome_of words q u) (program_means most_bodies p) ∙ same_opened words u (meaning_of p)

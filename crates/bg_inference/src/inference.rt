@@ -1,16 +1,16 @@
 //! Inference of a program's candidates.
-ghost use Rattle.std.specs.Prelude.{◌≡◌, ◌<◌, ◌≤◌, ◌∷◌, [], ℕ, Bool, Some, IfOk};
+ghost use Rattle.std.specs.Prelude.{◌≡◌, ◌<◌, ◌≤◌, ◌∷◌, [], ℕ, Bool, Some, IfOk, map};
 ghost use Rattle.bg_ast.specs.Meaning.{meaning_of};
-ghost use Rattle.bg_ast.specs.Views.{program_of};
+ghost use Rattle.bg_ast.specs.Views.{fun_of, program_of};
 ghost use Rattle.bg_check.specs.Verdicts.{IsRight, judged};
 ghost use Rattle.bg_check.specs.declared.verdict.Judged as code;
 ghost use Rattle.bg_opened.specs.Axioms.{axiom_program, axiom_place};
 ghost use Rattle.bg_opened.specs.Openable.{IsOpenable};
 ghost use Rattle.bg_expanded.specs.Chains.{most_bodies};
-ghost use Rattle.bg_inference.specs.Outcomes.{IsTrueOutcome};
+ghost use Rattle.bg_inference.specs.Outcomes.{has_body, IsTrueOutcome};
 
 use crate::outcome::Outcome;
-use bg_ast::resolved::Resolved;
+use bg_ast::resolved::{Function, Resolved};
 use bg_check::{Judged, Verdict};
 use bg_claims::Gate;
 use bg_opened::laws::{
@@ -58,8 +58,19 @@ fn judge_axioms<R: Threads + Sync, G: Gate>(
     }
 }
 
+/// For each function whether it has a body.
+fn bodies_of(alloc: Global, functions: &[Function]) -> Result<Vec<bool>, AllocError>
+    ensures { IfOk result (λ made. made.items ≡ map has_body (map fun_of functions.now)) }
+{
+    let mut made = Vec::new(alloc);
+    for function in functions {
+        made.push(function.body.is_some())?;
+    }
+    Ok(made)
+}
+
 /// The candidates of a program that hold together, inferred with `workers` workers in threads, and the verdicts on its ordinary places
-/// under them. Constants, functions with a body and axioms are opened first: a constant is a variable that nothing changes, a body stands
+/// under them. Constants, bodies of functions and axioms are opened first: a constant is a variable that nothing changes, a body stands
 /// in the place of each application, 16 deep, and in front of each body it is assumed that unique constants differ, and the axioms
 /// (K. R. M. Leino, This is Boogie 2, 2008). Beside that a program of these assumptions alone is judged: whether some interpretation
 /// meets them.
@@ -81,11 +92,13 @@ pub fn infer<R: Threads + Sync, G: Gate>(
     written_programs_are_opened();
     let axioms = judge_axioms(rt, alloc, &program, budget, gate)?;
     let globals = program.globals.len();
+    let bodies = bodies_of(alloc, &program.functions)?;
     let opened = open_program(alloc, DEPTH, program)?;
     let judged = bg_houdini::infer(rt, alloc, &opened, budget, workers, gate)?;
     Ok(Outcome {
         opened,
         globals,
+        bodies,
         axioms,
         judged,
     })

@@ -19,7 +19,7 @@ use bg_task::laws::proved_places_do_not_fail;
 
 /// What a report tells of a true outcome is true, whatever words it has for causes.
 pub fn true_outcomes_are_sound()
-    ensures { (budget : Budget) (p : Program) (o : Outcome) (words : Cause → Why) → IsOpenable most_bodies (meaning_of p) →
+    ensures { (budget : Budget) (p : Program) (o : Outcome) (words : ℕ → Cause → Why) → IsOpenable most_bodies (meaning_of p) →
         IsTrueOutcome budget p o → IsSound p (outcome_of words (meaning_of p) o) }
 {
     axioms_have_a_program();

@@ -1,4 +1,4 @@
-//! Inference of a program's candidates, where the program may have constants, functions with a body, and axioms.
+//! Inference of a program's candidates, where the program may have constants, functions, and axioms.
 #![tactic(auto)]
 
 mod inference;

@@ -1,5 +1,5 @@
 -- Declarations: what their tokens allow.
-use Rattle.std.proofs.Common.{◌≡◌, Bool, true, false, List, [], ◌∷◌, ◌++◌, Option, Some, None, refl}
+use Rattle.std.proofs.Common.{Bool, true, false, List, [], ◌∷◌, ◌++◌, Option, Some, None, refl}
 use Rattle.bg_base.specs.declared.pos.Pos.{Pos}
 use Rattle.bg_text.specs.declared.token.Kind.TheVariants as kinds
 use Rattle.bg_text.specs.Trees as t
@@ -11,7 +11,6 @@ use Rattle.bg_text.specs.Spelling.{ex_marks}
 use Rattle.bg_text.specs.Declarations.{unique_marks, fun_arg_marks, fun_result_marks, fun_end_marks, in_parens, sig_marks, spec_marks, vars_marks, body_marks, tail_marks, decl_marks}
 use Rattle.bg_spaces.specs.Declarations.{result_groups}
 use Rattle.bg_resolve.specs.Program.{result_type}
-use Rattle.bg_front.specs.Bodiless.{has_body}
 use Rattle.bg_judged.proofs.Marks.{flat, braced, Judged, assoc, never, Reads, on_each, on_commas}
 use Rattle.bg_judged.proofs.Exprs.{shut_ex, on_ex}
 use Rattle.bg_judged.proofs.Groups.{TypeGood, GroupGood, on_ty, on_attrs, on_ids, on_group}
@@ -38,25 +37,15 @@ TailGood specs b = Each SpecGood specs × IfThere BodyGood b
 abbrev pub ArgGood : t.FunArg → Type 0
 ArgGood a = TypeGood a.ty
 
--- a declaration made of what may stand, of which each function has a body
+-- a declaration made of what may stand
 abbrev pub DeclGood : t.Decl → Type 0
 DeclGood (t.Types p attrs ds) = ⊥
 DeclGood (t.Constants c) = TypeGood c.group.ty
-DeclGood (t.Function f) =
-    Each ArgGood f.args × TypeGood (result_type f.result) × IfThere Says f.body × (has_body f ≡ true)
+DeclGood (t.Function f) = Each ArgGood f.args × TypeGood (result_type f.result) × IfThere Says f.body
 DeclGood (t.Axiom p attrs e) = Says e
 DeclGood (t.Globals v) = VarsGood v
 DeclGood (t.Procedure q) = SigGood q.sig × TailGood q.specs q.body
 DeclGood (t.Implementation q) = SigGood q.sig × BodyGood q.body
-
--- where it declares a function, this has a body
-abbrev pub IsBodied : t.Decl → Type 0
-IsBodied (t.Function f) = has_body f ≡ true
-IsBodied _ = Unit {0}
-
--- good where it has a body that it should have
-abbrev pub DeclRead : t.Decl → Type 0
-DeclRead d = IsBodied d → DeclGood d
 
 on_parens : Reads false in_parens (Each GroupGood)
 on_parens gs rest h =
@@ -167,7 +156,7 @@ on_end (Some e) rest h =
     let b = on_ex false e (last ++ rest) a in
     (λ s. b.0 s refl, b.1.1)
 
-on_function : (f : t.Fun) (rest : List Mark) → Judged (flat false) (decl_marks (t.Function f) ++ rest) → DeclRead (t.Function f) × Judged (flat false) rest
+on_function : (f : t.Fun) (rest : List Mark) → Judged (flat false) (decl_marks (t.Function f) ++ rest) → DeclGood (t.Function f) × Judged (flat false) rest
 on_function f rest h =
     let attrs = each attr_marks f.attrs in
     let args = commas fun_arg_marks f.args in
@@ -180,7 +169,7 @@ on_function f rest h =
     let d = on_commas false fun_arg_marks ArgGood on_arg f.args (closed ++ last) c.1.1 in
     let e = on_result f.result last d.1.1 in
     let g = on_end f.body rest e.1 in
-    (λ bodied. (d.0, e.0, g.0, bodied), g.1)
+    ((d.0, e.0, g.0), g.1)
 
 on_axiom : (p : Pos) (attrs : List t.Attr) (e : t.Ex) (rest : List Mark) → Judged (flat false) (decl_marks (t.Axiom p attrs e) ++ rest) → Says e × Judged (flat false) rest
 on_axiom p ys e rest h =
@@ -191,15 +180,15 @@ on_axiom p ys e rest h =
     let c = on_ex false e (last ++ rest) b in
     (λ s. c.0 s refl, c.1.1)
 
-pub on_decl : Reads false decl_marks DeclRead
+pub on_decl : Reads false decl_marks DeclGood
 on_decl (t.Types p attrs ds) rest h = never (h.0 refl)
-on_decl (t.Constants c) rest h = let a = on_constants c rest h in (λ bodied. a.0, a.1)
+on_decl (t.Constants c) rest h = on_constants c rest h
 on_decl (t.Function f) rest h = on_function f rest h
-on_decl (t.Axiom p attrs e) rest h = let a = on_axiom p attrs e rest h in (λ bodied. a.0, a.1)
-on_decl (t.Globals v) rest h = let a = on_vars v rest h in (λ bodied. a.0, a.1)
+on_decl (t.Axiom p attrs e) rest h = on_axiom p attrs e rest h
+on_decl (t.Globals v) rest h = on_vars v rest h
 on_decl (t.Procedure q) rest h =
     let a = on_head q.attrs q.name q.sig (tail_marks q.specs q.body) rest h.1 in
-    let b = on_tail q.specs q.body rest a.1 in (λ bodied. (a.0, b.0), b.1)
+    let b = on_tail q.specs q.body rest a.1 in ((a.0, b.0), b.1)
 on_decl (t.Implementation q) rest h =
     let a = on_head q.attrs q.name q.sig (body_marks q.body) rest h.1 in
-    let b = on_body q.body rest a.1 in (λ bodied. (a.0, b.0), b.1)
+    let b = on_body q.body rest a.1 in ((a.0, b.0), b.1)

@@ -13,7 +13,6 @@ use Rattle.bg_places.specs.Counts.{most_places, most_expanded, place_counts, fir
 use Rattle.bg_expanded.specs.Chains.{most_bodies, longest_chain}
 use Rattle.bg_expanded.specs.Counts.{opened_counts}
 use Rattle.bg_front.specs.Later.{AreJudged}
-use Rattle.bg_front.specs.Bodiless.{HaveBodies}
 use Rattle.bg_front.specs.Refusals.{Refusal, Places, Bodies, Expanded}
 use Rattle.bg_front.specs.Programs.{IsMeaningOf, IsProgramOf, size_limit, or_else, too_many, too_large, limit_of, with_guesses}
 use Rattle.bg_front.proofs.Named.{are_named_in, is_named_in}
@@ -21,9 +20,9 @@ use Rattle.bg_front.proofs.TypedPrograms.{AreResolved, written_resolved}
 use Rattle.bg_judged.proofs.Programs.{tokens_good}
 use Rattle.bg_judged.proofs.Guesses.{guesses_judged}
 
-pub tokens_judged : (bytes : List ℕ) (ts : List Tok) (p : r.Program) → (h : IsMeaningOf bytes ts p) → AreJudged ts → HaveBodies h.decls → is_judged (meaning_of p) ≡ true
-tokens_judged bytes ts p h judged have =
-    subst (λ q. is_judged (meaning_of q) ≡ true) (sym (is_named_in bytes ts p h)) (tokens_good ts h.decls judged have h.tree.1.spells.1 (are_named_in bytes ts p h).0)
+pub tokens_judged : (bytes : List ℕ) (ts : List Tok) (p : r.Program) → IsMeaningOf bytes ts p → AreJudged ts → is_judged (meaning_of p) ≡ true
+tokens_judged bytes ts p h judged =
+    subst (λ q. is_judged (meaning_of q) ≡ true) (sym (is_named_in bytes ts p h)) (tokens_good ts h.decls judged h.tree.1.spells.1 (are_named_in bytes ts p h).0)
 
 judged_with : (guess : Bool) (p : r.Program) → IsResolved (meaning_of p) → is_judged (meaning_of p) ≡ true → is_judged (meaning_of (with_guesses guess p)) ≡ true
 judged_with false p h s = s
@@ -31,7 +30,7 @@ judged_with true p h s = guesses_judged p h s
 
 program_judged : AreResolved → (guess : Bool) (bytes : List ℕ) (p : r.Program) → IsProgramOf guess bytes p → is_judged (meaning_of p) ≡ true
 program_judged are_resolved guess bytes p h =
-    let written = tokens_judged bytes h.tokens h.written h.spelled h.judged h.bodies in
+    let written = tokens_judged bytes h.tokens h.written h.spelled h.judged in
     subst (λ q. is_judged (meaning_of q) ≡ true) (sym h.is) (judged_with guess h.written (written_resolved are_resolved guess bytes p h) written)
 
 -- ---- chains

@@ -1,7 +1,7 @@
 -- What the tokens of a program allow its meaning to hold.
-use Rattle.std.proofs.Common.{◌≡◌, ℕ, ◌+◌, Bool, true, false, List, [], ◌∷◌, ◌++◌, map, flat_map, length, Option, Some, None, refl, sym, ap, subst, append-nil, if◌then◌else◌}
+use Rattle.std.proofs.Common.{◌≡◌, ℕ, ◌+◌, Bool, true, false, List, [], ◌∷◌, ◌++◌, map, flat_map, length, Option, Some, None, refl, sym, subst, append-nil, if◌then◌else◌}
 use Rattle.std.specs.List.{list_all}
-use Rattle.std.specs.Prelude.{◌&&◌, ◌||◌, not, is_some}
+use Rattle.std.specs.Prelude.{◌&&◌, ◌||◌, not}
 use Rattle.bg_base.specs.declared.pos.Pos.{Pos}
 use Rattle.bg_text.specs.Tokens.{Tok}
 use Rattle.bg_text.specs.Trees as t
@@ -27,14 +27,13 @@ use Rattle.bg_named.proofs.ProgramsEach.{gathered, gathered_in_turn}
 use Rattle.bg_meant.proofs.Bodies.{NamesCandidates}
 use Rattle.bg_meant.proofs.Programs.{names_candidates}
 use Rattle.bg_front.specs.Later.{AreJudged}
-use Rattle.bg_front.specs.Bodiless.{HaveBodies}
 use Rattle.bg_sense.proofs.Bools.{both}
 use Rattle.bg_fits.specs.Scalars.{clause_passes, st_passes, decl_passes, decls_pass, proc_passes, impl_passes, is_scalar_type}
 use Rattle.bg_opened.specs.Judged.{is_judged_ex, const_judged, body_judged, fun_judged, is_judged}
 use Rattle.bg_judged.proofs.Marks.{flat, Judged, of_tokens, on_each}
 use Rattle.bg_judged.proofs.Groups.{GroupGood, TypeGood}
 use Rattle.bg_judged.proofs.Clauses.{Says, clause_good}
-use Rattle.bg_judged.proofs.Decls.{SpecGood, VarsGood, BodyGood, ArgGood, DeclGood, IsBodied, DeclRead, on_decl}
+use Rattle.bg_judged.proofs.Decls.{SpecGood, VarsGood, BodyGood, ArgGood, DeclGood, on_decl}
 use Rattle.bg_judged.proofs.Spaces.{types_none}
 
 pass_map : {A B : Type 0} (p : B → Bool) (f : A → B) (xs : List A) → Each (λ y. p (f y) ≡ true) xs → list_all p (map f xs) ≡ true
@@ -124,9 +123,9 @@ module _ (g : Spaces) (none : g.types ≡ []) (many : ℕ) (names_fit : (frame :
       let own = split_nil (unless (not b || has_arg_name x) (fault kinds.UnnamedArgument (type_pos x.ty) [])) (ty_faults g.types x.ty) parts.0 in
       both (is_scalar_type true (m.type_in types (arg_type g x))) _ (good.0 g.types none types own.1) (args_good b xs good.1 parts.1)
 
-  body_good : (s : Scope) (o : Option t.Ex) → IfThere Says o → is_some o ≡ true → body_judged (m.body_of (option_of (named_ex s) o)) ≡ true
-  body_good s None good there = absurd (let bad : false ≡ true = there in cc)
-  body_good s (Some e) good there = good s
+  body_good : (s : Scope) (o : Option t.Ex) → IfThere Says o → body_judged (m.body_of (option_of (named_ex s) o)) ≡ true
+  body_good s None good = refl
+  body_good s (Some e) good = good s
 
   function_good : (f : t.Fun) → DeclGood (t.Function f) → function_faults g f ≡ [] → FunGood (named_function g f)
   function_good f good ok =
@@ -139,7 +138,7 @@ module _ (g : Spaces) (none : g.types ≡ []) (many : ℕ) (names_fit : (frame :
       let ending = m.type_in types (named_ty g.types (result_type f.result)) in
       let body = m.body_of (option_of (named_ex (function_scope g f)) f.body) in
       both (list_all ty (map (m.type_in types) (map (arg_type g) f.args))) (ty ending && body_judged body) (args_good (is_there f.body) f.args good.0 (split_nil names args types_ok.0).1)
-      (both (ty ending) (body_judged body) (good.1 g.types none types types_ok.1) (body_good (function_scope g f) f.body good.2 good.3))
+      (both (ty ending) (body_judged body) (good.1 g.types none types types_ok.1) (body_good (function_scope g f) f.body good.2))
 
   constants_kept : (d : t.Decl) → Kept d → Each ConstGood (named_constants g d)
   constants_kept (t.Types p attrs ds) k = tt
@@ -249,24 +248,9 @@ program_good ds good ok =
     let kept = kept_all g none many fit types ds good (split_nil (repeated ds) (flat_map (decl_faults g) ds) ok).1 in
     both _ _ (globals_pass g none many fit types ds kept) (both _ _ (constants_pass g none many fit types ds kept) (both _ _ (functions_pass g none many fit types ds kept) (both _ _ (axioms_pass g none many fit types ds kept) (both _ _ (procedures_pass g none many fit types ds kept) (implementations_pass g none many fit types ds kept)))))
 
--- where functions have bodies, what is read is good
-all_good : (ds : List t.Decl) → Each DeclRead ds → HaveBodies ds → Each DeclGood ds
-all_good [] read have = tt
-all_good (d ∷ ds) read have =
-    (read.0 (here d have), all_good ds read.1 (λ front f rest cut. have (d ∷ front) f rest (ap (λ l. d ∷ l) cut)))
-  where
-    here : (d : t.Decl) → HaveBodies (d ∷ ds) → IsBodied d
-    here (t.Function f) h = h [] f ds refl
-    here (t.Constants c) h = tt
-    here (t.Types p attrs es) h = tt
-    here (t.Axiom p attrs e) h = tt
-    here (t.Globals x) h = tt
-    here (t.Procedure q) h = tt
-    here (t.Implementation q) h = tt
-
--- where each token is judged, and functions have bodies, the meaning is made of judged parts
-pub tokens_good : (ts : List Tok) (ds : List t.Decl) → AreJudged ts → HaveBodies ds → Words ts (each decl_marks ds) → plain_faults ds ≡ [] → is_judged (m.meaning_of (named ds)) ≡ true
-tokens_good ts ds judged have words ok =
+-- where each token is judged, the meaning is made of judged parts
+pub tokens_good : (ts : List Tok) (ds : List t.Decl) → AreJudged ts → Words ts (each decl_marks ds) → plain_faults ds ≡ [] → is_judged (m.meaning_of (named ds)) ≡ true
+tokens_good ts ds judged words ok =
     let h = of_tokens (flat false) ts (each decl_marks ds) judged words in
-    let read = on_each false decl_marks DeclRead on_decl ds [] (subst (λ l. Judged (flat false) l) (sym (append-nil (each decl_marks ds))) h) in
-    program_good ds (all_good ds read.0 have) ok
+    let read = on_each false decl_marks DeclGood on_decl ds [] (subst (λ l. Judged (flat false) l) (sym (append-nil (each decl_marks ds))) h) in
+    program_good ds read.0 ok

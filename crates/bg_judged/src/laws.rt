@@ -7,13 +7,12 @@ ghost use Rattle.bg_opened.specs.Judged.{is_judged};
 ghost use Rattle.bg_opened.specs.Openable.{IsOpenable};
 ghost use Rattle.bg_expanded.specs.Chains.{most_bodies};
 ghost use Rattle.bg_front.specs.Later.{AreJudged};
-ghost use Rattle.bg_front.specs.Bodiless.{HaveBodies};
 ghost use Rattle.bg_front.specs.Programs.{IsMeaningOf, IsProgramOf};
 
-/// A program of which each token is judged, and each function has a body, is one of judged parts: its variables, constants, parameters and
-/// results are truth values and whole numbers, and no map is read or changed.
+/// A program of which each token is judged is one of judged parts: its variables, constants, parameters and results, those of its functions
+/// among them, are truth values and whole numbers, and no map is read or changed.
 pub fn judged_tokens_spell_judged_programs()
-    ensures { (bytes : List ℕ) (ts : List Tok) (p : Program) → (m : IsMeaningOf bytes ts p) → AreJudged ts → HaveBodies m.decls → is_judged (meaning_of p) ≡ true }
+    ensures { (bytes : List ℕ) (ts : List Tok) (p : Program) → IsMeaningOf bytes ts p → AreJudged ts → is_judged (meaning_of p) ≡ true }
 {}
 
 /// What the reader lets through, with guesses and without, can be opened as deep as the longest chain of bodies may be.

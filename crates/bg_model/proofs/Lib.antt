@@ -4,6 +4,7 @@ pub mod Paths
 pub mod Fronts
 pub mod Aligned
 pub mod Last
+pub mod Stretches
 pub mod Steps
 pub mod Sharing
 pub mod Going

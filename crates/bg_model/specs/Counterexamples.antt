@@ -15,6 +15,8 @@ use Rattle.bg_formed.specs.Formed.{FormBlock}
 use Rattle.bg_formed.specs.Wells.{form_equations}
 use Rattle.bg_formed.specs.Said.{SaidBlocks}
 use Rattle.bg_formed.specs.Used.{refused}
+use Rattle.bg_scalar.specs.Tables.{TableOf}
+use Rattle.bg_scalar.specs.Views.{tables_in}
 use Rattle.bg_scalar.specs.Choices.{choice_of, state_of}
 use Rattle.bg_model.specs.declared.failure.Counterexample.{Counterexample}
 use Rattle.bg_model.specs.Over.{walk_over}
@@ -35,10 +37,11 @@ pub record SetUp (p : Prog) (bs : List Block) (frame : ℕ) (ns : List ℕ) (vs 
   pub suited : MakesPassive p (frame_decls m q) others arrivals bs
   pub values : ValuesFrom p (frame_decls m q) others s vs
 
--- in each set-up the state is that of the counterexample; its choices are the values along the lowest edges from which some walk fails;
--- and by them the induction run fails at the check, where the blocks of forms say what the passive blocks say, and no operation that
--- counts for the check leaves the range
-pub record IsCounterexample (p : Prog) (bs : List Block) (frame : ℕ) (ns : List ℕ) (forms : List FormBlock) (set : ℕ → Bool) (t : Spot) (w : ℕ → Bool) (vs : List Val) (cex : Counterexample) : Type 0 where
+-- functions have these tables; in each set-up the state is that of the counterexample; its choices are the values along the lowest edges
+-- from which some walk fails; and by them the induction run fails at the check, where the blocks of forms say what the passive blocks
+-- say, and no operation that counts for the check leaves the range
+pub record IsCounterexample (p : Prog) (bs : List Block) (frame : ℕ) (ns : List ℕ) (forms : List FormBlock) (set : ℕ → Bool) (t : Spot) (w : ℕ → Bool) (vs : List Val) (ts : List TableOf) (cex : Counterexample) : Type 0 where
+  pub tables : tables_in cex.tables.items ≡ ts
   pub starts : (k : ℕ) (m : Impl) (q : Proc) (s : State) (others : List Ty) (arrivals : List Arrival) → SetUp p bs frame ns vs k m q s others arrivals → s ≡ state_of cex.globals.items cex.frame.items
   pub choices : map choice_of cex.choices.items ≡ taken (walk_over set t w) vs bs forms ns (turns (walk_over set t w) forms) 0
   pub fails : (i : Interp) (k : ℕ) (m : Impl) (q : Proc) (s : State) (others : List Ty) (arrivals : List Arrival) → SetUp p bs frame ns vs k m q s others arrivals → SaidBlocks w (passive_scope p i vs) (passives arrivals bs) forms → refused t forms ≡ None → induction_run p set i k s (map choice_of cex.choices.items) ≡ Failed t

@@ -4,7 +4,7 @@ ghost use Rattle.bg_ast.specs.Execution as e;
 ghost use Rattle.bg_ast.specs.Resolved.{Program};
 ghost use Rattle.bg_flow.specs.Blocks as f;
 ghost use Rattle.bg_blocks.specs.Views.{block_of, cmd_of, exit_of};
-ghost use Rattle.bg_formed.specs.Views.{form_cmds_of, form_block_of};
+ghost use Rattle.bg_model.specs.Behind.{stretch_of};
 ghost use Rattle.bg_scalar.specs.Choices.{choice_of};
 ghost use Rattle.bg_model.specs.Turns.{front_of, turn_choices, choices_on, taken};
 ghost use Rattle.bg_model.specs.Views.{walk_in, values_in, made_by};
@@ -12,10 +12,10 @@ ghost use Rattle.bg_model.specs.Views.{walk_in, values_in, made_by};
 use crate::commands::commands;
 use crate::exit::exit;
 use crate::front::Front;
+use crate::stretch::Stretch;
 use crate::trial::Trial;
 use crate::turn::Turn;
 use bg_blocks::{Block, Exit};
-use bg_formed::FormBlock;
 use bg_scalar::Choice;
 use std::alloc::AllocError;
 use std::collections::VecDeque;
@@ -23,7 +23,7 @@ use std::collections::VecDeque;
 /// What leads a walk through blocks: the blocks of forms, and each block's first incarnation and turn.
 #[derive(Clone, Copy)]
 pub struct Course<'a> {
-    pub forms: &'a [FormBlock],
+    pub forms: &'a [Stretch<'a>],
     pub firsts: &'a [u32],
     pub turns: &'a VecDeque<Turn>,
 }
@@ -47,13 +47,13 @@ fn block<'a>(
     trial: Trial<'_>,
     front: &mut Front<'a>,
     b: &Block<'_>,
-    forms: &'a FormBlock,
+    forms: Stretch<'a>,
     first: u32,
     turn: Turn,
 ) -> Result<Option<usize>, AllocError>
-    ensures { IfOk result (λ to. (p : Program) (behind : ℕ → List e.Choice) → made_by front.old (front_of (walk_in trial.entry) (values_in trial.entry) (map (cmd_of p) b.now.cmds.items) (form_cmds_of forms.now.cmds.items) first (turn_choices turn (exit_of b.now.exit) behind)) ≡ made_by front.new (choices_on to behind)) }
+    ensures { IfOk result (λ to. (p : Program) (behind : ℕ → List e.Choice) → made_by front.old (front_of (walk_in trial.entry) (values_in trial.entry) (map (cmd_of p) b.now.cmds.items) (stretch_of forms.entry).cmds first (turn_choices turn (exit_of b.now.exit) behind)) ≡ made_by front.new (choices_on to behind)) }
 {
-    front.left = &forms.cmds;
+    front.left = forms.cmds;
     front.next = first as usize;
     if !commands(trial, front, &b.cmds)? {
         return Ok(None);
@@ -71,7 +71,7 @@ fn visit<'a>(
     course: Course<'a>,
     i: usize,
 ) -> Result<Option<usize>, AllocError>
-    ensures { IfOk result (λ to. (p : Program) (bs : List f.Block) → made_by front.old (taken (walk_in trial.entry) (values_in trial.entry) (block_of p b.now ∷ bs) (map form_block_of (drop i course.entry.forms.now)) (drop i course.entry.firsts.now) (drop i course.entry.turns.now.items) 0) ≡ made_by front.new (choices_on to (taken (walk_in trial.entry) (values_in trial.entry) bs (map form_block_of (drop (i + 1) course.entry.forms.now)) (drop (i + 1) course.entry.firsts.now) (drop (i + 1) course.entry.turns.now.items)))) }
+    ensures { IfOk result (λ to. (p : Program) (bs : List f.Block) → made_by front.old (taken (walk_in trial.entry) (values_in trial.entry) (block_of p b.now ∷ bs) (map stretch_of (drop i course.entry.forms.now)) (drop i course.entry.firsts.now) (drop i course.entry.turns.now.items) 0) ≡ made_by front.new (choices_on to (taken (walk_in trial.entry) (values_in trial.entry) bs (map stretch_of (drop (i + 1) course.entry.forms.now)) (drop (i + 1) course.entry.firsts.now) (drop (i + 1) course.entry.turns.now.items)))) }
 {
     let Some(q) = course.forms.get(i) else {
         return Ok(None);
@@ -82,7 +82,7 @@ fn visit<'a>(
     let Some(turn) = course.turns.get(i) else {
         return Ok(None);
     };
-    let to = block(trial, front, b, q, *first, *turn)?;
+    let to = block(trial, front, b, *q, *first, *turn)?;
     Ok(to)
 }
 
@@ -92,7 +92,7 @@ pub fn choices(
     blocks: &[Block<'_>],
     course: Course<'_>,
 ) -> Result<Vec<Choice>, AllocError>
-    ensures { IfOk result (λ made. (p : Program) → map choice_of made.items ≡ taken (walk_in trial.entry) (values_in trial.entry) (map (block_of p) blocks.now) (map form_block_of course.entry.forms.now) course.entry.firsts.now course.entry.turns.now.items 0) }
+    ensures { IfOk result (λ made. (p : Program) → map choice_of made.items ≡ taken (walk_in trial.entry) (values_in trial.entry) (map (block_of p) blocks.now) (map stretch_of course.entry.forms.now) course.entry.firsts.now course.entry.turns.now.items 0) }
 {
     let mut front = Front {
         made: Vec::new(trial.alloc),

@@ -7,23 +7,26 @@ ghost use Rattle.bg_forms.specs.Worth.{bools_at};
 ghost use Rattle.bg_formed.specs.Views.{form_block_of};
 ghost use Rattle.bg_places.specs.Views.{spot_of};
 ghost use Rattle.bg_scalar.specs.Values.{val_of};
+ghost use Rattle.bg_scalar.specs.Views.{tables_in};
+ghost use Rattle.bg_model.specs.Behind.{behind_front};
 ghost use Rattle.bg_model.specs.Views.{set_of};
 ghost use Rattle.bg_model.specs.Counterexamples.{is_denied, IsCounterexample, IsTold};
 
 use crate::choices::{Course, choices};
 use crate::choose::values_from;
 use crate::failure::Counterexample;
+use crate::stretch::stretches;
 use crate::trial::Trial;
 use crate::turns::{fails, turns};
 use bg_ast::resolved::Resolved;
 use bg_blocks::Block;
 use bg_formed::FormBlock;
 use bg_places::Spot;
-use bg_scalar::Scalar;
+use bg_scalar::{Scalar, Table};
 use std::alloc::{AllocError, Global};
 
 /// The blocks of an implementation of a program, how many variables its frame has, the first incarnations that `bg_incarnate` gives
-/// the blocks, and the blocks of forms.
+/// the blocks, and the blocks of forms, of which so many commands stand in front of the first block's own.
 #[derive(Clone, Copy)]
 pub struct Routine<'a> {
     pub program: &'a Resolved,
@@ -31,6 +34,7 @@ pub struct Routine<'a> {
     pub blocks: &'a [Block<'a>],
     pub firsts: &'a [u32],
     pub forms: &'a [FormBlock],
+    pub front: usize,
 }
 
 /// Truth values of the atoms, and values of the incarnations, 0 past the end of the list.
@@ -47,9 +51,9 @@ fn count_globals(program: &Resolved) -> usize
     program.globals.len()
 }
 
-/// The run that fails at the target, where the equations of the forms deny the entry block under these truth values of the atoms;
-/// `None` where they don't. The run goes along the lowest edges from which some walk fails (in the manner of Barnett and Leino),
-/// from the first incarnations' values, and its choices end at the check that fails.
+/// The run that fails at the target, where the equations of the forms, without those in front, deny the entry block under these truth
+/// values of the atoms; `None` where they don't. Functions have these tables. The run goes along the lowest edges from which some walk
+/// fails (in the manner of Barnett and Leino), from the first incarnations' values, and its choices end at the check that fails.
 ///
 /// Only want of memory is an error; 2^32 branches count as such.
 pub fn counterexample(
@@ -58,8 +62,9 @@ pub fn counterexample(
     target: Spot,
     set: &[bool],
     valuation: Valuation<'_>,
+    tables: Vec<Table>,
 ) -> Result<Option<Counterexample>, AllocError>
-    ensures { IfOk result (λ found. IsTold (is_denied (set_of set.now) (spot_of target) (bools_at valuation.entry.truths.now) (map form_block_of routine.entry.forms.now)) found (IsCounterexample (meaning_of (program_of routine.entry.program.now)) (map (block_of (program_of routine.entry.program.now)) routine.entry.blocks.now) routine.entry.frame routine.entry.firsts.now (map form_block_of routine.entry.forms.now) (set_of set.now) (spot_of target) (bools_at valuation.entry.truths.now) (map val_of valuation.entry.values.now))) }
+    ensures { IfOk result (λ found. IsTold (is_denied (set_of set.now) (spot_of target) (bools_at valuation.entry.truths.now) (behind_front routine.entry.front (map form_block_of routine.entry.forms.now))) found (IsCounterexample (meaning_of (program_of routine.entry.program.now)) (map (block_of (program_of routine.entry.program.now)) routine.entry.blocks.now) routine.entry.frame routine.entry.firsts.now (behind_front routine.entry.front (map form_block_of routine.entry.forms.now)) (set_of set.now) (spot_of target) (bools_at valuation.entry.truths.now) (map val_of valuation.entry.values.now) (tables_in tables.items))) }
 {
     let trial = Trial {
         alloc,
@@ -68,12 +73,13 @@ pub fn counterexample(
         truths: valuation.truths,
         values: valuation.values,
     };
-    let made = turns(trial, routine.forms)?;
+    let forms = stretches(alloc, routine.forms, routine.front)?;
+    let made = turns(trial, &forms)?;
     if !fails(&made, 0) {
         return Ok(None);
     }
     let course = Course {
-        forms: routine.forms,
+        forms: &forms,
         firsts: routine.firsts,
         turns: &made,
     };
@@ -82,6 +88,7 @@ pub fn counterexample(
     let globals = values_from(alloc, valuation.values, 0, many)?;
     let frame = values_from(alloc, valuation.values, many, routine.frame)?;
     Ok(Some(Counterexample {
+        tables,
         globals,
         frame,
         choices,

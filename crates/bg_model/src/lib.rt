@@ -9,6 +9,7 @@ mod failure;
 mod find;
 mod front;
 mod share;
+mod stretch;
 mod trial;
 mod turn;
 mod turns;

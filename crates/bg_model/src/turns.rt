@@ -1,13 +1,15 @@
 //! The turns of blocks.
 ghost use Rattle.std.specs.Prelude.{◌≡◌, map, slice_get, IfOk};
-ghost use Rattle.bg_formed.specs.Views.{form_edge_of, form_block_of};
+ghost use Rattle.bg_formed.specs.Views.{form_edge_of};
+ghost use Rattle.bg_model.specs.Behind.{stretch_of};
 ghost use Rattle.bg_model.specs.Turns as spec;
 ghost use Rattle.bg_model.specs.Views.{walk_in};
 
+use crate::stretch::Stretch;
 use crate::trial::Trial;
 use crate::turn::Turn;
 use crate::walk::{Went, walk};
-use bg_formed::{FormBlock, FormEdge};
+use bg_formed::FormEdge;
 use std::alloc::AllocError;
 use std::collections::VecDeque;
 
@@ -47,27 +49,25 @@ fn lowest(trial: Trial<'_>, later: &VecDeque<Turn>, edges: &[FormEdge]) -> Turn
 }
 
 /// Where a failing walk goes from a block, where it goes so from the later ones.
-fn turn_at(trial: Trial<'_>, later: &VecDeque<Turn>, b: &FormBlock) -> Turn
-    ensures { result ≡ spec.turn_at (walk_in trial.entry) later.now.items (form_block_of b.now) }
+fn turn_at(trial: Trial<'_>, later: &VecDeque<Turn>, b: Stretch<'_>) -> Turn
+    ensures { result ≡ spec.turn_at (walk_in trial.entry) later.now.items (stretch_of b.entry) }
 {
-    match walk(trial, &b.cmds) {
-        Went::On => lowest(trial, later, &b.next),
+    match walk(trial, b.cmds) {
+        Went::On => lowest(trial, later, b.next),
         Went::Stopped => Turn::Well,
         Went::Hit => Turn::Ends,
     }
 }
 
 /// Where a failing walk goes from each block, told from the last one back.
-#[tactic(auto, using(crate::proofs::Last::onto_last))]
-pub fn turns(trial: Trial<'_>, blocks: &[FormBlock]) -> Result<VecDeque<Turn>, AllocError>
-    ensures { IfOk result (λ made. made.items ≡ spec.turns (walk_in trial.entry) (map form_block_of blocks.now)) }
+pub fn turns(trial: Trial<'_>, blocks: &[Stretch<'_>]) -> Result<VecDeque<Turn>, AllocError>
+    ensures { IfOk result (λ made. made.items ≡ spec.turns (walk_in trial.entry) (map stretch_of blocks.now)) }
 {
     let mut later = VecDeque::new(trial.alloc);
-    let mut left = blocks;
-    while let Some((last, before)) = left.split_last() {
-        let t = turn_at(trial, &later, last);
+    for i in 0..blocks.len() {
+        let k = blocks.len() - 1 - i;
+        let t = turn_at(trial, &later, blocks[k]);
         later.push_front(t)?;
-        left = before;
     }
     Ok(later)
 }

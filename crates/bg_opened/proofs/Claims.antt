@@ -1,16 +1,15 @@
 -- Runs of an opened program fail where those of the program fail, under interpretations that meet it.
 use Rattle.std.proofs.Common.{◌≡◌, ℕ, zero, suc, arith, Bool, true, false, List, [], ◌∷◌, ◌++◌, length, map, Option, Some, None, refl, sym, ap, ◌∙◌, subst, ⊎_elim}
-use Rattle.std.specs.Prelude.{◌&&◌, ◌||◌, not, ◌==◌, slice_get, option_map, take, drop, All}
+use Rattle.std.specs.Prelude.{◌&&◌, slice_get, option_map, take, drop, All}
 use Rattle.std.specs.List.{list_all}
-use Rattle.std.proofs.lemmas.Bool.{eq-eqb}
-use Rattle.bg_ast.specs.Values.{Val, Ty, IntTy, BoolTy, UserTy, MapTy, is_of, val_eq, truth_of}
+use Rattle.bg_ast.specs.Values.{Val, Ty, IntTy, BoolTy, MapTy, is_of, truth_of}
 use Rattle.bg_ast.specs.Syntax.{Ex, Exs, Number, Fact, Constant, Read, Global, Local, Not, Negative, Binary, Apply, Select, Update, Old, NoMore, More, St, Decl, Const, Fun, Proc, Impl, Prog}
 use Rattle.bg_ast.specs.Execution.{Interp, State, Choice, Spot, Place}
-use Rattle.bg_sense.specs.Eval.{Scope, ev, evs, operate, holds_alone, default_for, functions_of}
+use Rattle.bg_sense.specs.Eval.{Scope, ev, evs, operate, holds_alone, functions_of}
 use Rattle.bg_sense.specs.Flow.{Answer, Failed, Blocked}
 use Rattle.bg_sense.specs.Context.{Cut, Ctx, scope}
 use Rattle.bg_sense.specs.Types.{are_of, types_of, const_types}
-use Rattle.bg_sense.specs.Tables.{is_table_of, are_tables, has_body}
+use Rattle.bg_sense.specs.Tables.{are_tables}
 use Rattle.bg_sense.specs.Interps.{are_distinct, all_hold, Meets}
 use Rattle.bg_sense.specs.Variables.{procedure_of, wheres_of}
 use Rattle.bg_sense.specs.Typing.{Sig, HasType, HaveTypes, sig_in}
@@ -21,13 +20,14 @@ use Rattle.bg_sense.specs.Run.{context, start, run, run_of, run_body, induction_
 use Rattle.bg_sense.specs.Calls.{by_specification}
 use Rattle.bg_sense.specs.Claims.{frame_with, frame_of, Fails}
 use Rattle.bg_sense.proofs.Bools.{and_left, and_right, both, bool_cases}
-use Rattle.bg_sense.proofs.TypedRuns.{default_typed}
-use Rattle.bg_fits.specs.Scalars.{is_scalar, is_scalar_type, st_passes, clause_passes, decls_pass, proc_passes, impl_passes, is_over_scalars}
+use Rattle.bg_fits.specs.Scalars.{is_scalar_type, st_passes, clause_passes, decls_pass, fun_passes, proc_passes, impl_passes}
+use Rattle.bg_opened.proofs.Plain.{is_plain, is_over_plain}
+use Rattle.bg_opened.proofs.Tables.{Agree, bodiless_tables, are_tables_for, tables_agree}
 use Rattle.bg_opened.specs.Exprs.{opened}
 use Rattle.bg_opened.specs.Unique.{claims}
 use Rattle.bg_opened.specs.Judged.{const_judged}
 use Rattle.bg_opened.specs.Programs.{global_for, supposing, opened_clause, opened_st, opened_decl, opened_proc, opened_impl, bodies_of, opened_program}
-use Rattle.bg_opened.specs.Moments.{nothing, with_constants, blank, interp_in, without_constants}
+use Rattle.bg_opened.specs.Moments.{tables_of, with_constants, interp_in, without_constants}
 use Rattle.bg_opened.proofs.Places.{at_mapped}
 use Rattle.bg_opened.proofs.Worths.{typed_reads, sides}
 use Rattle.bg_opened.proofs.Runs.{Each, Fair, FairDecl, FairSt, FairProc, body_alike, body_blocked}
@@ -154,24 +154,6 @@ frame_opened g b q m =
     ap (λ l. map (opened_decl g b) q.params ++ l) (sym (map_append (opened_decl g b) q.results m.locals))
     ∙ sym (map_append (opened_decl g b) q.params (q.results ++ m.locals))
 
-pub blank_tables : (fs : List Fun) → are_tables fs (map blank fs) ≡ true
-blank_tables [] = refl
-blank_tables (f ∷ fs) = both (is_table_of f (blank f)) (are_tables fs (map blank fs)) (blank_one f) (blank_tables fs)
-  where
-    default_same : (t : Ty) → val_eq (default_for t) (default_for t) ≡ true
-    default_same IntTy = refl
-    default_same BoolTy = refl
-    default_same (UserTy t) = both (t == t) true (eq-eqb t t refl) refl
-    default_same (MapTy ks t) = default_same t
-
-    or_right_true : (a c : Bool) → c ≡ true → (a || c) ≡ true
-    or_right_true true c e = refl
-    or_right_true false c e = e
-
-    blank_one : (f : Fun) → is_table_of f (blank f) ≡ true
-    blank_one f =
-        both (is_of f.result (default_for f.result) && true) (not (has_body f.body) || val_eq (default_for f.result) (default_for f.result)) (both (is_of f.result (default_for f.result)) true (default_typed f.result) refl) (or_right_true (not (has_body f.body)) (val_eq (default_for f.result) (default_for f.result)) (default_same f.result))
-
 pub at_all : {A : Type 0} (P : A → Type 0) (xs : List A) (k : ℕ) (x : A) → All P xs → slice_get xs k ≡ Some x → P x
 at_all P [] k x h e = absurd (let bad : ⊥ = cc in bad)
 at_all P (y ∷ xs) zero x h e = let same : y ≡ x = cc in subst P same (h 0 y (omega arith))
@@ -183,14 +165,47 @@ supposing_passes n f (e ∷ es) s h =
     let r = supposing_passes n f es s (and_right (f e) (st_passes n f (supposing es s)) h) in
     (both (f e) (list_all f es) (and_left (f e) (st_passes n f (supposing es s)) h) r.0, r.1)
 
+-- ---- what the test says of a program's parts
+
+module _ (depth : ℕ) (p : Prog) (test : is_over_plain p.functions (opened_program depth p) ≡ true) where
+  abbrev its : Prog
+  its = opened_program depth p
+
+  abbrev Globals : Bool
+  Globals = decls_pass (is_scalar_type true) (is_plain p.functions) its.globals
+
+  abbrev Funs : Bool
+  Funs = list_all (fun_passes (is_scalar_type true)) its.functions
+
+  abbrev Procs : Bool
+  Procs = list_all (proc_passes p.candidates (is_scalar_type true) (is_plain p.functions)) its.procedures
+
+  abbrev Impls : Bool
+  Impls = list_all (impl_passes p.candidates (is_scalar_type true) (is_plain p.functions)) its.implementations
+
+  pub globals_pass : Globals ≡ true
+  globals_pass = and_left Globals (Funs && (Procs && Impls)) test
+
+  rest : (Procs && Impls) ≡ true
+  rest = and_right Funs (Procs && Impls) (and_right Globals (Funs && (Procs && Impls)) test)
+
+  pub procs_pass : Procs ≡ true
+  procs_pass = and_left Procs Impls rest
+
+  pub impls_pass : Impls ≡ true
+  impls_pass = and_right Procs Impls rest
+
 -- ---- runs of a program
 
-module _ (depth : ℕ) (p : Prog) (i : Interp) (typed : IsTyped p) (res : IsResolved p) (none : HasNoRecursion p) (test : is_over_scalars true (opened_program depth p) ≡ true) where
+module _ (depth : ℕ) (p : Prog) (i j : Interp) (agree : Agree p.functions i j) (typed : IsTyped p) (res : IsResolved p) (none : HasNoRecursion p) (test : is_over_plain p.functions (opened_program depth p) ≡ true) where
   abbrev g : ℕ
   g = length p.globals
 
   abbrev b : ℕ → Option Ex
   b = bodies_of depth p
+
+  abbrev F : List Fun
+  F = p.functions
 
   abbrev o : Prog
   o = opened_program depth p
@@ -201,33 +216,18 @@ module _ (depth : ℕ) (p : Prog) (i : Interp) (typed : IsTyped p) (res : IsReso
   abbrev n : ℕ
   n = p.candidates
 
-  abbrev Procs : Bool
-  Procs = list_all (proc_passes n (is_scalar_type true) (is_scalar true)) o.procedures
-
-  abbrev Impls : Bool
-  Impls = list_all (impl_passes n (is_scalar_type true) (is_scalar true)) o.implementations
-
-  pub globals_pass : decls_pass (is_scalar_type true) (is_scalar true) o.globals ≡ true
-  globals_pass = and_left (decls_pass (is_scalar_type true) (is_scalar true) o.globals) (Procs && Impls) test
-
-  pub procs_pass : Procs ≡ true
-  procs_pass = and_left Procs Impls (and_right (decls_pass (is_scalar_type true) (is_scalar true) o.globals) (Procs && Impls) test)
-
-  pub impls_pass : Impls ≡ true
-  impls_pass = and_right Procs Impls (and_right (decls_pass (is_scalar_type true) (is_scalar true) o.globals) (Procs && Impls) test)
-
-  globals_fair : Each (FairDecl g b cs) p.globals
+  globals_fair : Each (FairDecl g b F cs) p.globals
   globals_fair =
-      fair_decls depth p cs [] p.globals (each_all (λ d. All (IsFormula (sig_in p [])) d.wheres) p.globals typed.globals) (list_all_left (Rattle.bg_fits.specs.Scalars.decl_passes (is_scalar_type true) (is_scalar true)) (map (opened_decl g b) p.globals) (map global_for p.constants) globals_pass)
+      fair_decls depth p cs [] p.globals (each_all (λ d. All (IsFormula (sig_in p [])) d.wheres) p.globals typed.globals) (list_all_left (Rattle.bg_fits.specs.Scalars.decl_passes (is_scalar_type true) (is_plain F)) (map (opened_decl g b) p.globals) (map global_for p.constants) (globals_pass depth p test))
 
-  procs_fair : (k : ℕ) (q : Proc) → procedure_of p k ≡ Some q → FairProc g b cs p o q
+  procs_fair : (k : ℕ) (q : Proc) → procedure_of p k ≡ Some q → FairProc g b F cs p o q
   procs_fair k q e =
       let t : IsTypedProc p q = at_all (IsTypedProc p) p.procedures k q typed.procedures e in
-      let s = list_all_at (proc_passes n (is_scalar_type true) (is_scalar true)) o.procedures k (opened_proc g b q) procs_pass (its_procedure depth p cs k ∙ ap (option_map (opened_proc g b)) e) in
-      let params_pass = decls_pass (is_scalar_type true) (is_scalar true) (map (opened_decl g b) q.params) in
-      let results_pass = decls_pass (is_scalar_type true) (is_scalar true) (map (opened_decl g b) q.results) in
-      let requires_pass = list_all (clause_passes n (is_scalar true)) (map (opened_clause g b) q.requires_) in
-      let ensures_pass = list_all (clause_passes n (is_scalar true)) (map (opened_clause g b) q.ensures_) in
+      let s = list_all_at (proc_passes n (is_scalar_type true) (is_plain F)) o.procedures k (opened_proc g b q) (procs_pass depth p test) (its_procedure depth p cs k ∙ ap (option_map (opened_proc g b)) e) in
+      let params_pass = decls_pass (is_scalar_type true) (is_plain F) (map (opened_decl g b) q.params) in
+      let results_pass = decls_pass (is_scalar_type true) (is_plain F) (map (opened_decl g b) q.results) in
+      let requires_pass = list_all (clause_passes n (is_plain F)) (map (opened_clause g b) q.requires_) in
+      let ensures_pass = list_all (clause_passes n (is_plain F)) (map (opened_clause g b) q.ensures_) in
       let s1 = and_right params_pass (results_pass && (requires_pass && ensures_pass)) s in
       let s2 = and_right results_pass (requires_pass && ensures_pass) s1 in
       record {
@@ -240,16 +240,16 @@ module _ (depth : ℕ) (p : Prog) (i : Interp) (typed : IsTyped p) (res : IsReso
       }
 
   -- what axioms say
-  axiom_fair : (set : ℕ → Bool) (k : ℕ) (ds : List Decl) (b0 : List Val) (es : List Ex) → Each (λ e. IsFormula (sig_in (record p { globals = [] }) []) e × HasNoOld e) es → list_all (is_scalar true) (map (opened g b) es) ≡ true → Each (λ e. Fair g b cs e × ((w : Rattle.bg_sense.specs.Flow.World) → truth_of (ev e (scope (record { program = p; interp = i; set = set; implementation = k; variables = ds; before = b0; loops = Cut }) w)) ≡ holds_alone p i e)) es
+  axiom_fair : (set : ℕ → Bool) (k : ℕ) (ds : List Decl) (b0 : List Val) (es : List Ex) → Each (λ e. IsFormula (sig_in (record p { globals = [] }) []) e × HasNoOld e) es → list_all (is_plain F) (map (opened g b) es) ≡ true → Each (λ e. Fair g b F cs e × ((w : Rattle.bg_sense.specs.Flow.World) → truth_of (ev e (scope (record { program = p; interp = i; set = set; implementation = k; variables = ds; before = b0; loops = Cut }) w)) ≡ holds_alone p i e)) es
   axiom_fair set k ds b0 [] h t = tt
   axiom_fair set k ds b0 (e ∷ es) h t =
       let sig = sig_in (record p { globals = [] }) [] in
-      let rest = list_all (is_scalar true) (map (opened g b) es) in (
+      let rest = list_all (is_plain F) (map (opened g b) es) in (
         (
-          (reads_more g e (typed_reads e sig BoolTy h.0.0.0), and_left (is_scalar true (opened g b e)) rest t),
+          (reads_more g e (typed_reads e sig BoolTy h.0.0.0), and_left (is_plain F (opened g b e)) rest t),
           λ w. ap truth_of (alone (functions_of p i) cs sig refl refl e BoolTy h.0.0.0 w.globals b0 w.frame [] [] []),
         ),
-        axiom_fair set k ds b0 es h.1 (and_right (is_scalar true (opened g b e)) rest t),
+        axiom_fair set k ds b0 es h.1 (and_right (is_plain F (opened g b e)) rest t),
       )
 
   its_implementation : (k : ℕ) (m : Impl) → slice_get p.implementations k ≡ Some m → slice_get o.implementations k ≡ Some (opened_impl g b (claims p) m)
@@ -265,38 +265,38 @@ module _ (depth : ℕ) (p : Prog) (i : Interp) (typed : IsTyped p) (res : IsReso
     its_own : its_type.procedure ≡ q
     its_own = let e = sym its_type.is_there ∙ iq in cc
 
-    its_pass : impl_passes n (is_scalar_type true) (is_scalar true) (opened_impl g b (claims p) m) ≡ true
+    its_pass : impl_passes n (is_scalar_type true) (is_plain F) (opened_impl g b (claims p) m) ≡ true
     its_pass =
-        list_all_at (impl_passes n (is_scalar_type true) (is_scalar true)) o.implementations k (opened_impl g b (claims p) m) impls_pass (its_implementation k m im)
+        list_all_at (impl_passes n (is_scalar_type true) (is_plain F)) o.implementations k (opened_impl g b (claims p) m) (impls_pass depth p test) (its_implementation k m im)
 
     abbrev Locals : Bool
-    Locals = decls_pass (is_scalar_type true) (is_scalar true) (map (opened_decl g b) m.locals)
+    Locals = decls_pass (is_scalar_type true) (is_plain F) (map (opened_decl g b) m.locals)
 
     abbrev Whole : St
     Whole = supposing (map (opened g b) (claims p)) (opened_st g b m.body)
 
-    parts : (list_all (is_scalar true) (map (opened g b) (claims p)) ≡ true) × (st_passes n (is_scalar true) (opened_st g b m.body) ≡ true)
+    parts : (list_all (is_plain F) (map (opened g b) (claims p)) ≡ true) × (st_passes n (is_plain F) (opened_st g b m.body) ≡ true)
     parts =
-        supposing_passes n (is_scalar true) (map (opened g b) (claims p)) (opened_st g b m.body) (and_right Locals (st_passes n (is_scalar true) Whole) its_pass)
+        supposing_passes n (is_plain F) (map (opened g b) (claims p)) (opened_st g b m.body) (and_right Locals (st_passes n (is_plain F) Whole) its_pass)
 
-    its_proc : FairProc g b cs p o q
+    its_proc : FairProc g b F cs p o q
     its_proc = procs_fair m.procedure q iq
 
-    body_fair : FairSt g b cs m.body
+    body_fair : FairSt g b F cs m.body
     body_fair =
         fair_st depth p cs n q ds [] [] m.body (subst (λ y. Rattle.bg_sense.specs.Typed.IsTypedStatement (around p y m) [] [] m.body) its_own its_type.body) parts.1
 
-    locals_fair : Each (FairDecl g b cs) m.locals
+    locals_fair : Each (FairDecl g b F cs) m.locals
     locals_fair =
-        fair_decls depth p cs ds m.locals (each_all (λ d. All (IsFormula (sig_in p ds)) d.wheres) m.locals (subst (λ y. All (λ d. All (IsFormula (sig_in p (y.params ++ (y.results ++ m.locals)))) d.wheres) m.locals) its_own its_type.locals)) (and_left Locals (st_passes n (is_scalar true) Whole) its_pass)
+        fair_decls depth p cs ds m.locals (each_all (λ d. All (IsFormula (sig_in p ds)) d.wheres) m.locals (subst (λ y. All (λ d. All (IsFormula (sig_in p (y.params ++ (y.results ++ m.locals)))) d.wheres) m.locals) its_own its_type.locals)) (and_left Locals (st_passes n (is_plain F) Whole) its_pass)
 
-    ds_fair : Each (FairDecl g b cs) ds
+    ds_fair : Each (FairDecl g b F cs) ds
     ds_fair =
-        each_append (FairDecl g b cs) q.params (q.results ++ m.locals) its_proc.params (each_append (FairDecl g b cs) q.results m.locals its_proc.results locals_fair)
+        each_append (FairDecl g b F cs) q.params (q.results ++ m.locals) its_proc.params (each_append (FairDecl g b F cs) q.results m.locals its_proc.results locals_fair)
 
-    wheres_fair : (es : List Decl) → Each (FairDecl g b cs) es → Each (Fair g b cs) (wheres_of es)
+    wheres_fair : (es : List Decl) → Each (FairDecl g b F cs) es → Each (Fair g b F cs) (wheres_of es)
     wheres_fair [] h = tt
-    wheres_fair (d ∷ es) h = each_append (Fair g b cs) d.wheres (wheres_of es) h.0 (wheres_fair es h.1)
+    wheres_fair (d ∷ es) h = each_append (Fair g b F cs) d.wheres (wheres_of es) h.0 (wheres_fair es h.1)
 
     begins : wheres_of (o.globals ++ map (opened_decl g b) ds) ≡ map (opened g b) (wheres_of (p.globals ++ ds))
     begins =
@@ -311,7 +311,7 @@ module _ (depth : ℕ) (p : Prog) (i : Interp) (typed : IsTyped p) (res : IsReso
     there vs =
         record {
           program = o;
-          interp = nothing;
+          interp = j;
           set = set;
           implementation = k;
           variables = vs;
@@ -319,48 +319,48 @@ module _ (depth : ℕ) (p : Prog) (i : Interp) (typed : IsTyped p) (res : IsReso
           loops = Cut;
         }
 
-    opened_run : induction_run o set nothing k (with_constants i s) choices ≡ run_body by_specification (there (map (opened_decl g b) ds)) (opened_impl g b (claims p) m) (opened_proc g b q) (start (with_constants i s) choices 0)
+    opened_run : induction_run o set j k (with_constants i s) choices ≡ run_body by_specification (there (map (opened_decl g b) ds)) (opened_impl g b (claims p) m) (opened_proc g b q) (start (with_constants i s) choices 0)
     opened_run =
-        ap (λ x. run x Cut o set nothing k (with_constants i s) choices 0) (its_implementation k m im)
-        ∙ ap (λ x. run_of x Cut o set nothing k (opened_impl g b (claims p) m) (with_constants i s) choices 0) (its_procedure depth p cs m.procedure ∙ ap (option_map (opened_proc g b)) iq)
+        ap (λ x. run x Cut o set j k (with_constants i s) choices 0) (its_implementation k m im)
+        ∙ ap (λ x. run_of x Cut o set j k (opened_impl g b (claims p) m) (with_constants i s) choices 0) (its_procedure depth p cs m.procedure ∙ ap (option_map (opened_proc g b)) iq)
         ∙ ap (λ vs. run_body by_specification (there vs) (opened_impl g b (claims p) m) (opened_proc g b q) (start (with_constants i s) choices 0)) (frame_opened g b q m)
 
     own_run : induction_run p set i k s choices ≡ run_body by_specification (context Cut p set i k m q s) m q (start s choices 0)
     own_run =
         ap (λ x. run x Cut p set i k s choices 0) im ∙ ap (λ x. run_of x Cut p set i k m s choices 0) iq
 
-    same_runs : all_hold p i (claims p) ≡ true → induction_run o set nothing k (with_constants i s) choices ≡ induction_run p set i k s choices
+    same_runs : all_hold p i (claims p) ≡ true → induction_run o set j k (with_constants i s) choices ≡ induction_run p set i k s choices
     same_runs t =
         opened_run
-        ∙ body_alike g b cs p o i set k ds s.globals (worth depth p i typed none) len (decls_alike depth p cs ds) (λ x h. decl_fair depth p cs ds globals_fair ds_fair x) (its_procedure depth p cs) procs_fair (λ a h. targets_alike depth p cs ds a res h) m q (claims p) body_fair its_proc.ensures_ (axiom_fair set k ds s.globals (claims p) (claims_typed p typed.axioms) parts.0) begins (wheres_fair (p.globals ++ ds) (each_append (FairDecl g b cs) p.globals ds globals_fair ds_fair)) its_proc.requires_ (start s choices 0) len t
+        ∙ body_alike g b F cs p o i j set k ds s.globals (worth depth p i j agree typed none) len (decls_alike depth p cs ds) (λ x h. decl_fair depth p cs ds globals_fair ds_fair x) (its_procedure depth p cs) procs_fair (λ a h. targets_alike depth p cs ds a res h) m q (claims p) body_fair its_proc.ensures_ (axiom_fair set k ds s.globals (claims p) (claims_typed p typed.axioms) parts.0) begins (wheres_fair (p.globals ++ ds) (each_append (FairDecl g b F cs) p.globals ds globals_fair ds_fair)) its_proc.requires_ (start s choices 0) len t
         ∙ sym own_run
 
-    blocked_run : all_hold p i (claims p) ≡ false → induction_run o set nothing k (with_constants i s) choices ≡ Blocked
+    blocked_run : all_hold p i (claims p) ≡ false → induction_run o set j k (with_constants i s) choices ≡ Blocked
     blocked_run t =
         opened_run
-        ∙ body_blocked g b cs p o i set k ds s.globals (worth depth p i typed none) len (decls_alike depth p cs ds) (λ x h. decl_fair depth p cs ds globals_fair ds_fair x) (its_procedure depth p cs) procs_fair (λ a h. targets_alike depth p cs ds a res h) m q (claims p) body_fair its_proc.ensures_ (axiom_fair set k ds s.globals (claims p) (claims_typed p typed.axioms) parts.0) begins (wheres_fair (p.globals ++ ds) (each_append (FairDecl g b cs) p.globals ds globals_fair ds_fair)) its_proc.requires_ (start s choices 0) len t
+        ∙ body_blocked g b F cs p o i j set k ds s.globals (worth depth p i j agree typed none) len (decls_alike depth p cs ds) (λ x h. decl_fair depth p cs ds globals_fair ds_fair x) (its_procedure depth p cs) procs_fair (λ a h. targets_alike depth p cs ds a res h) m q (claims p) body_fair its_proc.ensures_ (axiom_fair set k ds s.globals (claims p) (claims_typed p typed.axioms) parts.0) begins (wheres_fair (p.globals ++ ds) (each_append (FairDecl g b F cs) p.globals ds globals_fair ds_fair)) its_proc.requires_ (start s choices 0) len t
 
-  no_such : (set : ℕ → Bool) (k : ℕ) (s : State) (choices : List Choice) → slice_get p.implementations k ≡ None → induction_run o set nothing k (with_constants i s) choices ≡ induction_run p set i k s choices
+  no_such : (set : ℕ → Bool) (k : ℕ) (s : State) (choices : List Choice) → slice_get p.implementations k ≡ None → induction_run o set j k (with_constants i s) choices ≡ induction_run p set i k s choices
   no_such set k s choices e =
-      ap (λ x. run x Cut o set nothing k (with_constants i s) choices 0) (at_mapped (opened_impl g b (claims p)) p.implementations k ∙ ap (option_map (opened_impl g b (claims p))) e)
+      ap (λ x. run x Cut o set j k (with_constants i s) choices 0) (at_mapped (opened_impl g b (claims p)) p.implementations k ∙ ap (option_map (opened_impl g b (claims p))) e)
       ∙ sym (ap (λ x. run x Cut p set i k s choices 0) e)
 
-  pub runs_alike : (set : ℕ → Bool) (k : ℕ) (s : State) (choices : List Choice) → all_hold p i (claims p) ≡ true → length s.globals ≡ g → induction_run o set nothing k (with_constants i s) choices ≡ induction_run p set i k s choices
+  pub runs_alike : (set : ℕ → Bool) (k : ℕ) (s : State) (choices : List Choice) → all_hold p i (claims p) ≡ true → length s.globals ≡ g → induction_run o set j k (with_constants i s) choices ≡ induction_run p set i k s choices
   runs_alike set k s choices t len = on (slice_get p.implementations k) refl
     where
-      on : (x : Option Impl) → slice_get p.implementations k ≡ x → induction_run o set nothing k (with_constants i s) choices ≡ induction_run p set i k s choices
+      on : (x : Option Impl) → slice_get p.implementations k ≡ x → induction_run o set j k (with_constants i s) choices ≡ induction_run p set i k s choices
       on None e = no_such set k s choices e
       on (Some m) e =
           let t' = at_all (IsTypedImpl p) p.implementations k m typed.implementations e in
           same_runs set k m t'.procedure s choices e t'.is_there len t
 
-  pub failing_runs_meet : (set : ℕ → Bool) (k : ℕ) (s : State) (choices : List Choice) (spot : Spot) → length s.globals ≡ g → induction_run o set nothing k (with_constants i s) choices ≡ Failed spot → all_hold p i (claims p) ≡ true
+  pub failing_runs_meet : (set : ℕ → Bool) (k : ℕ) (s : State) (choices : List Choice) (spot : Spot) → length s.globals ≡ g → induction_run o set j k (with_constants i s) choices ≡ Failed spot → all_hold p i (claims p) ≡ true
   failing_runs_meet set k s choices spot len f =
       ⊎_elim (λ t. t) (λ t. absurd (on (slice_get p.implementations k) refl t)) (bool_cases (all_hold p i (claims p)))
     where
       on : (x : Option Impl) → slice_get p.implementations k ≡ x → all_hold p i (claims p) ≡ false → ⊥
       on None e t =
-          let r = sym (ap (λ x. run x Cut o set nothing k (with_constants i s) choices 0) (at_mapped (opened_impl g b (claims p)) p.implementations k ∙ ap (option_map (opened_impl g b (claims p))) e)) ∙ f in
+          let r = sym (ap (λ x. run x Cut o set j k (with_constants i s) choices 0) (at_mapped (opened_impl g b (claims p)) p.implementations k ∙ ap (option_map (opened_impl g b (claims p))) e)) ∙ f in
           let bad : ⊥ = cc in
           bad
       on (Some m) e t =
@@ -395,27 +395,32 @@ frame_types depth p k =
     on (Some m) =
         ap (λ q. types_of (frame_with q (opened_impl (length p.globals) (bodies_of depth p) (claims p) m))) (its_procedure depth p [] m.procedure) ∙ by m (procedure_of p m.procedure)
 
-nothing_meets : (depth : ℕ) (p : Prog) → Meets (opened_program depth p) nothing
-nothing_meets depth p = record { interp = record { constants = refl; tables = refl }; unique = refl; axioms = refl }
+-- tables of the program's functions are an interpretation that meets the opened program
+tables_meet : (depth : ℕ) (p : Prog) (i : Interp) → are_tables p.functions i.tables ≡ true → Meets (opened_program depth p) (tables_of i)
+tables_meet depth p i h =
+    record { interp = record { constants = refl; tables = bodiless_tables p.functions i.tables h }; unique = refl; axioms = refl }
 
-module _ (depth : ℕ) (p : Prog) (typed : IsTyped p) (res : IsResolved p) (none : HasNoRecursion p) (test : is_over_scalars true (opened_program depth p) ≡ true) (judged : list_all const_judged p.constants ≡ true) where
+module _ (depth : ℕ) (p : Prog) (typed : IsTyped p) (res : IsResolved p) (none : HasNoRecursion p) (test : is_over_plain p.functions (opened_program depth p) ≡ true) (judged : list_all const_judged p.constants ≡ true) where
   in_length : (s : State) → are_of (types_of p.globals) s.globals ≡ true → length s.globals ≡ length p.globals
   in_length s h = are_of_length (types_of p.globals) s.globals h ∙ types_length p.globals
 
-  pub opened_fails : (set : ℕ → Bool) (t : Place) (i : Interp) (s : State) (choices : List Choice) → Fails p set t i s choices → Fails (opened_program depth p) set t nothing (with_constants i s) choices
+  pub opened_fails : (set : ℕ → Bool) (t : Place) (i : Interp) (s : State) (choices : List Choice) → Fails p set t i s choices → Fails (opened_program depth p) set t (tables_of i) (with_constants i s) choices
   opened_fails set t i s choices f =
       record {
-        meets = nothing_meets depth p;
+        meets = tables_meet depth p i f.meets.interp.tables;
         state = record {
           globals = ap (λ ts. are_of ts (s.globals ++ i.constants)) (global_types depth p) ∙ are_of_both (types_of p.globals) (const_types p.constants) s.globals i.constants f.state.globals f.meets.interp.constants;
           frame = ap (λ ts. are_of ts s.frame) (frame_types depth p t.implementation) ∙ f.state.frame;
         };
-        fails = runs_alike depth p i typed res none test set t.implementation s choices (claims_hold p i judged (are_of_length (const_types p.constants) i.constants f.meets.interp.constants) ∙ both (are_distinct p.constants i.constants) (all_hold p i p.axioms) f.meets.unique f.meets.axioms) (in_length s f.state.globals) ∙ f.fails;
+        fails = runs_alike depth p i (tables_of i) (λ k h. refl) typed res none test set t.implementation s choices (claims_hold p i judged (are_of_length (const_types p.constants) i.constants f.meets.interp.constants) ∙ both (are_distinct p.constants i.constants) (all_hold p i p.axioms) f.meets.unique f.meets.axioms) (in_length s f.state.globals) ∙ f.fails;
       }
 
-  module _ (set : ℕ → Bool) (t : Place) (s : State) (choices : List Choice) (f : Fails (opened_program depth p) set t nothing s choices) where
+  module _ (set : ℕ → Bool) (t : Place) (j : Interp) (s : State) (choices : List Choice) (f : Fails (opened_program depth p) set t j s choices) where
     abbrev i : Interp
-    i = interp_in p s
+    i = interp_in p j s
+
+    agree : Agree p.functions (interp_in p j s) j
+    agree = tables_agree p.functions j.tables f.meets.interp.tables
 
     abbrev own : State
     own = without_constants p s
@@ -434,11 +439,11 @@ module _ (depth : ℕ) (p : Prog) (typed : IsTyped p) (res : IsResolved p) (none
     joined : with_constants i own ≡ s
     joined = ap (λ gs. record { globals = gs; frame = s.frame }) (taken_apart (length p.globals) s.globals)
 
-    as_joined : induction_run (opened_program depth p) set nothing t.implementation (with_constants i own) choices ≡ Failed t.spot
-    as_joined = ap (λ x. induction_run (opened_program depth p) set nothing t.implementation x choices) joined ∙ f.fails
+    as_joined : induction_run (opened_program depth p) set j t.implementation (with_constants i own) choices ≡ Failed t.spot
+    as_joined = ap (λ x. induction_run (opened_program depth p) set j t.implementation x choices) joined ∙ f.fails
 
     holds : all_hold p i (claims p) ≡ true
-    holds = failing_runs_meet depth p i typed res none test set t.implementation own choices t.spot (in_length own globals_typed) as_joined
+    holds = failing_runs_meet depth p i j agree typed res none test set t.implementation own choices t.spot (in_length own globals_typed) as_joined
 
     both_hold : (are_distinct p.constants i.constants && all_hold p i p.axioms) ≡ true
     both_hold = sym (claims_hold p i judged (are_of_length (const_types p.constants) i.constants constants_typed)) ∙ holds
@@ -447,7 +452,7 @@ module _ (depth : ℕ) (p : Prog) (typed : IsTyped p) (res : IsResolved p) (none
     program_fails =
         record {
           meets = record {
-            interp = record { constants = constants_typed; tables = blank_tables p.functions };
+            interp = record { constants = constants_typed; tables = are_tables_for p.functions j.tables f.meets.interp.tables };
             unique = and_left (are_distinct p.constants i.constants) (all_hold p i p.axioms) both_hold;
             axioms = and_right (are_distinct p.constants i.constants) (all_hold p i p.axioms) both_hold;
           };
@@ -455,11 +460,11 @@ module _ (depth : ℕ) (p : Prog) (typed : IsTyped p) (res : IsResolved p) (none
             globals = globals_typed;
             frame = sym (ap (λ ts. are_of ts s.frame) (frame_types depth p t.implementation)) ∙ f.state.frame;
           };
-          fails = sym (runs_alike depth p i typed res none test set t.implementation own choices holds (in_length own globals_typed)) ∙ as_joined;
+          fails = sym (runs_alike depth p i j agree typed res none test set t.implementation own choices holds (in_length own globals_typed)) ∙ as_joined;
         }
 
     -- the run is that of the program, whatever choices are given
-    pub program_runs : (others : List Choice) → induction_run p set i t.implementation own others ≡ induction_run (opened_program depth p) set nothing t.implementation s others
+    pub program_runs : (others : List Choice) → induction_run p set i t.implementation own others ≡ induction_run (opened_program depth p) set j t.implementation s others
     program_runs others =
-        sym (runs_alike depth p i typed res none test set t.implementation own others holds (in_length own globals_typed))
-        ∙ ap (λ x. induction_run (opened_program depth p) set nothing t.implementation x others) joined
+        sym (runs_alike depth p i j agree typed res none test set t.implementation own others holds (in_length own globals_typed))
+        ∙ ap (λ x. induction_run (opened_program depth p) set j t.implementation x others) joined

@@ -4,7 +4,7 @@ use Rattle.std.specs.Prelude.{◌&&◌, ◌||◌, if◌then◌else◌, ◌==◌,
 use Rattle.std.specs.List.{list_all}
 use Rattle.std.proofs.lemmas.Bool.{eqb-true}
 use Rattle.bg_ast.specs.Values.{Val, Num, Ty, BoolTy}
-use Rattle.bg_ast.specs.Syntax.{Var, Global, Local, Ex, Exs, Number, Fact, Constant, Read, Not, Negative, Binary, Apply, Select, Update, Old, NoMore, More, Clause, Guard, Star, Test, St, Skip, Then, Label, Assert, Assume, Havoc, Assign, Invoke, If, While, Break, Goto, Return, Decl, Proc, Prog}
+use Rattle.bg_ast.specs.Syntax.{Var, Global, Local, Ex, Exs, Number, Fact, Constant, Read, Not, Negative, Binary, Apply, Select, Update, Old, NoMore, More, Clause, Guard, Star, Test, St, Skip, Then, Label, Assert, Assume, Havoc, Assign, Invoke, If, While, Break, Goto, Return, Decl, Fun, Proc, Prog}
 use Rattle.bg_ast.specs.Execution.{Interp}
 use Rattle.bg_sense.specs.Eval.{ev, functions_of}
 use Rattle.bg_sense.specs.Types.{types_of}
@@ -16,10 +16,11 @@ use Rattle.bg_sense.specs.Resolved.{IsResolved}
 use Rattle.bg_sense.proofs.Bools.{and_left, and_right, both, bool_cases}
 use Rattle.bg_sense.proofs.Members.{In, member}
 use Rattle.bg_sense.proofs.Modified.{as_listed}
-use Rattle.bg_fits.specs.Scalars.{is_scalar, is_scalar_type, exs_pass, clause_passes, guard_passes, st_passes, decl_passes, decls_pass, is_declared}
+use Rattle.bg_fits.specs.Scalars.{is_scalar_type, exs_pass, clause_passes, guard_passes, st_passes, decl_passes, decls_pass, is_declared}
+use Rattle.bg_opened.proofs.Plain.{is_plain}
+use Rattle.bg_opened.proofs.Tables.{Agree, same_functions}
 use Rattle.bg_opened.specs.Exprs.{opened, all_opened}
 use Rattle.bg_opened.specs.Programs.{global_for, opened_clause, opened_guard, opened_st, opened_decl, opened_proc, bodies_of, opened_program}
-use Rattle.bg_opened.specs.Moments.{nothing}
 use Rattle.bg_opened.proofs.Places.{at_mapped}
 use Rattle.bg_opened.proofs.Worths.{ReadsBelow, EachReadsBelow, typed_reads, behind_at, front_at, opens_to, opened_worth, plain_worth}
 use Rattle.bg_opened.proofs.Runs.{Each, Fair, FairAll, FairVar, FairClause, FairGuard, FairDecl, FairSt}
@@ -133,6 +134,9 @@ module _ (depth : ℕ) (p : Prog) (cs : List Val) where
   abbrev b : ℕ → Option Ex
   b = bodies_of depth p
 
+  abbrev F : List Fun
+  F = p.functions
+
   abbrev o : Prog
   o = opened_program depth p
 
@@ -140,90 +144,90 @@ module _ (depth : ℕ) (p : Prog) (cs : List Val) where
   O = opened g b
 
   module _ (ds : List Decl) where
-    fair_one : (e : Ex) (t : Ty) → HasType e (sig_in p ds) t → is_scalar true (O e) ≡ true → Fair g b cs e
+    fair_one : (e : Ex) (t : Ty) → HasType e (sig_in p ds) t → is_plain F (O e) ≡ true → Fair g b F cs e
     fair_one e t h s = (subst (λ n. ReadsBelow n e) (types_length p.globals) (typed_reads e (sig_in p ds) t h), s)
 
-    fair_exs : (es : Exs) (ts : List Ty) → HaveTypes es (sig_in p ds) ts → exs_pass (is_scalar true) (all_opened g b es) ≡ true → FairAll g b cs es
+    fair_exs : (es : Exs) (ts : List Ty) → HaveTypes es (sig_in p ds) ts → exs_pass (is_plain F) (all_opened g b es) ≡ true → FairAll g b F cs es
     fair_exs NoMore ts h s = tt
     fair_exs (More e es) [] h s = absurd h
     fair_exs (More e es) (t ∷ ts) h s = (
-      fair_one e t h.0 (and_left (is_scalar true (O e)) _ s),
-      fair_exs es ts h.1 (and_right (is_scalar true (O e)) (exs_pass (is_scalar true) (all_opened g b es)) s),
+      fair_one e t h.0 (and_left (is_plain F (O e)) _ s),
+      fair_exs es ts h.1 (and_right (is_plain F (O e)) (exs_pass (is_plain F) (all_opened g b es)) s),
     )
 
-    pub fair_list : (es : List Ex) → Each (IsFormula (sig_in p ds)) es → list_all (is_scalar true) (map O es) ≡ true → Each (Fair g b cs) es
+    pub fair_list : (es : List Ex) → Each (IsFormula (sig_in p ds)) es → list_all (is_plain F) (map O es) ≡ true → Each (Fair g b F cs) es
     fair_list [] h s = tt
     fair_list (e ∷ es) h s = (
-      fair_one e BoolTy h.0.0 (and_left (is_scalar true (O e)) (list_all (is_scalar true) (map O es)) s),
-      fair_list es h.1 (and_right (is_scalar true (O e)) (list_all (is_scalar true) (map O es)) s),
+      fair_one e BoolTy h.0.0 (and_left (is_plain F (O e)) (list_all (is_plain F) (map O es)) s),
+      fair_list es h.1 (and_right (is_plain F (O e)) (list_all (is_plain F) (map O es)) s),
     )
 
-    pub fair_clauses : (n : ℕ) (ks : List Clause) → Each (λ k. IsFormula (sig_in p ds) k.says) ks → list_all (clause_passes n (is_scalar true)) (map (opened_clause g b) ks) ≡ true → Each (FairClause g b cs) ks
+    pub fair_clauses : (n : ℕ) (ks : List Clause) → Each (λ k. IsFormula (sig_in p ds) k.says) ks → list_all (clause_passes n (is_plain F)) (map (opened_clause g b) ks) ≡ true → Each (FairClause g b F cs) ks
     fair_clauses n [] h s = tt
     fair_clauses n (k ∷ ks) h s = (
-      fair_one k.says BoolTy h.0.0 (and_right (is_declared n k.candidate) (is_scalar true (O k.says)) (and_left (clause_passes n (is_scalar true) (opened_clause g b k)) (list_all (clause_passes n (is_scalar true)) (map (opened_clause g b) ks)) s)),
-      fair_clauses n ks h.1 (and_right (clause_passes n (is_scalar true) (opened_clause g b k)) (list_all (clause_passes n (is_scalar true)) (map (opened_clause g b) ks)) s),
+      fair_one k.says BoolTy h.0.0 (and_right (is_declared n k.candidate) (is_plain F (O k.says)) (and_left (clause_passes n (is_plain F) (opened_clause g b k)) (list_all (clause_passes n (is_plain F)) (map (opened_clause g b) ks)) s)),
+      fair_clauses n ks h.1 (and_right (clause_passes n (is_plain F) (opened_clause g b k)) (list_all (clause_passes n (is_plain F)) (map (opened_clause g b) ks)) s),
     )
 
-    pub fair_decls : (es : List Decl) → Each (λ d. All (IsFormula (sig_in p ds)) d.wheres) es → decls_pass (is_scalar_type true) (is_scalar true) (map (opened_decl g b) es) ≡ true → Each (FairDecl g b cs) es
+    pub fair_decls : (es : List Decl) → Each (λ d. All (IsFormula (sig_in p ds)) d.wheres) es → decls_pass (is_scalar_type true) (is_plain F) (map (opened_decl g b) es) ≡ true → Each (FairDecl g b F cs) es
     fair_decls [] h s = tt
     fair_decls (d ∷ es) h s = (
-      fair_list d.wheres (each_all (IsFormula (sig_in p ds)) d.wheres h.0) (and_right (is_scalar_type true d.ty) (list_all (is_scalar true) (map O d.wheres)) (and_left (decl_passes (is_scalar_type true) (is_scalar true) (opened_decl g b d)) (decls_pass (is_scalar_type true) (is_scalar true) (map (opened_decl g b) es)) s)),
-      fair_decls es h.1 (and_right (decl_passes (is_scalar_type true) (is_scalar true) (opened_decl g b d)) (decls_pass (is_scalar_type true) (is_scalar true) (map (opened_decl g b) es)) s),
+      fair_list d.wheres (each_all (IsFormula (sig_in p ds)) d.wheres h.0) (and_right (is_scalar_type true d.ty) (list_all (is_plain F) (map O d.wheres)) (and_left (decl_passes (is_scalar_type true) (is_plain F) (opened_decl g b d)) (decls_pass (is_scalar_type true) (is_plain F) (map (opened_decl g b) es)) s)),
+      fair_decls es h.1 (and_right (decl_passes (is_scalar_type true) (is_plain F) (opened_decl g b d)) (decls_pass (is_scalar_type true) (is_plain F) (map (opened_decl g b) es)) s),
     )
 
-    fair_guard : (e : Guard) → IsGuard (sig_in p ds) e → guard_passes (is_scalar true) (opened_guard g b e) ≡ true → FairGuard g b cs e
+    fair_guard : (e : Guard) → IsGuard (sig_in p ds) e → guard_passes (is_plain F) (opened_guard g b e) ≡ true → FairGuard g b F cs e
     fair_guard Star h s = tt
     fair_guard (Test e) h s = fair_one e BoolTy h.0 s
 
   -- ---- variables
 
-  fair_counted : (k n : ℕ) → k + n ≤ g → Each (FairVar g b cs) (map Global (count_from k n))
+  fair_counted : (k n : ℕ) → k + n ≤ g → Each (FairVar g b F cs) (map Global (count_from k n))
   fair_counted k zero h = tt
   fair_counted k (suc n) h = ((let l : k < g = omega arith in l), fair_counted (suc k) n (omega arith))
 
-  pub fair_modified : (q : Proc) → Each (FairVar g b cs) (modified p q)
+  pub fair_modified : (q : Proc) → Each (FairVar g b F cs) (modified p q)
   fair_modified q =
-      each_filter (FairVar g b cs) (is_among (map Global q.modifies)) (globals_of p) (fair_counted 0 g (omega arith))
+      each_filter (FairVar g b F cs) (is_among (map Global q.modifies)) (globals_of p) (fair_counted 0 g (omega arith))
 
-  fair_var : (q : Proc) (ds : List Decl) (x : Var) → MayChange (record { program = p; procedure = q; variables = ds }) x → FairVar g b cs x
+  fair_var : (q : Proc) (ds : List Decl) (x : Var) → MayChange (record { program = p; procedure = q; variables = ds }) x → FairVar g b F cs x
   fair_var q ds (Global x) h =
-      each_in (FairVar g b cs) (modified p q) (Global x) (fair_modified q) (member (modified p q) (Global x) h)
+      each_in (FairVar g b F cs) (modified p q) (Global x) (fair_modified q) (member (modified p q) (Global x) h)
   fair_var q ds (Local x) h = tt
 
-  pub fair_vars : (q : Proc) (ds : List Decl) (xs : List Var) → All (MayChange (record { program = p; procedure = q; variables = ds })) xs → Each (FairVar g b cs) xs
+  pub fair_vars : (q : Proc) (ds : List Decl) (xs : List Var) → All (MayChange (record { program = p; procedure = q; variables = ds })) xs → Each (FairVar g b F cs) xs
   fair_vars q ds xs h =
-      each_weaker (FairVar g b cs) (MayChange (record { program = p; procedure = q; variables = ds })) xs (fair_var q ds) (each_all (MayChange (record { program = p; procedure = q; variables = ds })) xs h)
+      each_weaker (FairVar g b F cs) (MayChange (record { program = p; procedure = q; variables = ds })) xs (fair_var q ds) (each_all (MayChange (record { program = p; procedure = q; variables = ds })) xs h)
 
   -- ---- statements
 
-  pub fair_st : (n : ℕ) (q : Proc) (ds : List Decl) (inside before : List ℕ) (s : St) → IsTypedStatement (record { program = p; procedure = q; variables = ds }) inside before s → st_passes n (is_scalar true) (opened_st g b s) ≡ true → FairSt g b cs s
+  pub fair_st : (n : ℕ) (q : Proc) (ds : List Decl) (inside before : List ℕ) (s : St) → IsTypedStatement (record { program = p; procedure = q; variables = ds }) inside before s → st_passes n (is_plain F) (opened_st g b s) ≡ true → FairSt g b F cs s
   fair_st n q ds inside before Skip h s = tt
   fair_st n q ds inside before (Then x y) h s = (
-    fair_st n q ds inside _ x h.0 (and_left (st_passes n (is_scalar true) (opened_st g b x)) (st_passes n (is_scalar true) (opened_st g b y)) s),
-    fair_st n q ds inside before y h.1 (and_right (st_passes n (is_scalar true) (opened_st g b x)) (st_passes n (is_scalar true) (opened_st g b y)) s),
+    fair_st n q ds inside _ x h.0 (and_left (st_passes n (is_plain F) (opened_st g b x)) (st_passes n (is_plain F) (opened_st g b y)) s),
+    fair_st n q ds inside before y h.1 (and_right (st_passes n (is_plain F) (opened_st g b x)) (st_passes n (is_plain F) (opened_st g b y)) s),
   )
   fair_st n q ds inside before (Label l) h s = tt
   fair_st n q ds inside before (Assert k) h s =
-      fair_one ds k.says BoolTy h.1.0 (and_right (is_declared n k.candidate) (is_scalar true (O k.says)) s)
+      fair_one ds k.says BoolTy h.1.0 (and_right (is_declared n k.candidate) (is_plain F (O k.says)) s)
   fair_st n q ds inside before (Assume e) h s = fair_one ds e BoolTy h.0 s
   fair_st n q ds inside before (Havoc xs) h s = fair_vars q ds xs h
   fair_st n q ds inside before (Assign xs es) h s = (fair_vars q ds xs h.1, fair_exs ds es _ h.2 s)
   fair_st n q ds inside before (Invoke k) h s =
       (fair_vars q ds k.takes h.1.1.1.1.1.1.0, fair_exs ds k.args _ h.1.1.0 s)
   fair_st n q ds inside before (If i e x y) h s = (
-    fair_guard ds e h.0 (and_left (guard_passes (is_scalar true) (opened_guard g b e)) _ s),
+    fair_guard ds e h.0 (and_left (guard_passes (is_plain F) (opened_guard g b e)) _ s),
     (
-      fair_st n q ds (i ∷ inside) before x h.1 (and_left (st_passes n (is_scalar true) (opened_st g b x)) (st_passes n (is_scalar true) (opened_st g b y)) (and_right (guard_passes (is_scalar true) (opened_guard g b e)) _ s)),
-      fair_st n q ds (i ∷ inside) before y h.2 (and_right (st_passes n (is_scalar true) (opened_st g b x)) (st_passes n (is_scalar true) (opened_st g b y)) (and_right (guard_passes (is_scalar true) (opened_guard g b e)) _ s)),
+      fair_st n q ds (i ∷ inside) before x h.1 (and_left (st_passes n (is_plain F) (opened_st g b x)) (st_passes n (is_plain F) (opened_st g b y)) (and_right (guard_passes (is_plain F) (opened_guard g b e)) _ s)),
+      fair_st n q ds (i ∷ inside) before y h.2 (and_right (st_passes n (is_plain F) (opened_st g b x)) (st_passes n (is_plain F) (opened_st g b y)) (and_right (guard_passes (is_plain F) (opened_guard g b e)) _ s)),
     ),
   )
   fair_st n q ds inside before (While i e is x) h s =
-      let t = and_right (guard_passes (is_scalar true) (opened_guard g b e)) (list_all (clause_passes n (is_scalar true)) (map (opened_clause g b) is) && st_passes n (is_scalar true) (opened_st g b x)) s in (
-        fair_guard ds e h.0 (and_left (guard_passes (is_scalar true) (opened_guard g b e)) _ s),
+      let t = and_right (guard_passes (is_plain F) (opened_guard g b e)) (list_all (clause_passes n (is_plain F)) (map (opened_clause g b) is) && st_passes n (is_plain F) (opened_st g b x)) s in (
+        fair_guard ds e h.0 (and_left (guard_passes (is_plain F) (opened_guard g b e)) _ s),
         (
-          fair_clauses ds n is (each_all (λ k. IsFormula (sig_in p ds) k.says) is h.1) (and_left (list_all (clause_passes n (is_scalar true)) (map (opened_clause g b) is)) (st_passes n (is_scalar true) (opened_st g b x)) t),
-          fair_st n q ds (i ∷ inside) before x h.2 (and_right (list_all (clause_passes n (is_scalar true)) (map (opened_clause g b) is)) (st_passes n (is_scalar true) (opened_st g b x)) t),
+          fair_clauses ds n is (each_all (λ k. IsFormula (sig_in p ds) k.says) is h.1) (and_left (list_all (clause_passes n (is_plain F)) (map (opened_clause g b) is)) (st_passes n (is_plain F) (opened_st g b x)) t),
+          fair_st n q ds (i ∷ inside) before x h.2 (and_right (list_all (clause_passes n (is_plain F)) (map (opened_clause g b) is)) (st_passes n (is_plain F) (opened_st g b x)) t),
         ),
       )
   fair_st n q ds inside before (Break i) h s = tt
@@ -263,7 +267,7 @@ module _ (depth : ℕ) (p : Prog) (cs : List Val) where
     changes_alike (Goto ls) x = refl
     changes_alike Return x = refl
 
-  among_none : (xs : List Var) (y : ℕ) → Each (FairVar g b cs) xs → g ≤ y → is_among xs (Global y) ≡ false
+  among_none : (xs : List Var) (y : ℕ) → Each (FairVar g b F cs) xs → g ≤ y → is_among xs (Global y) ≡ false
   among_none [] y h l = refl
   among_none (Global x ∷ xs) y h l =
       or_false (x == y) (is_among xs (Global y)) (numbers_apart x y (let m : x < g = h.0 in omega arith)) (among_none xs y h.1 l)
@@ -273,7 +277,7 @@ module _ (depth : ℕ) (p : Prog) (cs : List Val) where
   modified_none None y l = refl
   modified_none (Some q) y l = among_none (modified p q) y (fair_modified q) l
 
-  no_change : (s : St) → FairSt g b cs s → (y : ℕ) → g ≤ y → may_change p s (Global y) ≡ false
+  no_change : (s : St) → FairSt g b F cs s → (y : ℕ) → g ≤ y → may_change p s (Global y) ≡ false
   no_change Skip h y l = refl
   no_change (Then u v) h y l =
       or_false (may_change p u (Global y)) (may_change p v (Global y)) (no_change u h.0 y l) (no_change v h.1 y l)
@@ -291,11 +295,11 @@ module _ (depth : ℕ) (p : Prog) (cs : List Val) where
   no_change (Goto ls) h y l = refl
   no_change Return h y l = refl
 
-  none_changed : (s : St) → FairSt g b cs s → (k n : ℕ) → g ≤ k → Each (λ x. may_change p s x ≡ false) (map Global (count_from k n))
+  none_changed : (s : St) → FairSt g b F cs s → (k n : ℕ) → g ≤ k → Each (λ x. may_change p s x ≡ false) (map Global (count_from k n))
   none_changed s h k zero l = tt
   none_changed s h k (suc n) l = (no_change s h k l, none_changed s h (suc k) n (omega arith))
 
-  fair_locals : (k n : ℕ) → Each (FairVar g b cs) (map Local (count_from k n))
+  fair_locals : (k n : ℕ) → Each (FairVar g b F cs) (map Local (count_from k n))
   fair_locals k zero = tt
   fair_locals k (suc n) = (tt, fair_locals (suc k) n)
 
@@ -308,7 +312,7 @@ module _ (depth : ℕ) (p : Prog) (cs : List Val) where
       ∙ map_append Global (count_from 0 g) (count_from (0 + g) (length p.constants))
       ∙ ap (λ n. map Global (count_from 0 g) ++ map Global (count_from n (length p.constants))) f
 
-  pub targets_alike : (ds : List Decl) (s : St) → IsResolved p → FairSt g b cs s → (filter (may_change o (opened_st g b s)) (variables_in o (map (opened_decl g b) ds)) ≡ filter (may_change p s) (variables_in p ds)) × Each (FairVar g b cs) (filter (may_change p s) (variables_in p ds))
+  pub targets_alike : (ds : List Decl) (s : St) → IsResolved p → FairSt g b F cs s → (filter (may_change o (opened_st g b s)) (variables_in o (map (opened_decl g b) ds)) ≡ filter (may_change p s) (variables_in p ds)) × Each (FairVar g b F cs) (filter (may_change p s) (variables_in p ds))
   targets_alike ds s res h =
       let K = map Global (count_from g (length p.constants)) in
       let L = map Local (count_from 0 (length ds)) in
@@ -321,7 +325,7 @@ module _ (depth : ℕ) (p : Prog) (cs : List Val) where
             ∙ ap (λ l. (filter f (globals_of p) ++ l) ++ filter f L) (filter_none f K (none_changed s h g (length p.constants) (omega arith)))
             ∙ ap (λ l. l ++ filter f L) (nil_behind (filter f (globals_of p)))
             ∙ sym (filter_append f (globals_of p) L),
-        each_filter (FairVar g b cs) f (variables_in p ds) (each_append (FairVar g b cs) (globals_of p) L (fair_counted 0 g (omega arith)) (fair_locals 0 (length ds))),
+        each_filter (FairVar g b F cs) f (variables_in p ds) (each_append (FairVar g b F cs) (globals_of p) L (fair_counted 0 g (omega arith)) (fair_locals 0 (length ds))),
       )
     where
       nil_behind : (xs : List Var) → xs ++ [] ≡ xs
@@ -330,24 +334,24 @@ module _ (depth : ℕ) (p : Prog) (cs : List Val) where
 
   -- ---- declarations
 
-  pub decls_alike : (ds : List Decl) (x : Var) → FairVar g b cs x → decl_in o (map (opened_decl g b) ds) x ≡ option_map (opened_decl g b) (decl_in p ds x)
+  pub decls_alike : (ds : List Decl) (x : Var) → FairVar g b F cs x → decl_in o (map (opened_decl g b) ds) x ≡ option_map (opened_decl g b) (decl_in p ds x)
   decls_alike ds (Global x) h =
       front_at (map (opened_decl g b) p.globals) (map global_for p.constants) x (subst (λ n. x < n) (sym (map_length (opened_decl g b) p.globals)) h)
       ∙ at_mapped (opened_decl g b) p.globals x
   decls_alike ds (Local x) h = at_mapped (opened_decl g b) ds x
 
-  wheres_at_fair : (ds : List Decl) (x : ℕ) → Each (FairDecl g b cs) ds → Each (Fair g b cs) (wheres_in (slice_get ds x))
+  wheres_at_fair : (ds : List Decl) (x : ℕ) → Each (FairDecl g b F cs) ds → Each (Fair g b F cs) (wheres_in (slice_get ds x))
   wheres_at_fair [] x h = tt
   wheres_at_fair (d ∷ ds) zero h = h.0
   wheres_at_fair (d ∷ ds) (suc x) h = wheres_at_fair ds x h.1
 
-  pub decl_fair : (ds : List Decl) → Each (FairDecl g b cs) p.globals → Each (FairDecl g b cs) ds → (x : Var) → Each (Fair g b cs) (wheres_in (decl_in p ds x))
+  pub decl_fair : (ds : List Decl) → Each (FairDecl g b F cs) p.globals → Each (FairDecl g b F cs) ds → (x : Var) → Each (Fair g b F cs) (wheres_in (decl_in p ds x))
   decl_fair ds h k (Global x) = wheres_at_fair p.globals x h
   decl_fair ds h k (Local x) = wheres_at_fair ds x k
 
 -- ---- worth
 
-module _ (depth : ℕ) (p : Prog) (i : Interp) (typed : IsTyped p) (none : HasNoRecursion p) where
+module _ (depth : ℕ) (p : Prog) (i j : Interp) (agree : Agree p.functions i j) (typed : IsTyped p) (none : HasNoRecursion p) where
   abbrev n : ℕ
   n = length p.globals
 
@@ -358,7 +362,7 @@ module _ (depth : ℕ) (p : Prog) (i : Interp) (typed : IsTyped p) (none : HasNo
   begins_with : (gs : List Val) → length gs ≡ n → (x : ℕ) → x < n → Rattle.bg_sense.specs.Eval.value_at (gs ++ i.constants) x ≡ Rattle.bg_sense.specs.Eval.value_at gs x
   begins_with gs l x h = ap (λ v. unwrap_or v (Num (pos 0))) (front_at gs i.constants x (omega arith))
 
-  pub worth : (e : Ex) (gs bs r : List Val) → length gs ≡ n → length bs ≡ n → Fair n (bodies_of depth p) i.constants e → ev (opened n (bodies_of depth p) e) (record { functions = functions_of (opened_program depth p) nothing; constants = []; globals = gs ++ i.constants; before = bs ++ i.constants; frame = r }) ≡ ev e (record { functions = functions_of p i; constants = i.constants; globals = gs; before = bs; frame = r })
+  pub worth : (e : Ex) (gs bs r : List Val) → length gs ≡ n → length bs ≡ n → Fair n (bodies_of depth p) p.functions i.constants e → ev (opened n (bodies_of depth p) e) (record { functions = functions_of (opened_program depth p) j; constants = j.constants; globals = gs ++ i.constants; before = bs ++ i.constants; frame = r }) ≡ ev e (record { functions = functions_of p i; constants = i.constants; globals = gs; before = bs; frame = r })
   worth e gs bs r l m h =
-      plain_worth (functions_of (opened_program depth p) nothing) (functions_of p i) [] [] (gs ++ i.constants) (bs ++ i.constants) (opened n (bodies_of depth p) e) r (gs ++ i.constants) h.1
-      ∙ opened_worth (functions_of p i) n n i.constants [] (bodies_of depth p) (opens_to p i n [] none typed.bodies (λ f fn x q s. (typed.plain_bodies f fn x q s).1) depth) e gs bs (gs ++ i.constants) (bs ++ i.constants) r (constants_behind gs l) (constants_behind bs m) (begins_with gs l) (begins_with bs m) h.0
+      plain_worth p.functions (functions_of (opened_program depth p) j) (functions_of p i) (same_functions depth p i j agree) j.constants j.constants (bs ++ i.constants) (opened n (bodies_of depth p) e) r (gs ++ i.constants) h.1
+      ∙ opened_worth (functions_of p i) n n i.constants j.constants (bodies_of depth p) (opens_to p i n j.constants none typed.bodies (λ f fn x q s. (typed.plain_bodies f fn x q s).1) depth) e gs bs (gs ++ i.constants) (bs ++ i.constants) r (constants_behind gs l) (constants_behind bs m) (begins_with gs l) (begins_with bs m) h.0

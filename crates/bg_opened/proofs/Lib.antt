@@ -1,3 +1,5 @@
+pub mod Plain
+pub mod Tables
 pub mod Places
 pub mod Worths
 pub mod Typing

@@ -11,11 +11,12 @@ use Rattle.bg_sense.specs.Typed.{IsLinear, HasNoOld, IsFormula, IsGuard, Around,
 use Rattle.bg_sense.specs.Recursion.{HasNoRecursion}
 use Rattle.bg_sense.specs.Resolved.{IsResolved}
 use Rattle.bg_sense.proofs.Bools.{and_left, and_right}
-use Rattle.bg_fits.specs.Scalars.{is_scalar, is_scalar_type, exs_pass, clause_passes, guard_passes, st_passes, decl_passes, decls_pass, proc_passes, impl_passes, is_declared, is_over_scalars}
+use Rattle.bg_fits.specs.Scalars.{is_scalar_type, exs_pass, clause_passes, guard_passes, st_passes, decl_passes, decls_pass, proc_passes, impl_passes, is_declared}
+use Rattle.bg_opened.proofs.Plain.{is_plain, is_over_plain}
+use Rattle.bg_opened.proofs.Tables.{no_body}
 use Rattle.bg_opened.specs.Exprs.{opened, all_opened, bodies_to}
 use Rattle.bg_opened.specs.Unique.{claims}
-use Rattle.bg_opened.specs.Programs.{global_for, supposing, opened_clause, opened_guard, opened_call, opened_st, opened_decl, opened_proc, opened_impl, bodies_of, opened_program}
-use Rattle.bg_opened.specs.Moments.{nothing}
+use Rattle.bg_opened.specs.Programs.{global_for, bodiless, supposing, opened_clause, opened_guard, opened_call, opened_st, opened_decl, opened_proc, opened_impl, bodies_of, opened_program}
 use Rattle.bg_opened.proofs.Places.{at_mapped}
 use Rattle.bg_opened.proofs.Worths.{within, front_at, opened_no_old, opens_to}
 use Rattle.bg_opened.proofs.Typing.{op_map, opened_typed, bodies_typed, BodiesTyped, plain_typed, opened_linear, all_opened_linear, bodies_linear}
@@ -59,12 +60,15 @@ module _ (cts : List Ty) (fs : List Fun) (r : List Ty) where
     all_framed_typed (More e es) [] h = absurd h
     all_framed_typed (More e es) (t ∷ ts) h = (framed_typed e t h.0, all_framed_typed es ts h.1)
 
-module _ (depth : ℕ) (p : Prog) (typed : IsTyped p) (res : IsResolved p) (none : HasNoRecursion p) (test : is_over_scalars true (opened_program depth p) ≡ true) where
+module _ (depth : ℕ) (p : Prog) (typed : IsTyped p) (res : IsResolved p) (none : HasNoRecursion p) (test : is_over_plain p.functions (opened_program depth p) ≡ true) where
   abbrev g : ℕ
   g = length p.globals
 
   abbrev b : ℕ → Option Ex
   b = bodies_of depth p
+
+  abbrev F : List Fun
+  F = p.functions
 
   abbrev o : Prog
   o = opened_program depth p
@@ -87,7 +91,7 @@ module _ (depth : ℕ) (p : Prog) (typed : IsTyped p) (res : IsResolved p) (none
   -- ---- expressions
 
   abbrev Plain : List Ty → List Ty → Sig
-  Plain gs r = record { constants = []; functions = []; globals = gs; frame = r }
+  Plain gs r = record { constants = []; functions = map bodiless F; globals = gs; frame = r }
 
   here : g ≡ length gts
   here = sym (types_length p.globals)
@@ -110,25 +114,25 @@ module _ (depth : ℕ) (p : Prog) (typed : IsTyped p) (res : IsResolved p) (none
   as_declared ds e t h =
       subst (λ gs. HasType e (Plain gs (types_of (map OD ds))) t) (sym (global_types depth p)) (subst (λ r. HasType e (Plain (gts ++ cts) r) t) (sym (types_opened g b ds)) h)
 
-  typed_one : (ds : List Decl) (e : Ex) (t : Ty) → HasType e (sig_in p ds) t → is_scalar true (O e) ≡ true → HasType (O e) (sig_in o (map OD ds)) t
+  typed_one : (ds : List Decl) (e : Ex) (t : Ty) → HasType e (sig_in p ds) t → is_plain F (O e) ≡ true → HasType (O e) (sig_in o (map OD ds)) t
   typed_one ds e t h s =
       as_declared ds (O e) t (plain_typed [] p.functions (gts ++ cts) (types_of ds) (O e) t s (opened_typed gts cts p.functions g here b own_bodies gts in_front (types_of ds) e t h))
 
   linear_bodies : (f : ℕ) (x : Ex) → b f ≡ Some x → IsLinear x
   linear_bodies = bodies_linear g p.functions (λ f fn x e q. (typed.plain_bodies f fn x e q).0) depth
 
-  formula_one : (ds : List Decl) (e : Ex) → IsFormula (sig_in p ds) e → is_scalar true (O e) ≡ true → IsFormula (sig_in o (map OD ds)) (O e)
+  formula_one : (ds : List Decl) (e : Ex) → IsFormula (sig_in p ds) e → is_plain F (O e) ≡ true → IsFormula (sig_in o (map OD ds)) (O e)
   formula_one ds e h s = (typed_one ds e BoolTy h.0 s, opened_linear g b linear_bodies e h.1)
 
-  exs_typed : (ds : List Decl) (es : Exs) (ts : List Ty) → HaveTypes es (sig_in p ds) ts → exs_pass (is_scalar true) (all_opened g b es) ≡ true → HaveTypes (all_opened g b es) (sig_in o (map OD ds)) ts
+  exs_typed : (ds : List Decl) (es : Exs) (ts : List Ty) → HaveTypes es (sig_in p ds) ts → exs_pass (is_plain F) (all_opened g b es) ≡ true → HaveTypes (all_opened g b es) (sig_in o (map OD ds)) ts
   exs_typed ds NoMore ts h s = h
   exs_typed ds (More e es) [] h s = absurd h
   exs_typed ds (More e es) (t ∷ ts) h s = (
-    typed_one ds e t h.0 (and_left (is_scalar true (O e)) (exs_pass (is_scalar true) (all_opened g b es)) s),
-    exs_typed ds es ts h.1 (and_right (is_scalar true (O e)) (exs_pass (is_scalar true) (all_opened g b es)) s),
+    typed_one ds e t h.0 (and_left (is_plain F (O e)) (exs_pass (is_plain F) (all_opened g b es)) s),
+    exs_typed ds es ts h.1 (and_right (is_plain F (O e)) (exs_pass (is_plain F) (all_opened g b es)) s),
   )
 
-  bare_formula : (ds : List Decl) (e : Ex) → IsFormula (sig_in (record p { globals = [] }) []) e → is_scalar true (O e) ≡ true → IsFormula (sig_in o (map OD ds)) (O e)
+  bare_formula : (ds : List Decl) (e : Ex) → IsFormula (sig_in (record p { globals = [] }) []) e → is_plain F (O e) ≡ true → IsFormula (sig_in o (map OD ds)) (O e)
   bare_formula ds e h s = (
     as_declared ds (O e) BoolTy (plain_typed [] p.functions (gts ++ cts) (types_of ds) (O e) BoolTy s (opened_typed gts cts p.functions g here b own_bodies [] nowhere (types_of ds) e BoolTy (framed_typed cts p.functions (types_of ds) e BoolTy h.0))),
     opened_linear g b linear_bodies e h.1,
@@ -136,49 +140,49 @@ module _ (depth : ℕ) (p : Prog) (typed : IsTyped p) (res : IsResolved p) (none
 
   no_old_bodies : (f : ℕ) (x : Ex) → b f ≡ Some x → HasNoOld x
   no_old_bodies f x e =
-      (opens_to p nothing g [] none typed.bodies (λ h fn y q s. (typed.plain_bodies h fn y q s).1) depth f x e).no_old
+      (opens_to p (record { constants = []; tables = [] }) g [] none typed.bodies (λ h fn y q s. (typed.plain_bodies h fn y q s).1) depth f x e).no_old
 
   -- ---- lists
 
-  list_typed : (ds : List Decl) (es : List Ex) → Each (IsFormula (sig_in p ds)) es → list_all (is_scalar true) (map O es) ≡ true → Each (IsFormula (sig_in o (map OD ds))) (map O es)
+  list_typed : (ds : List Decl) (es : List Ex) → Each (IsFormula (sig_in p ds)) es → list_all (is_plain F) (map O es) ≡ true → Each (IsFormula (sig_in o (map OD ds))) (map O es)
   list_typed ds [] h s = tt
   list_typed ds (e ∷ es) h s = (
-    formula_one ds e h.0 (and_left (is_scalar true (O e)) (list_all (is_scalar true) (map O es)) s),
-    list_typed ds es h.1 (and_right (is_scalar true (O e)) (list_all (is_scalar true) (map O es)) s),
+    formula_one ds e h.0 (and_left (is_plain F (O e)) (list_all (is_plain F) (map O es)) s),
+    list_typed ds es h.1 (and_right (is_plain F (O e)) (list_all (is_plain F) (map O es)) s),
   )
 
   abbrev Clauses : List Clause → Bool
-  Clauses ks = list_all (clause_passes n (is_scalar true)) (map (opened_clause g b) ks)
+  Clauses ks = list_all (clause_passes n (is_plain F)) (map (opened_clause g b) ks)
 
-  clause_scalar : (k : Clause) (ks : List Clause) → Clauses (k ∷ ks) ≡ true → is_scalar true (O k.says) ≡ true
+  clause_scalar : (k : Clause) (ks : List Clause) → Clauses (k ∷ ks) ≡ true → is_plain F (O k.says) ≡ true
   clause_scalar k ks s =
-      and_right (is_declared n k.candidate) (is_scalar true (O k.says)) (and_left (clause_passes n (is_scalar true) (opened_clause g b k)) (Clauses ks) s)
+      and_right (is_declared n k.candidate) (is_plain F (O k.says)) (and_left (clause_passes n (is_plain F) (opened_clause g b k)) (Clauses ks) s)
 
   clauses_typed : (ds : List Decl) (ks : List Clause) → Each (λ k. IsFormula (sig_in p ds) k.says) ks → Clauses ks ≡ true → Each (λ k. IsFormula (sig_in o (map OD ds)) k.says) (map (opened_clause g b) ks)
   clauses_typed ds [] h s = tt
   clauses_typed ds (k ∷ ks) h s = (
     formula_one ds k.says h.0 (clause_scalar k ks s),
-    clauses_typed ds ks h.1 (and_right (clause_passes n (is_scalar true) (opened_clause g b k)) (Clauses ks) s),
+    clauses_typed ds ks h.1 (and_right (clause_passes n (is_plain F) (opened_clause g b k)) (Clauses ks) s),
   )
 
   plain_clauses_typed : (ds : List Decl) (ks : List Clause) → Each (λ k. IsFormula (sig_in p ds) k.says × HasNoOld k.says) ks → Clauses ks ≡ true → Each (λ k. IsFormula (sig_in o (map OD ds)) k.says × HasNoOld k.says) (map (opened_clause g b) ks)
   plain_clauses_typed ds [] h s = tt
   plain_clauses_typed ds (k ∷ ks) h s = (
     (formula_one ds k.says h.0.0 (clause_scalar k ks s), opened_no_old g b no_old_bodies k.says h.0.1),
-    plain_clauses_typed ds ks h.1 (and_right (clause_passes n (is_scalar true) (opened_clause g b k)) (Clauses ks) s),
+    plain_clauses_typed ds ks h.1 (and_right (clause_passes n (is_plain F) (opened_clause g b k)) (Clauses ks) s),
   )
 
   abbrev Decls : List Decl → Bool
-  Decls es = decls_pass (is_scalar_type true) (is_scalar true) (map OD es)
+  Decls es = decls_pass (is_scalar_type true) (is_plain F) (map OD es)
 
   decls_typed : (ds es : List Decl) → Each (λ d. All (IsFormula (sig_in p ds)) d.wheres) es → Decls es ≡ true → Each (λ d. All (IsFormula (sig_in o (map OD ds))) d.wheres) (map OD es)
   decls_typed ds [] h s = tt
   decls_typed ds (d ∷ es) h s = (
-    all_each (IsFormula (sig_in o (map OD ds))) (map O d.wheres) (list_typed ds d.wheres (each_all (IsFormula (sig_in p ds)) d.wheres h.0) (and_right (is_scalar_type true d.ty) (list_all (is_scalar true) (map O d.wheres)) (and_left (decl_passes (is_scalar_type true) (is_scalar true) (OD d)) (Decls es) s))),
-    decls_typed ds es h.1 (and_right (decl_passes (is_scalar_type true) (is_scalar true) (OD d)) (Decls es) s),
+    all_each (IsFormula (sig_in o (map OD ds))) (map O d.wheres) (list_typed ds d.wheres (each_all (IsFormula (sig_in p ds)) d.wheres h.0) (and_right (is_scalar_type true d.ty) (list_all (is_plain F) (map O d.wheres)) (and_left (decl_passes (is_scalar_type true) (is_plain F) (OD d)) (Decls es) s))),
+    decls_typed ds es h.1 (and_right (decl_passes (is_scalar_type true) (is_plain F) (OD d)) (Decls es) s),
   )
 
-  guard_typed : (ds : List Decl) (e : Guard) → IsGuard (sig_in p ds) e → guard_passes (is_scalar true) (opened_guard g b e) ≡ true → IsGuard (sig_in o (map OD ds)) (opened_guard g b e)
+  guard_typed : (ds : List Decl) (e : Guard) → IsGuard (sig_in p ds) e → guard_passes (is_plain F) (opened_guard g b e) ≡ true → IsGuard (sig_in o (map OD ds)) (opened_guard g b e)
   guard_typed ds Star h s = tt
   guard_typed ds (Test e) h s = formula_one ds e h s
 
@@ -203,7 +207,7 @@ module _ (depth : ℕ) (p : Prog) (typed : IsTyped p) (res : IsResolved p) (none
   type_if None = refl
   type_if (Some d) = refl
 
-  types_alike : (ds : List Decl) (xs : List Var) → Each (FairVar g b []) xs → types_in o (map OD ds) xs ≡ types_in p ds xs
+  types_alike : (ds : List Decl) (xs : List Var) → Each (FairVar g b F []) xs → types_in o (map OD ds) xs ≡ types_in p ds xs
   types_alike ds [] h = refl
   types_alike ds (x ∷ xs) h =
       ap (λ t. t ∷ types_in o (map OD ds) xs) (ap type_in (decls_alike depth p [] ds x h.0) ∙ type_if (decl_in p ds x))
@@ -228,7 +232,7 @@ module _ (depth : ℕ) (p : Prog) (typed : IsTyped p) (res : IsResolved p) (none
     changes : (xs : List Var) → All (MayChange R) xs → All (MayChange R') xs
     changes xs h k d l = change (slice_index_or xs k d) (h k d l)
 
-    call_typed : (k : Call) → IsTypedCall R k → exs_pass (is_scalar true) (all_opened g b k.args) ≡ true → IsTypedCall R' (opened_call g b k)
+    call_typed : (k : Call) → IsTypedCall R k → exs_pass (is_plain F) (all_opened g b k.args) ≡ true → IsTypedCall R' (opened_call g b k)
     call_typed k h s =
         let c = h.0 in
         let fair = fair_vars depth p [] q ds k.takes h.1.1.1.1.1.1.0 in (
@@ -254,15 +258,15 @@ module _ (depth : ℕ) (p : Prog) (typed : IsTyped p) (res : IsResolved p) (none
           ),
         )
 
-    st_typed : (inside before : List ℕ) (s : St) → IsTypedStatement R inside before s → st_passes n (is_scalar true) (opened_st g b s) ≡ true → IsTypedStatement R' inside before (opened_st g b s)
+    st_typed : (inside before : List ℕ) (s : St) → IsTypedStatement R inside before s → st_passes n (is_plain F) (opened_st g b s) ≡ true → IsTypedStatement R' inside before (opened_st g b s)
     st_typed inside before Skip h s = tt
     st_typed inside before (Then x y) h s = (
-      subst (λ l. IsTypedStatement R' inside (l ++ before) (opened_st g b x)) (sym (labels_alike y)) (st_typed inside (labels_of y ++ before) x h.0 (and_left (st_passes n (is_scalar true) (opened_st g b x)) (st_passes n (is_scalar true) (opened_st g b y)) s)),
-      st_typed inside before y h.1 (and_right (st_passes n (is_scalar true) (opened_st g b x)) (st_passes n (is_scalar true) (opened_st g b y)) s),
+      subst (λ l. IsTypedStatement R' inside (l ++ before) (opened_st g b x)) (sym (labels_alike y)) (st_typed inside (labels_of y ++ before) x h.0 (and_left (st_passes n (is_plain F) (opened_st g b x)) (st_passes n (is_plain F) (opened_st g b y)) s)),
+      st_typed inside before y h.1 (and_right (st_passes n (is_plain F) (opened_st g b x)) (st_passes n (is_plain F) (opened_st g b y)) s),
     )
     st_typed inside before (Label l) h s = tt
     st_typed inside before (Assert k) h s =
-        (h.0, formula_one ds k.says h.1 (and_right (is_declared n k.candidate) (is_scalar true (O k.says)) s))
+        (h.0, formula_one ds k.says h.1 (and_right (is_declared n k.candidate) (is_plain F (O k.says)) s))
     st_typed inside before (Assume e) h s = formula_one ds e h s
     st_typed inside before (Havoc xs) h s = changes xs h
     st_typed inside before (Assign xs es) h s = (
@@ -273,26 +277,26 @@ module _ (depth : ℕ) (p : Prog) (typed : IsTyped p) (res : IsResolved p) (none
     )
     st_typed inside before (Invoke k) h s = call_typed k h s
     st_typed inside before (If i e x y) h s =
-        let t = and_right (guard_passes (is_scalar true) (opened_guard g b e)) (st_passes n (is_scalar true) (opened_st g b x) && st_passes n (is_scalar true) (opened_st g b y)) s in (
-          guard_typed ds e h.0 (and_left (guard_passes (is_scalar true) (opened_guard g b e)) (st_passes n (is_scalar true) (opened_st g b x) && st_passes n (is_scalar true) (opened_st g b y)) s),
-          st_typed (i ∷ inside) before x h.1 (and_left (st_passes n (is_scalar true) (opened_st g b x)) (st_passes n (is_scalar true) (opened_st g b y)) t),
-          st_typed (i ∷ inside) before y h.2 (and_right (st_passes n (is_scalar true) (opened_st g b x)) (st_passes n (is_scalar true) (opened_st g b y)) t),
+        let t = and_right (guard_passes (is_plain F) (opened_guard g b e)) (st_passes n (is_plain F) (opened_st g b x) && st_passes n (is_plain F) (opened_st g b y)) s in (
+          guard_typed ds e h.0 (and_left (guard_passes (is_plain F) (opened_guard g b e)) (st_passes n (is_plain F) (opened_st g b x) && st_passes n (is_plain F) (opened_st g b y)) s),
+          st_typed (i ∷ inside) before x h.1 (and_left (st_passes n (is_plain F) (opened_st g b x)) (st_passes n (is_plain F) (opened_st g b y)) t),
+          st_typed (i ∷ inside) before y h.2 (and_right (st_passes n (is_plain F) (opened_st g b x)) (st_passes n (is_plain F) (opened_st g b y)) t),
         )
     st_typed inside before (While i e is x) h s =
-        let t = and_right (guard_passes (is_scalar true) (opened_guard g b e)) (Clauses is && st_passes n (is_scalar true) (opened_st g b x)) s in (
-          guard_typed ds e h.0 (and_left (guard_passes (is_scalar true) (opened_guard g b e)) (Clauses is && st_passes n (is_scalar true) (opened_st g b x)) s),
-          all_each (λ k. IsFormula (sig_in o (map OD ds)) k.says) (map (opened_clause g b) is) (clauses_typed ds is (each_all (λ k. IsFormula (sig_in p ds) k.says) is h.1) (and_left (Clauses is) (st_passes n (is_scalar true) (opened_st g b x)) t)),
-          st_typed (i ∷ inside) before x h.2 (and_right (Clauses is) (st_passes n (is_scalar true) (opened_st g b x)) t),
+        let t = and_right (guard_passes (is_plain F) (opened_guard g b e)) (Clauses is && st_passes n (is_plain F) (opened_st g b x)) s in (
+          guard_typed ds e h.0 (and_left (guard_passes (is_plain F) (opened_guard g b e)) (Clauses is && st_passes n (is_plain F) (opened_st g b x)) s),
+          all_each (λ k. IsFormula (sig_in o (map OD ds)) k.says) (map (opened_clause g b) is) (clauses_typed ds is (each_all (λ k. IsFormula (sig_in p ds) k.says) is h.1) (and_left (Clauses is) (st_passes n (is_plain F) (opened_st g b x)) t)),
+          st_typed (i ∷ inside) before x h.2 (and_right (Clauses is) (st_passes n (is_plain F) (opened_st g b x)) t),
         )
     st_typed inside before (Break i) h s = h
     st_typed inside before (Goto ls) h s = h
     st_typed inside before Return h s = tt
 
-    supposing_typed : (es : List Ex) (s : St) → Each (λ e. IsFormula (sig_in (record p { globals = [] }) []) e × HasNoOld e) es → list_all (is_scalar true) (map O es) ≡ true → IsTypedStatement R' [] [] s → IsTypedStatement R' [] [] (supposing (map O es) s)
+    supposing_typed : (es : List Ex) (s : St) → Each (λ e. IsFormula (sig_in (record p { globals = [] }) []) e × HasNoOld e) es → list_all (is_plain F) (map O es) ≡ true → IsTypedStatement R' [] [] s → IsTypedStatement R' [] [] (supposing (map O es) s)
     supposing_typed [] s h t k = k
     supposing_typed (e ∷ es) s h t k = (
-      bare_formula ds e h.0.0 (and_left (is_scalar true (O e)) (list_all (is_scalar true) (map O es)) t),
-      supposing_typed es s h.1 (and_right (is_scalar true (O e)) (list_all (is_scalar true) (map O es)) t) k,
+      bare_formula ds e h.0.0 (and_left (is_plain F (O e)) (list_all (is_plain F) (map O es)) t),
+      supposing_typed es s h.1 (and_right (is_plain F (O e)) (list_all (is_plain F) (map O es)) t) k,
     )
 
   -- ---- procedures and implementations
@@ -300,7 +304,7 @@ module _ (depth : ℕ) (p : Prog) (typed : IsTyped p) (res : IsResolved p) (none
   proc_typed : (k : ℕ) (q : Proc) → procedure_of p k ≡ Some q → IsTypedProc o (opened_proc g b q)
   proc_typed k q e =
       let t = at_all (IsTypedProc p) p.procedures k q typed.procedures e in
-      let s = list_all_at (proc_passes n (is_scalar_type true) (is_scalar true)) o.procedures k (opened_proc g b q) (procs_pass depth p nothing typed res none test) (its_procedure depth p [] k ∙ ap (option_map (opened_proc g b)) e) in
+      let s = list_all_at (proc_passes n (is_scalar_type true) (is_plain F)) o.procedures k (opened_proc g b q) (procs_pass depth p test) (its_procedure depth p [] k ∙ ap (option_map (opened_proc g b)) e) in
       let s1 = and_right (Decls q.params) (Decls q.results && (Clauses q.requires_ && Clauses q.ensures_)) s in
       let s2 = and_right (Decls q.results) (Clauses q.requires_ && Clauses q.ensures_) s1 in
       let joined = map_append OD q.params q.results in
@@ -317,13 +321,13 @@ module _ (depth : ℕ) (p : Prog) (typed : IsTyped p) (res : IsResolved p) (none
       let q = t.procedure in
       let ds = q.params ++ (q.results ++ m.locals) in
       let whole = supposing (map O (claims p)) (opened_st g b m.body) in
-      let s = list_all_at (impl_passes n (is_scalar_type true) (is_scalar true)) o.implementations k (opened_impl g b (claims p) m) (impls_pass depth p nothing typed res none test) (at_mapped (opened_impl g b (claims p)) p.implementations k ∙ ap (option_map (opened_impl g b (claims p))) e) in
-      let parts = supposing_passes n (is_scalar true) (map O (claims p)) (opened_st g b m.body) (and_right (Decls m.locals) (st_passes n (is_scalar true) whole) s) in
+      let s = list_all_at (impl_passes n (is_scalar_type true) (is_plain F)) o.implementations k (opened_impl g b (claims p) m) (impls_pass depth p test) (at_mapped (opened_impl g b (claims p)) p.implementations k ∙ ap (option_map (opened_impl g b (claims p))) e) in
+      let parts = supposing_passes n (is_plain F) (map O (claims p)) (opened_st g b m.body) (and_right (Decls m.locals) (st_passes n (is_plain F) whole) s) in
       let same = sym (frame_opened g b q m) in
       record {
         procedure = opened_proc g b q;
         is_there = its_procedure depth p [] m.procedure ∙ ap (option_map (opened_proc g b)) t.is_there;
-        locals = all_each (λ d. All (IsFormula (sig_in o (map OD q.params ++ (map OD q.results ++ map OD m.locals)))) d.wheres) (map OD m.locals) (subst (λ l. Each (λ d. All (IsFormula (sig_in o l)) d.wheres) (map OD m.locals)) same (decls_typed ds m.locals (each_all (λ d. All (IsFormula (sig_in p ds)) d.wheres) m.locals t.locals) (and_left (Decls m.locals) (st_passes n (is_scalar true) whole) s)));
+        locals = all_each (λ d. All (IsFormula (sig_in o (map OD q.params ++ (map OD q.results ++ map OD m.locals)))) d.wheres) (map OD m.locals) (subst (λ l. Each (λ d. All (IsFormula (sig_in o l)) d.wheres) (map OD m.locals)) same (decls_typed ds m.locals (each_all (λ d. All (IsFormula (sig_in p ds)) d.wheres) m.locals t.locals) (and_left (Decls m.locals) (st_passes n (is_plain F) whole) s)));
         body = subst (λ l. IsTypedStatement (record { program = o; procedure = opened_proc g b q; variables = l }) [] [] whole) same (supposing_typed m.procedure q t.is_there ds (claims p) (opened_st g b m.body) (claims_typed p typed.axioms) parts.0 (st_typed m.procedure q t.is_there ds [] [] m.body t.body parts.1));
       }
 
@@ -341,10 +345,10 @@ module _ (depth : ℕ) (p : Prog) (typed : IsTyped p) (res : IsResolved p) (none
   pub program_typed : IsTyped o
   program_typed =
       record {
-        globals = all_each (λ d. All (IsFormula (sig_in o [])) d.wheres) o.globals (each_append (λ d. All (IsFormula (sig_in o [])) d.wheres) (map OD p.globals) (map global_for p.constants) (decls_typed [] p.globals (each_all (λ d. All (IsFormula (sig_in p [])) d.wheres) p.globals typed.globals) (list_all_left (decl_passes (is_scalar_type true) (is_scalar true)) (map OD p.globals) (map global_for p.constants) (globals_pass depth p nothing typed res none test))) (constants_plain p.constants));
+        globals = all_each (λ d. All (IsFormula (sig_in o [])) d.wheres) o.globals (each_append (λ d. All (IsFormula (sig_in o [])) d.wheres) (map OD p.globals) (map global_for p.constants) (decls_typed [] p.globals (each_all (λ d. All (IsFormula (sig_in p [])) d.wheres) p.globals typed.globals) (list_all_left (decl_passes (is_scalar_type true) (is_plain F)) (map OD p.globals) (map global_for p.constants) (globals_pass depth p test))) (constants_plain p.constants));
         axioms = λ k d l. absurd (omega arith);
-        bodies = λ f fn e q s. absurd (let bad : ⊥ = cc in bad);
-        plain_bodies = λ f fn e q s. absurd (let bad : ⊥ = cc in bad);
+        bodies = λ f fn e q s. absurd (no_body F f fn e q s);
+        plain_bodies = λ f fn e q s. absurd (no_body F f fn e q s);
         procedures = all_each (IsTypedProc o) o.procedures (each_map (IsTypedProc o) (λ q. IsTypedProc o (opened_proc g b q)) (opened_proc g b) p.procedures (λ q h. h) (each_of (λ q. IsTypedProc o (opened_proc g b q)) p.procedures proc_typed));
         implementations = all_each (IsTypedImpl o) o.implementations (each_map (IsTypedImpl o) (λ m. IsTypedImpl o (opened_impl g b (claims p) m)) (opened_impl g b (claims p)) p.implementations (λ m h. h) (each_of (λ m. IsTypedImpl o (opened_impl g b (claims p) m)) p.implementations impl_typed));
       }

@@ -2,7 +2,7 @@
 use Rattle.std.proofs.Common.{◌≡◌, ◌<◌, ℕ, zero, suc, arith, Bool, true, false, List, [], ◌∷◌, ◌++◌, length, map, Option, Some, None, refl, sym, ap, ◌∙◌, subst}
 use Rattle.std.specs.Prelude.{◌&&◌, if◌then◌else◌, ◌==◌, nat_lt, slice_set, option_map}
 use Rattle.bg_ast.specs.Values.{Val, Ty, is_of, truth_of}
-use Rattle.bg_ast.specs.Syntax.{Var, Global, Local, Ex, Exs, NoMore, More, Clause, Guard, Star, Test, Call, St, Skip, Then, Label, Assert, Assume, Havoc, Assign, Invoke, If, While, Break, Goto, Return, Decl, Proc, Impl, Prog}
+use Rattle.bg_ast.specs.Syntax.{Var, Global, Local, Ex, Exs, NoMore, More, Clause, Guard, Star, Test, Call, St, Skip, Then, Label, Assert, Assume, Havoc, Assign, Invoke, If, While, Break, Goto, Return, Decl, Fun, Proc, Impl, Prog}
 use Rattle.bg_ast.specs.Execution.{Interp, Choice, Branch, Chosen, Spot, AtEntry, AfterTurn, AtAssert, AtCall, AtReturn}
 use Rattle.bg_sense.specs.Eval.{Scope, ev, evs, functions_of}
 use Rattle.bg_sense.specs.Flow.{World, Answer, Going, Ended, Blocked, Failed, BadChoice, Point, ToLabel, Behind, ToEnd, Flow, Next, Jumps, Over, and_then, land, ended, land_all, point_eq}
@@ -16,10 +16,9 @@ use Rattle.bg_sense.specs.Calls.{call_of, by_specification}
 use Rattle.bg_sense.specs.Interps.{all_hold}
 use Rattle.bg_sense.specs.Eval.{holds_alone}
 use Rattle.bg_sense.specs.Run.{begin, close, run_body}
-use Rattle.bg_fits.specs.Scalars.{is_scalar}
+use Rattle.bg_opened.proofs.Plain.{is_plain}
 use Rattle.bg_opened.specs.Exprs.{opened, all_opened}
 use Rattle.bg_opened.specs.Programs.{supposing, opened_clause, opened_guard, opened_call, opened_st, opened_decl, opened_proc, opened_impl}
-use Rattle.bg_opened.specs.Moments.{nothing}
 use Rattle.bg_opened.proofs.Worths.{ReadsBelow}
 
 -- ---- lists
@@ -61,13 +60,13 @@ go_over D (Break n) a = refl
 go_over D (Goto ls) a = refl
 go_over D Return a = refl
 
-module _ (g : ℕ) (bodies : ℕ → Option Ex) (cs : List Val) where
+module _ (g : ℕ) (bodies : ℕ → Option Ex) (funs : List Fun) (cs : List Val) where
   abbrev O : Ex → Ex
   O = opened g bodies
 
-  -- what of an expression counts here: which globals it reads, and that no constant and no application is left
+  -- what of an expression counts here: which globals it reads, and that no constant is left, and no application of a function with a body
   abbrev pub Fair : Ex → Type 0
-  Fair e = ReadsBelow g e × (is_scalar true (O e) ≡ true)
+  Fair e = ReadsBelow g e × (is_plain funs (O e) ≡ true)
 
   abbrev pub FairAll : Exs → Type 0
   FairAll NoMore = Unit {0}
@@ -236,7 +235,7 @@ module _ (g : ℕ) (bodies : ℕ → Option Ex) (cs : List Val) where
 
   -- ---- checks and assumptions, in two contexts
 
-  module _ (p o : Prog) (i : Interp) (set : ℕ → Bool) (number : ℕ) (ds : List Decl) (b0 : List Val) where
+  module _ (p o : Prog) (i j : Interp) (set : ℕ → Bool) (number : ℕ) (ds : List Decl) (b0 : List Val) where
     abbrev C : Ctx
     C = record { program = p; interp = i; set = set; implementation = number; variables = ds; before = b0; loops = Cut }
 
@@ -244,7 +243,7 @@ module _ (g : ℕ) (bodies : ℕ → Option Ex) (cs : List Val) where
     D =
         record {
           program = o;
-          interp = nothing;
+          interp = j;
           set = set;
           implementation = number;
           variables = map OD ds;
@@ -288,7 +287,7 @@ module _ (g : ℕ) (bodies : ℕ → Option Ex) (cs : List Val) where
     suppose_these_alike sees sees' same es xs w is h l =
         subst (λ y. Alike (suppose_all C sees es w) (suppose_all D sees' y (W w))) (sym is) (suppose_all_alike sees sees' same es w h l)
 
-    module _ (worth : (e : Ex) (gs bs r : List Val) → length gs ≡ g → length bs ≡ g → Fair e → ev (O e) (record { functions = functions_of o nothing; constants = []; globals = gs ++ cs; before = bs ++ cs; frame = r }) ≡ ev e (record { functions = functions_of p i; constants = i.constants; globals = gs; before = bs; frame = r })) (start : length b0 ≡ g) (decls : (x : Var) → FairVar x → decl_of D x ≡ option_map OD (decl_of C x)) (decls_fair : (x : Var) → FairVar x → Each Fair (wheres_in (decl_of C x))) (procedures : (k : ℕ) → procedure_of o k ≡ option_map (opened_proc g bodies) (procedure_of p k)) (procs : (k : ℕ) (q : Proc) → procedure_of p k ≡ Some q → FairProc p o q) (loops : (a : St) → FairSt a → (targets D (opened_st g bodies a) ≡ targets C a) × Each FairVar (targets C a)) where
+    module _ (worth : (e : Ex) (gs bs r : List Val) → length gs ≡ g → length bs ≡ g → Fair e → ev (O e) (record { functions = functions_of o j; constants = j.constants; globals = gs ++ cs; before = bs ++ cs; frame = r }) ≡ ev e (record { functions = functions_of p i; constants = i.constants; globals = gs; before = bs; frame = r })) (start : length b0 ≡ g) (decls : (x : Var) → FairVar x → decl_of D x ≡ option_map OD (decl_of C x)) (decls_fair : (x : Var) → FairVar x → Each Fair (wheres_in (decl_of C x))) (procedures : (k : ℕ) → procedure_of o k ≡ option_map (opened_proc g bodies) (procedure_of p k)) (procs : (k : ℕ) (q : Proc) → procedure_of p k ≡ Some q → FairProc p o q) (loops : (a : St) → FairSt a → (targets D (opened_st g bodies a) ≡ targets C a) × Each FairVar (targets C a)) where
       here : Same (scope C) (scope D)
       here e w h l = worth e w.globals b0 w.frame l start h
 

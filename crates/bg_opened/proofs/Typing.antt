@@ -1,13 +1,16 @@
 -- Opened expressions are typed, and each product in them has a constant side.
 use Rattle.std.proofs.Common.{◌≡◌, ℕ, zero, suc, ◌+◌, true, List, [], ◌∷◌, ◌++◌, length, map, Option, Some, None, refl, sym, ap, ◌∙◌, subst, inl, inr, ⊎_elim}
-use Rattle.std.specs.Prelude.{slice_get}
+use Rattle.std.specs.Prelude.{not, slice_get, option_map}
 use Rattle.bg_ast.specs.Values.{Ty, IntTy, BoolTy, MapTy}
 use Rattle.bg_ast.specs.Syntax.{Op, And, Or, Implies, Iff, Equal, Unequal, Less, AtMost, Greater, AtLeast, Plus, Minus, Times, Global, Local, Ex, Exs, Number, Fact, Constant, Read, Not, Negative, Binary, Apply, Select, Update, Old, NoMore, More, Fun}
+use Rattle.bg_sense.specs.Tables.{has_body}
 use Rattle.bg_sense.specs.Typing.{Sig, OpHasType, HasType, HaveTypes, key_ty}
 use Rattle.bg_sense.specs.Typed.{IsConstant, HasConstantSide, IsLinear, AreLinear}
 use Rattle.bg_sense.proofs.Bools.{and_left, and_right}
-use Rattle.bg_fits.specs.Scalars.{is_scalar}
-use Rattle.bg_opened.specs.Exprs.{ex_at, put_in, put_in_all, applied, opened, all_opened, opened_fun, opened_body, bodies_to}
+use Rattle.bg_opened.proofs.Plain.{is_plain, are_plain}
+use Rattle.bg_opened.specs.Exprs.{ex_at, put_in, put_in_all, applied, opened, all_opened, opened_fun, opened_body, bodies_to, raw_bodies}
+use Rattle.bg_opened.specs.Programs.{bodiless}
+use Rattle.bg_opened.proofs.Places.{at_mapped}
 use Rattle.bg_opened.proofs.Worths.{behind_at}
 
 pub op_map : (op : Op) (P Q P' Q' : Ty → Type 0) (t : Ty) → ((u : Ty) → P u → P' u) → ((u : Ty) → Q u → Q' u) → OpHasType op P Q t → OpHasType op P' Q' t
@@ -136,23 +139,41 @@ module _ (gts cts : List Ty) (fs : List Fun) where
     bodies_typed (suc depth) f fn b there e =
         body_typed depth f fn b (bodies_typed depth) there fn.body refl (sym (ap (opened_fun (opened (length gts) (bodies_to (length gts) fs depth))) there) ∙ e)
 
--- ---- without constants and functions
+-- ---- without constants and bodies
 
 module _ (cs : List Ty) (fs : List Fun) (gts r : List Ty) where
-  pub plain_typed : (e : Ex) (t : Ty) → is_scalar true e ≡ true → HasType e (record { constants = cs; functions = fs; globals = gts; frame = r }) t → HasType e (record { constants = []; functions = []; globals = gts; frame = r }) t
-  plain_typed (Number z) t s h = h
-  plain_typed (Fact b) t s h = h
-  plain_typed (Constant k) t s h = absurd (let bad : ⊥ = cc in bad)
-  plain_typed (Read (Global x)) t s h = h
-  plain_typed (Read (Local x)) t s h = h
-  plain_typed (Not e) t s h = (h.0, plain_typed e BoolTy s h.1)
-  plain_typed (Negative e) t s h = (h.0, plain_typed e IntTy s h.1)
-  plain_typed (Binary op a b) t s h =
-      op_map op _ _ _ _ t (λ u. plain_typed a u (and_left (is_scalar true a) (is_scalar true b) s)) (λ u. plain_typed b u (and_right (is_scalar true a) (is_scalar true b) s)) h
-  plain_typed (Apply f es) t s h = absurd (let bad : ⊥ = cc in bad)
-  plain_typed (Select m es) t s h = absurd (let bad : ⊥ = cc in bad)
-  plain_typed (Update m es e) t s h = absurd (let bad : ⊥ = cc in bad)
-  plain_typed (Old e) t s h = plain_typed e t s h
+  abbrev Whole : Sig
+  Whole = record { constants = cs; functions = fs; globals = gts; frame = r }
+
+  abbrev Bodiless : Sig
+  Bodiless = record { constants = []; functions = map bodiless fs; globals = gts; frame = r }
+
+  mutual
+    pub plain_typed : (e : Ex) (t : Ty) → is_plain fs e ≡ true → HasType e Whole t → HasType e Bodiless t
+    plain_typed (Number z) t s h = h
+    plain_typed (Fact b) t s h = h
+    plain_typed (Constant k) t s h = absurd (let bad : ⊥ = cc in bad)
+    plain_typed (Read (Global x)) t s h = h
+    plain_typed (Read (Local x)) t s h = h
+    plain_typed (Not e) t s h = (h.0, plain_typed e BoolTy s h.1)
+    plain_typed (Negative e) t s h = (h.0, plain_typed e IntTy s h.1)
+    plain_typed (Binary op a b) t s h =
+        op_map op (HasType a Whole) (HasType b Whole) (HasType a Bodiless) (HasType b Bodiless) t (λ u. plain_typed a u (and_left (is_plain fs a) (is_plain fs b) s)) (λ u. plain_typed b u (and_right (is_plain fs a) (is_plain fs b) s)) h
+    plain_typed (Apply f es) t s h = (
+      bodiless h.0,
+      at_mapped bodiless fs f ∙ ap (option_map bodiless) h.1,
+      h.2,
+      all_plain_typed es h.0.params (and_right (not (has_body (raw_bodies fs f))) (are_plain fs es) s) h.3,
+    )
+    plain_typed (Select m es) t s h = absurd (let bad : ⊥ = cc in bad)
+    plain_typed (Update m es e) t s h = absurd (let bad : ⊥ = cc in bad)
+    plain_typed (Old e) t s h = plain_typed e t s h
+
+    all_plain_typed : (es : Exs) (ts : List Ty) → are_plain fs es ≡ true → HaveTypes es Whole ts → HaveTypes es Bodiless ts
+    all_plain_typed NoMore ts s h = h
+    all_plain_typed (More e es) [] s h = absurd h
+    all_plain_typed (More e es) (t ∷ ts) s h =
+        (plain_typed e t (and_left (is_plain fs e) (are_plain fs es) s) h.0, all_plain_typed es ts (and_right (is_plain fs e) (are_plain fs es) s) h.1)
 
 -- ---- products
 

@@ -1,5 +1,5 @@
 -- What is claimed of constants holds exactly where the unique ones differ and the axioms are true; the claims are typed and judged.
-use Rattle.std.proofs.Common.{◌≡◌, ℕ, zero, suc, ◌+◌, Bool, true, false, List, [], ◌∷◌, ◌++◌, length, map, Some, refl, sym, ap, ◌∙◌, subst, arith}
+use Rattle.std.proofs.Common.{◌≡◌, ℕ, suc, ◌+◌, Bool, true, false, List, [], ◌∷◌, ◌++◌, length, map, Some, refl, sym, ap, ◌∙◌, subst, arith}
 use Rattle.std.specs.Prelude.{◌&&◌, ◌||◌, not, if◌then◌else◌, slice_get, All}
 use Rattle.std.specs.List.{list_all}
 use Rattle.bg_ast.specs.Values.{Val, Ty, IntTy, BoolTy, UserTy, MapTy, val_eq}

@@ -2,13 +2,11 @@
 use Rattle.std.proofs.Common.{◌≡◌, ◌<◌, ℕ, zero, suc, arith, Bool, true, false, List, [], ◌∷◌, length, Some, None, refl, sym, ap, ◌∙◌, subst}
 use Rattle.std.specs.Prelude.{◌↔◌, ◌&&◌, slice_get, Contains}
 use Rattle.std.specs.List.{list_all}
-use Rattle.bg_ast.specs.Values.{Val, BoolTy}
 use Rattle.bg_ast.specs.Syntax.{Ex, Const, Fun, Prog}
 use Rattle.bg_ast.specs.Execution.{Interp, State, Choice, Place}
 use Rattle.bg_sense.specs.Eval.{holds_alone}
-use Rattle.bg_sense.specs.Types.{are_of, types_of, const_types}
-use Rattle.bg_sense.specs.Tables.{are_tables}
-use Rattle.bg_sense.specs.Interps.{are_distinct, all_hold, IsInterp, Meets}
+use Rattle.bg_sense.specs.Types.{types_of, const_types}
+use Rattle.bg_sense.specs.Interps.{are_distinct, all_hold, Meets}
 use Rattle.bg_sense.specs.Typed.{IsTypedProc, IsTypedImpl, IsTyped}
 use Rattle.bg_sense.specs.Resolved.{IsResolved}
 use Rattle.bg_sense.specs.Clauses.{is_kept}
@@ -19,71 +17,57 @@ use Rattle.bg_sense.proofs.TypedPrograms.{typed_safe}
 use Rattle.bg_sense.proofs.Bools.{both}
 use Rattle.bg_fits.specs.Scalars.{is_over_scalars}
 use Rattle.bg_opened.specs.Programs.{opened_program}
-use Rattle.bg_opened.specs.Moments.{nothing, with_constants, interp_in, without_constants}
+use Rattle.bg_opened.specs.Moments.{tables_of, with_constants, interp_in, without_constants}
 use Rattle.bg_opened.specs.Judged.{is_judged_ex, const_judged, fun_judged, is_judged}
 use Rattle.bg_opened.specs.Openable.{IsOpenable}
 use Rattle.bg_opened.specs.Axioms.{bare, claims_false, of_axioms, axiom_program, axiom_place, no_state}
+use Rattle.bg_opened.proofs.Plain.{is_over_plain, over_plain as plain_is_scalar}
 use Rattle.bg_opened.proofs.Places.{places_alike}
 use Rattle.bg_opened.proofs.Resolves.{resolved, all_each}
 use Rattle.bg_opened.proofs.Fairs.{types_length}
 use Rattle.bg_opened.proofs.Uniques.{claims_hold}
 use Rattle.bg_opened.proofs.Claims.{are_of_length, runs_alike, opened_fails, program_fails, program_runs}
 use Rattle.bg_opened.proofs.Programs.{program_typed}
-use Rattle.bg_opened.proofs.Scalars.{over_scalars, constants_judged, functions_judged, axioms_judged}
+use Rattle.bg_opened.proofs.Scalars.{over_plain, constants_judged, functions_judged, axioms_judged}
 
 module _ (depth : ℕ) (p : Prog) (h : IsOpenable depth p) where
   abbrev o : Prog
   o = opened_program depth p
 
+  plain : is_over_plain p.functions o ≡ true
+  plain = over_plain depth p h.typed h.chains h.judged
+
   pub scalars : is_over_scalars true o ≡ true
-  scalars = over_scalars depth p h.typed h.recursion h.judged h.deep
+  scalars = plain_is_scalar p.functions o plain
 
   pub typed : IsTyped o
-  typed = program_typed depth p h.typed h.resolved h.recursion scalars
+  typed = program_typed depth p h.typed h.resolved h.recursion plain
 
   pub is_resolved : IsResolved o
   is_resolved = resolved depth p h.resolved
 
-  pub runs : (set : ℕ → Bool) (i : Interp) (k : ℕ) (s : State) (choices : List Choice) → Meets p i → IsState p k s → induction_run o set nothing k (with_constants i s) choices ≡ induction_run p set i k s choices
+  pub runs : (set : ℕ → Bool) (i : Interp) (k : ℕ) (s : State) (choices : List Choice) → Meets p i → IsState p k s → induction_run o set (tables_of i) k (with_constants i s) choices ≡ induction_run p set i k s choices
   runs set i k s choices m st =
-      runs_alike depth p i h.typed h.resolved h.recursion scalars set k s choices (claims_hold p i (constants_judged p h.judged) (are_of_length (const_types p.constants) i.constants m.interp.constants) ∙ both (are_distinct p.constants i.constants) (all_hold p i p.axioms) m.unique m.axioms) (are_of_length (types_of p.globals) s.globals st.globals ∙ types_length p.globals)
+      runs_alike depth p i (tables_of i) (λ f n. refl) h.typed h.resolved h.recursion plain set k s choices (claims_hold p i (constants_judged p h.judged) (are_of_length (const_types p.constants) i.constants m.interp.constants) ∙ both (are_distinct p.constants i.constants) (all_hold p i p.axioms) m.unique m.axioms) (are_of_length (types_of p.globals) s.globals st.globals ∙ types_length p.globals)
 
-  pub opens : (set : ℕ → Bool) (t : Place) (i : Interp) (s : State) (choices : List Choice) → Fails p set t i s choices → Fails o set t nothing (with_constants i s) choices
-  opens set t i s choices f = opened_fails depth p h.typed h.resolved h.recursion scalars (constants_judged p h.judged) set t i s choices f
+  pub opens : (set : ℕ → Bool) (t : Place) (i : Interp) (s : State) (choices : List Choice) → Fails p set t i s choices → Fails o set t (tables_of i) (with_constants i s) choices
+  opens set t i s choices f = opened_fails depth p h.typed h.resolved h.recursion plain (constants_judged p h.judged) set t i s choices f
 
-  -- the opened program has one interpretation
-  no_values : (vs : List Val) → are_of [] vs ≡ true → vs ≡ []
-  no_values [] e = refl
-  no_values (v ∷ vs) e = absurd (let bad : ⊥ = cc in bad)
-
-  no_tables : (ts : List Rattle.bg_ast.specs.Values.Table) → are_tables [] ts ≡ true → ts ≡ []
-  no_tables [] e = refl
-  no_tables (t ∷ ts) e = absurd (let bad : ⊥ = cc in bad)
-
-  is_nothing : (i : Interp) → IsInterp o i → i ≡ nothing
-  is_nothing i j =
-      ap (λ cs. record { constants = cs; tables = i.tables }) (no_values i.constants j.constants)
-      ∙ ap (λ ts. record { constants = []; tables = ts }) (no_tables i.tables j.tables)
-
-  by_nothing : (set : ℕ → Bool) (t : Place) (i : Interp) (s : State) (choices : List Choice) → Fails o set t i s choices → Fails o set t nothing s choices
-  by_nothing set t i s choices f = subst (λ j. Fails o set t j s choices) (is_nothing i f.meets.interp) f
-
-  pub closes : (set : ℕ → Bool) (t : Place) (i : Interp) (s : State) (choices : List Choice) → Fails o set t i s choices → Fails p set t (interp_in p s) (without_constants p s) choices
+  pub closes : (set : ℕ → Bool) (t : Place) (i : Interp) (s : State) (choices : List Choice) → Fails o set t i s choices → Fails p set t (interp_in p i s) (without_constants p s) choices
   closes set t i s choices f =
-      program_fails depth p h.typed h.resolved h.recursion scalars (constants_judged p h.judged) set t s choices (by_nothing set t i s choices f)
+      program_fails depth p h.typed h.resolved h.recursion plain (constants_judged p h.judged) set t i s choices f
 
-  pub closed_runs : (set : ℕ → Bool) (t : Place) (i : Interp) (s : State) (choices others : List Choice) → Fails o set t i s choices → induction_run p set (interp_in p s) t.implementation (without_constants p s) others ≡ induction_run o set i t.implementation s others
+  pub closed_runs : (set : ℕ → Bool) (t : Place) (i : Interp) (s : State) (choices others : List Choice) → Fails o set t i s choices → induction_run p set (interp_in p i s) t.implementation (without_constants p s) others ≡ induction_run o set i t.implementation s others
   closed_runs set t i s choices others f =
-      program_runs depth p h.typed h.resolved h.recursion scalars (constants_judged p h.judged) set t s choices (by_nothing set t i s choices f) others
-      ∙ ap (λ j. induction_run o set j t.implementation s others) (sym (is_nothing i f.meets.interp))
+      program_runs depth p h.typed h.resolved h.recursion plain (constants_judged p h.judged) set t i s choices f others
 
   same_places : places o ≡ places p
   same_places = places_alike depth p
 
   pub inductive : (set : ℕ → Bool) → Inductive o set ↔ Inductive p set
   inductive set = (
-    λ k t b c e y i s choices f. k t b (subst (λ l. Contains l t) (sym same_places) c) e y nothing (with_constants i s) choices (opens set t i s choices f),
-    λ k t b c e y i s choices f. k t b (subst (λ l. Contains l t) same_places c) e y (interp_in p s) (without_constants p s) choices (closes set t i s choices f),
+    λ k t b c e y i s choices f. k t b (subst (λ l. Contains l t) (sym same_places) c) e y (tables_of i) (with_constants i s) choices (opens set t i s choices f),
+    λ k t b c e y i s choices f. k t b (subst (λ l. Contains l t) same_places c) e y (interp_in p i s) (without_constants p s) choices (closes set t i s choices f),
   )
 
   pub greatest : (set : ℕ → Bool) → Greatest o set → Greatest p set
@@ -96,7 +80,7 @@ module _ (depth : ℕ) (p : Prog) (h : IsOpenable depth p) where
 
   pub safe : (set : ℕ → Bool) (k : ℕ) → k < length p.implementations → ((t : Place) (i : Interp) (s : State) (choices : List Choice) → Contains (places p) t → t.implementation ≡ k → is_kept set t.candidate ≡ true → Fails o set t i s choices → ⊥) → Safe p set k
   safe set k l f =
-      typed_safe p set k h.typed l (λ t i s choices c e y x. f t nothing (with_constants i s) choices c e y (opens set t i s choices x))
+      typed_safe p set k h.typed l (λ t i s choices c e y x. f t (tables_of i) (with_constants i s) choices c e y (opens set t i s choices x))
 
 -- ---- the axioms' own program
 
@@ -166,7 +150,7 @@ module _ (depth : ℕ) (p : Prog) (h : IsOpenable depth p) where
         resolved = q_resolved;
         recursion = record { rank = h.recursion.rank; is_place = h.recursion.is_place; falls = h.recursion.falls };
         judged = q_judged;
-        deep = h.deep;
+        chains = record { chain = h.chains.chain; deep = h.chains.deep; falls = h.chains.falls };
       }
 
   hold_alike : (i : Interp) (es : List Ex) → all_hold q i es ≡ all_hold p i es
@@ -189,9 +173,9 @@ module _ (depth : ℕ) (p : Prog) (h : IsOpenable depth p) where
         axioms = sym (hold_alike i p.axioms) ∙ m.axioms;
       }
 
-  pub met : (set : ℕ → Bool) (i : Interp) → Meets p i → Fails (axiom_program depth p) set axiom_place nothing (with_constants i no_state) []
+  pub met : (set : ℕ → Bool) (i : Interp) → Meets p i → Fails (axiom_program depth p) set axiom_place (tables_of i) (with_constants i no_state) []
   met set i m =
       opens depth q q_openable set axiom_place i no_state [] (record { meets = to_q i m; state = record { globals = refl; frame = refl }; fails = refl })
 
-  pub meets : (set : ℕ → Bool) (i : Interp) (s : State) (choices : List Choice) → Fails (axiom_program depth p) set axiom_place i s choices → Meets p (interp_in q s)
-  meets set i s choices f = from_q (interp_in q s) (closes depth q q_openable set axiom_place i s choices f).meets
+  pub meets : (set : ℕ → Bool) (i : Interp) (s : State) (choices : List Choice) → Fails (axiom_program depth p) set axiom_place i s choices → Meets p (interp_in q i s)
+  meets set i s choices f = from_q (interp_in q i s) (closes depth q q_openable set axiom_place i s choices f).meets

@@ -1,18 +1,19 @@
 -- What opened expressions are worth.
-use Rattle.std.proofs.Common.{◌≡◌, ◌<◌, ℕ, zero, suc, ◌+◌, true, List, [], ◌∷◌, ◌++◌, length, map, Option, Some, None, refl, sym, ap, ◌∙◌, subst, arith}
+use Rattle.std.proofs.Common.{◌≡◌, ◌<◌, ℕ, zero, suc, ◌+◌, Bool, true, List, [], ◌∷◌, ◌++◌, length, map, Option, Some, None, refl, sym, ap, ◌∙◌, subst, arith}
 use Rattle.std.specs.Prelude.{slice_get, not, neg_ℤ}
 use Rattle.bg_ast.specs.Values.{Val, Num, Truth, Ty, IntTy, BoolTy, select, update, number_of, truth_of}
 use Rattle.bg_ast.specs.Syntax.{Op, And, Or, Implies, Iff, Equal, Unequal, Less, AtMost, Greater, AtLeast, Plus, Minus, Times, Global, Local, Ex, Exs, Number, Fact, Constant, Read, Not, Negative, Binary, Apply, Select, Update, Old, NoMore, More, Fun, Prog}
 use Rattle.bg_ast.specs.Execution.{Interp}
 use Rattle.bg_sense.specs.Eval.{Scope, ev, evs, operate, value_at, functions_of}
 use Rattle.bg_sense.specs.Types.{const_types}
+use Rattle.bg_sense.specs.Tables.{has_body}
 use Rattle.bg_sense.specs.Typing.{Sig, OpHasType, HasType, HaveTypes, AreTypedBodies}
 use Rattle.bg_sense.specs.Typed.{HasNoOld, HaveNoOld}
 use Rattle.bg_sense.specs.Recursion.{HasNoRecursion}
 use Rattle.bg_sense.proofs.Unfolding.{unfolds}
 use Rattle.bg_sense.proofs.Bools.{and_left, and_right}
-use Rattle.bg_fits.specs.Scalars.{is_scalar}
-use Rattle.bg_opened.specs.Exprs.{ex_at, put_in, put_in_all, applied, opened, all_opened, opened_fun, opened_body, bodies_to}
+use Rattle.bg_opened.proofs.Plain.{is_plain, are_plain}
+use Rattle.bg_opened.specs.Exprs.{ex_at, put_in, put_in_all, applied, opened, all_opened, opened_fun, opened_body, bodies_to, raw_bodies}
 
 -- ---- lists
 
@@ -260,21 +261,39 @@ module _ (p : Prog) (i : Interp) (g : ℕ) (ks : List Val) (none : HasNoRecursio
   opens_to zero f b e = absurd (let bad : ⊥ = cc in bad)
   opens_to (suc depth) f b e = opens_by depth f (opens_to depth) b (slice_get p.functions f) refl e
 
--- ---- what reads variables alone
+-- ---- what applies functions without a body alone
 
-module _ (fs hs : ℕ → List Val → Val) (cs ks gs bs : List Val) where
-  pub plain_worth : (e : Ex) (r : List Val) (ys : List Val) → is_scalar true e ≡ true → ev e (record { functions = fs; constants = cs; globals = ys; before = bs; frame = r }) ≡ ev e (record { functions = hs; constants = ks; globals = ys; before = bs; frame = r })
-  plain_worth (Number z) r ys h = refl
-  plain_worth (Fact b) r ys h = refl
-  plain_worth (Constant k) r ys h = absurd (let bad : ⊥ = cc in bad)
-  plain_worth (Read (Global x)) r ys h = refl
-  plain_worth (Read (Local x)) r ys h = refl
-  plain_worth (Not e) r ys h = ap (λ v. Truth (not (truth_of v))) (plain_worth e r ys h)
-  plain_worth (Negative e) r ys h = ap (λ v. Num (neg_ℤ (number_of v))) (plain_worth e r ys h)
-  plain_worth (Binary op a b) r ys h =
-      ap (λ v. operate op v (ev b (record { functions = fs; constants = cs; globals = ys; before = bs; frame = r }))) (plain_worth a r ys (and_left (is_scalar true a) (is_scalar true b) h))
-      ∙ ap (operate op (ev a (record { functions = hs; constants = ks; globals = ys; before = bs; frame = r }))) (plain_worth b r ys (and_right (is_scalar true a) (is_scalar true b) h))
-  plain_worth (Apply f es) r ys h = absurd (let bad : ⊥ = cc in bad)
-  plain_worth (Select m es) r ys h = absurd (let bad : ⊥ = cc in bad)
-  plain_worth (Update m es e) r ys h = absurd (let bad : ⊥ = cc in bad)
-  plain_worth (Old e) r ys h = plain_worth e r bs h
+module _ (funs : List Fun) (fs hs : ℕ → List Val → Val) (same : (f : ℕ) (args : List Val) → not (has_body (raw_bodies funs f)) ≡ true → fs f args ≡ hs f args) (cs ks bs : List Val) where
+  abbrev A : List Val → List Val → Scope
+  A r ys = record { functions = fs; constants = cs; globals = ys; before = bs; frame = r }
+
+  abbrev B : List Val → List Val → Scope
+  B r ys = record { functions = hs; constants = ks; globals = ys; before = bs; frame = r }
+
+  abbrev has_none : ℕ → Bool
+  has_none f = not (has_body (raw_bodies funs f))
+
+  mutual
+    pub plain_worth : (e : Ex) (r ys : List Val) → is_plain funs e ≡ true → ev e (A r ys) ≡ ev e (B r ys)
+    plain_worth (Number z) r ys h = refl
+    plain_worth (Fact b) r ys h = refl
+    plain_worth (Constant k) r ys h = absurd (let bad : ⊥ = cc in bad)
+    plain_worth (Read (Global x)) r ys h = refl
+    plain_worth (Read (Local x)) r ys h = refl
+    plain_worth (Not e) r ys h = ap (λ v. Truth (not (truth_of v))) (plain_worth e r ys h)
+    plain_worth (Negative e) r ys h = ap (λ v. Num (neg_ℤ (number_of v))) (plain_worth e r ys h)
+    plain_worth (Binary op a b) r ys h =
+        ap (λ v. operate op v (ev b (A r ys))) (plain_worth a r ys (and_left (is_plain funs a) (is_plain funs b) h))
+        ∙ ap (operate op (ev a (B r ys))) (plain_worth b r ys (and_right (is_plain funs a) (is_plain funs b) h))
+    plain_worth (Apply f es) r ys h =
+        ap (fs f) (all_plain_worth es r ys (and_right (has_none f) (are_plain funs es) h))
+        ∙ same f (evs es (B r ys)) (and_left (has_none f) (are_plain funs es) h)
+    plain_worth (Select m es) r ys h = absurd (let bad : ⊥ = cc in bad)
+    plain_worth (Update m es e) r ys h = absurd (let bad : ⊥ = cc in bad)
+    plain_worth (Old e) r ys h = plain_worth e r bs h
+
+    all_plain_worth : (es : Exs) (r ys : List Val) → are_plain funs es ≡ true → evs es (A r ys) ≡ evs es (B r ys)
+    all_plain_worth NoMore r ys h = refl
+    all_plain_worth (More e es) r ys h =
+        ap (λ v. v ∷ evs es (A r ys)) (plain_worth e r ys (and_left (is_plain funs e) (are_plain funs es) h))
+        ∙ ap (λ vs. ev e (B r ys) ∷ vs) (all_plain_worth es r ys (and_right (is_plain funs e) (are_plain funs es) h))

@@ -1,6 +1,5 @@
 -- An expression that is opened as it is written means what it means, opened.
 use Rattle.std.proofs.Common.{◌≡◌, ℕ, zero, suc, List, [], ◌∷◌, map, Option, Some, None, refl, sym, ap, ◌∙◌}
-use Rattle.std.specs.Prelude.{slice_get, option_map}
 use Rattle.bg_base.specs.declared.pos.Pos.{Pos}
 use Rattle.bg_ast.specs.Values as v
 use Rattle.bg_ast.specs.Syntax as s
@@ -8,8 +7,8 @@ use Rattle.bg_ast.specs.Resolved as r
 use Rattle.bg_ast.specs.Meaning.{ex_of, exs_of, fun_of, body_of}
 use Rattle.bg_opened.specs.Exprs as e
 use Rattle.bg_opened.proofs.Passes.{passes}
-use Rattle.bg_opened.specs.Changed.{Handlers, changed, all_changed, copying, ex_at, put_read, putting, applied, body_in, bodies_in, opening, opened_within}
-use Rattle.bg_opened.proofs.WrittenMeans.{Goes, means}
+use Rattle.bg_opened.specs.Changed.{changed, ex_at, put_read, putting, applied, bodies_in, opening, opened_within}
+use Rattle.bg_opened.proofs.WrittenMeans.{means}
 
 at_means : (p : Pos) (xs : r.Exs) (j : ℕ) → ex_of (ex_at p xs j) ≡ e.ex_at (exs_of xs) j
 at_means p r.NoMore j = refl

@@ -1,5 +1,5 @@
 -- A program that is opened as it is written means what it means, opened.
-use Rattle.std.proofs.Common.{◌≡◌, ℕ, zero, suc, List, [], ◌∷◌, ◌++◌, length, map, Option, Some, None, refl, sym, ap, ◌∙◌, subst}
+use Rattle.std.proofs.Common.{◌≡◌, ℕ, suc, List, [], ◌∷◌, ◌++◌, length, map, Option, refl, sym, ap, ◌∙◌}
 use Rattle.bg_base.specs.declared.pos.Pos.{Pos}
 use Rattle.bg_ast.specs.Values as v
 use Rattle.bg_ast.specs.Syntax as s
@@ -8,7 +8,6 @@ use Rattle.bg_ast.specs.Meaning as m
 use Rattle.bg_opened.specs.Exprs as e
 use Rattle.bg_opened.specs.Unique as u
 use Rattle.bg_opened.specs.Programs as o
-use Rattle.bg_opened.specs.Changed.{opened_within}
 use Rattle.bg_opened.specs.Written as w
 use Rattle.bg_opened.proofs.WrittenExprs.{Means, opened_means}
 
@@ -134,6 +133,9 @@ claims_mean p =
     map_append m.ex_of (map w.apart (u.unique_pairs (w.constants_of p))) p.axioms
     ∙ ap (λ l. l ++ map m.ex_of p.axioms) (apart_means (u.unique_pairs (w.constants_of p)))
 
+functions_mean : (named : ℕ → v.Ty) (fs : List r.Fun) → map (m.fun_of named) (map w.bodiless fs) ≡ map o.bodiless (map (m.fun_of named) fs)
+functions_mean named = map_twice (m.fun_of named) w.bodiless o.bodiless (m.fun_of named) (λ f. refl)
+
 pub program_means : (depth : ℕ) (p : r.Program) → m.meaning_of (w.opened_program depth p) ≡ o.opened_program depth (m.meaning_of p)
 program_means depth p =
     let named = m.named_of p.types in
@@ -151,7 +153,7 @@ program_means depth p =
     let impls : map (m.impl_of named) (map (w.opened_impl (w.opened_in depth p) (w.claims p)) p.implementations) ≡ map (o.opened_impl g b (u.claims q)) (map (m.impl_of named) p.implementations) =
     map_twice (m.impl_of named) (w.opened_impl (w.opened_in depth p) (w.claims p)) (o.opened_impl g b (map m.ex_of (w.claims p))) (m.impl_of named) (impl_means g b (w.opened_in depth p) is named (w.claims p)) p.implementations
     ∙ ap (λ es. map (o.opened_impl g b es) (map (m.impl_of named) p.implementations)) (claims_mean p) in
-    same_program _ _ _ _ _ _ (length p.candidates) globals procs impls
+    same_program _ _ _ _ _ _ _ _ (length p.candidates) globals (functions_mean named p.functions) procs impls
   where
-    same_program : (ds es : List s.Decl) (ps qs : List s.Proc) (ms ns : List s.Impl) (n : ℕ) → ds ≡ es → ps ≡ qs → ms ≡ ns → record { globals = ds; constants = []; functions = []; axioms = []; procedures = ps; implementations = ms; candidates = n } ≡ (let q : s.Prog = record { globals = es; constants = []; functions = []; axioms = []; procedures = qs; implementations = ns; candidates = n } in q)
-    same_program ds es ps qs ms ns n h i j = rw (h, i, j) refl
+    same_program : (ds es : List s.Decl) (fs gs : List s.Fun) (ps qs : List s.Proc) (ms ns : List s.Impl) (n : ℕ) → ds ≡ es → fs ≡ gs → ps ≡ qs → ms ≡ ns → record { globals = ds; constants = []; functions = fs; axioms = []; procedures = ps; implementations = ms; candidates = n } ≡ (let q : s.Prog = record { globals = es; constants = []; functions = gs; axioms = []; procedures = qs; implementations = ns; candidates = n } in q)
+    same_program ds es fs gs ps qs ms ns n h k i j = rw (h, k, i, j) refl

@@ -1,4 +1,4 @@
--- Programs that are judged: over truth values and whole numbers, with constants, functions with a body, and axioms.
+-- Programs that are judged: over truth values and whole numbers, with constants, functions, and axioms.
 use Rattle.std.specs.Prelude.{Bool, true, false, ◌&&◌, Option, Some, None}
 use Rattle.std.specs.List.{list_all}
 use Rattle.bg_ast.specs.Syntax.{Ex, Exs, Number, Fact, Constant, Read, Not, Negative, Binary, Apply, Old, NoMore, More, Const, Fun, Prog}
@@ -26,12 +26,12 @@ abbrev mutual
 abbrev pub const_judged : Const → Bool
 const_judged c = is_scalar_type true c.ty
 
--- there is a body that passes
+-- there is no body, or one that passes
 abbrev pub body_judged : Option Ex → Bool
-body_judged None = false
+body_judged None = true
 body_judged (Some e) = is_judged_ex e
 
--- a function with a body
+-- a function, with a body or without one
 abbrev pub fun_judged : Fun → Bool
 fun_judged f = list_all (is_scalar_type true) f.params && (is_scalar_type true f.result && body_judged f.body)
 

@@ -1,14 +1,18 @@
--- Opened programs: without constants, functions and axioms. Constants are globals that no procedure modifies, bodies of functions stand
--- in the place of their applications, and what is claimed of the constants is assumed in front of each body: that the unique ones differ,
--- and the axioms.
-use Rattle.std.specs.Prelude.{ℕ, List, [], ◌∷◌, ◌++◌, map, length, Option}
-use Rattle.bg_ast.specs.Syntax.{Ex, Clause, Guard, Star, Test, Call, St, Skip, Then, Label, Assert, Assume, Havoc, Assign, Invoke, If, While, Break, Goto, Return, Decl, Const, Proc, Impl, Prog}
+-- Opened programs: without constants and axioms, and no function has a body. Constants are globals that no procedure modifies, bodies of
+-- functions stand in the place of their applications, and what is claimed of the constants is assumed in front of each body: that the
+-- unique ones differ, and the axioms.
+use Rattle.std.specs.Prelude.{ℕ, List, [], ◌∷◌, ◌++◌, map, length, Option, None}
+use Rattle.bg_ast.specs.Syntax.{Ex, Clause, Guard, Star, Test, Call, St, Skip, Then, Label, Assert, Assume, Havoc, Assign, Invoke, If, While, Break, Goto, Return, Decl, Const, Fun, Proc, Impl, Prog}
 use Rattle.bg_opened.specs.Exprs.{opened, all_opened, bodies_to}
 use Rattle.bg_opened.specs.Unique.{claims}
 
 -- a constant as a variable
 abbrev pub global_for : Const → Decl
 global_for c = record { ty = c.ty; wheres = [] }
+
+-- a function without its body
+abbrev pub bodiless : Fun → Fun
+bodiless f = record f { body = None }
 
 -- these are assumed in front of a statement
 abbrev pub supposing : List Ex → St → St
@@ -78,7 +82,7 @@ opened_program depth p =
     record {
       globals = opened_globals depth p;
       constants = [];
-      functions = [];
+      functions = map bodiless p.functions;
       axioms = [];
       procedures = map (opened_proc (length p.globals) (bodies_of depth p)) p.procedures;
       implementations = map (opened_impl (length p.globals) (bodies_of depth p) (claims p)) p.implementations;

@@ -1,5 +1,5 @@
 -- Programs as they are written, opened.
-use Rattle.std.specs.Prelude.{ℕ, List, [], ◌∷◌, ◌++◌, map, length}
+use Rattle.std.specs.Prelude.{ℕ, List, [], ◌∷◌, ◌++◌, map, length, None}
 use Rattle.bg_base.specs.declared.pos.Pos.{Pos}
 use Rattle.bg_text.specs.declared.expr.InfixSign.TheVariants as op
 use Rattle.bg_ast.specs.Syntax.{Const}
@@ -11,6 +11,10 @@ use Rattle.bg_opened.specs.Changed.{opened_within}
 -- a constant as a variable
 abbrev pub global_for : r.Const → r.Declared
 global_for c = record { name = c.name; ty = c.ty }
+
+-- a function without its body
+abbrev pub bodiless : r.Fun → r.Fun
+bodiless f = record f { body = None }
 
 -- these are assumed in front of statements
 abbrev pub supposing : List r.Ex → r.Sts → r.Sts
@@ -91,7 +95,7 @@ claims p = map apart (unique_pairs (constants_of p)) ++ p.axioms
 abbrev pub opened_in : ℕ → r.Program → r.Ex → r.Ex
 opened_in depth p = opened_within depth (length p.globals) p.functions
 
--- the program without constants, functions and axioms
+-- the program without constants, axioms and bodies of functions
 abbrev pub opened_program : ℕ → r.Program → r.Program
 opened_program depth p =
     record {
@@ -99,7 +103,7 @@ opened_program depth p =
       constants = [];
       candidates = p.candidates;
       globals = p.globals ++ map global_for p.constants;
-      functions = [];
+      functions = map bodiless p.functions;
       axioms = [];
       procedures = map (opened_proc (opened_in depth p)) p.procedures;
       implementations = map (opened_impl (opened_in depth p) (claims p)) p.implementations;

@@ -14,7 +14,7 @@ ghost use Rattle.bg_fits.specs.Scalars.{is_over_scalars};
 ghost use Rattle.bg_opened.specs.Exprs.{opened, bodies_to, raw_bodies};
 ghost use Rattle.bg_opened.specs.Programs.{opened_program};
 ghost use Rattle.bg_opened.specs.Written as w;
-ghost use Rattle.bg_opened.specs.Moments.{nothing, with_constants, interp_in, without_constants};
+ghost use Rattle.bg_opened.specs.Moments.{tables_of, with_constants, interp_in, without_constants};
 ghost use Rattle.bg_opened.specs.Openable.{IsOpenable};
 ghost use Rattle.bg_opened.specs.Axioms.{of_axioms, axiom_program, axiom_place, no_state};
 
@@ -25,30 +25,31 @@ pub fn opened_programs_have_the_same_places()
     ensures { (depth : ℕ) (p : Prog) → places (opened_program depth p) ≡ places p }
 {}
 
-/// An opened program is over truth values and whole numbers, typed, and its names are resolved.
+/// An opened program is over truth values, whole numbers and functions on them without a body, typed, and its names are resolved.
 pub fn opened_programs_are_over_scalars()
     ensures scalars { (depth : ℕ) (p : Prog) → IsOpenable depth p → is_over_scalars true (opened_program depth p) ≡ true }
     ensures typed { (depth : ℕ) (p : Prog) → IsOpenable depth p → IsTyped (opened_program depth p) }
     ensures resolved { (depth : ℕ) (p : Prog) → IsOpenable depth p → IsResolved (opened_program depth p) }
 {}
 
-/// Under an interpretation that meets the program, a run of it is one of the opened program, in which the constants have their values:
-/// the same answer for the same choices.
+/// Under an interpretation that meets the program, a run of it is one of the opened program under its tables, in which the constants have
+/// their values: the same answer for the same choices.
 pub fn runs_are_opened_runs()
     ensures { (depth : ℕ) (p : Prog) (set : ℕ → Bool) (i : Interp) (k : ℕ) (s : State) (choices : List Choice) → IsOpenable depth p → Meets p i → IsState p k s →
-        induction_run (opened_program depth p) set nothing k (with_constants i s) choices ≡ induction_run p set i k s choices }
+        induction_run (opened_program depth p) set (tables_of i) k (with_constants i s) choices ≡ induction_run p set i k s choices }
 {}
 
 /// A run fails at a place exactly where the opened program's run fails there; and where the opened program's fails, the constants'
-/// values in its state are an interpretation that meets the program, under which each run from there is the opened program's.
+/// values in its state and its tables are an interpretation that meets the program, under which each run from there is the opened
+/// program's.
 pub fn failures_are_opened_failures()
     ensures opened { (depth : ℕ) (p : Prog) (set : ℕ → Bool) (t : Place) (i : Interp) (s : State) (choices : List Choice) → IsOpenable depth p →
-        Fails p set t i s choices → Fails (opened_program depth p) set t nothing (with_constants i s) choices }
+        Fails p set t i s choices → Fails (opened_program depth p) set t (tables_of i) (with_constants i s) choices }
     ensures closed { (depth : ℕ) (p : Prog) (set : ℕ → Bool) (t : Place) (i : Interp) (s : State) (choices : List Choice) → IsOpenable depth p →
-        Fails (opened_program depth p) set t i s choices → Fails p set t (interp_in p s) (without_constants p s) choices }
+        Fails (opened_program depth p) set t i s choices → Fails p set t (interp_in p i s) (without_constants p s) choices }
     ensures runs { (depth : ℕ) (p : Prog) (set : ℕ → Bool) (t : Place) (i : Interp) (s : State) (choices others : List Choice) → IsOpenable depth p →
         Fails (opened_program depth p) set t i s choices →
-        induction_run p set (interp_in p s) t.implementation (without_constants p s) others ≡ induction_run (opened_program depth p) set i t.implementation s others }
+        induction_run p set (interp_in p i s) t.implementation (without_constants p s) others ≡ induction_run (opened_program depth p) set i t.implementation s others }
 {}
 
 /// The inductive sets of candidates are those of the opened program, and so is the greatest.
@@ -66,15 +67,15 @@ pub fn safe_where_no_opened_run_fails()
     what_fails_at_no_place_is_safe()
 }
 
-/// The axioms' own program can be opened; it has one place, and a run fails there exactly where its constants' values are an
-/// interpretation that meets the program.
+/// The axioms' own program can be opened; it has one place, and a run fails there exactly where its constants' values and its tables are
+/// an interpretation that meets the program.
 pub fn axioms_have_a_program()
     ensures openable { (depth : ℕ) (p : Prog) → IsOpenable depth p → IsOpenable depth (of_axioms p) }
     ensures place { (depth : ℕ) (p : Prog) → places (axiom_program depth p) ≡ axiom_place ∷ [] }
     ensures met { (depth : ℕ) (p : Prog) (set : ℕ → Bool) (i : Interp) → IsOpenable depth p → Meets p i →
-        Fails (axiom_program depth p) set axiom_place nothing (with_constants i no_state) [] }
+        Fails (axiom_program depth p) set axiom_place (tables_of i) (with_constants i no_state) [] }
     ensures meets { (depth : ℕ) (p : Prog) (set : ℕ → Bool) (i : Interp) (s : State) (choices : List Choice) → IsOpenable depth p →
-        Fails (axiom_program depth p) set axiom_place i s choices → Meets p (interp_in (of_axioms p) s) }
+        Fails (axiom_program depth p) set axiom_place i s choices → Meets p (interp_in (of_axioms p) i s) }
 {}
 
 /// Bodies that are opened one level deeper are those that are put in once more before: so they may be opened in passes over an

@@ -1,4 +1,5 @@
-//! Opened programs: without constants, functions and axioms, of which each run is one of the program under an interpretation that meets it.
+//! Opened programs: without constants, axioms and bodies of functions; each run of one is a run of the program under an interpretation
+//! that meets it.
 #![tactic(auto)]
 
 pub mod laws;

@@ -1,6 +1,6 @@
 -- What a map type without brackets, and one with some, says.
-use Rattle.std.proofs.Common.{◌≡◌, ℕ, Bool, false, List, [], ◌∷◌, length, map, refl, sym, ap, ◌∙◌, Vec, Box, Global, arith}
-use Rattle.bg_ast.specs.Values.{Ty, IntTy, BoolTy, UserTy}
+use Rattle.std.proofs.Common.{◌≡◌, ℕ, false, List, [], ◌∷◌, length, map, refl, ap, ◌∙◌, Vec, Box, Global, arith}
+use Rattle.bg_ast.specs.Values.{Ty, UserTy}
 use Rattle.bg_ast.specs.Meaning.{type_in, map_type, named_within}
 use Rattle.bg_ast.specs.Resolved.{TypeName}
 use Rattle.bg_ast.specs.declared.resolved.WrittenType.{WrittenType}

@@ -23,8 +23,8 @@ apart_is first links old k j f e l =
 same_parts : (ts : List r.TypeName) (ns : List Id) (cs ds : List r.Const) (gs hs : List r.Declared) (fs es : List r.Fun) (as' bs : List r.Ex) (qs ps : List r.Proc) (ms is : List r.Impl) → cs ≡ ds → gs ≡ hs → fs ≡ es → as' ≡ bs → qs ≡ ps → ms ≡ is → record { types = ts; constants = cs; candidates = ns; globals = gs; functions = fs; axioms = as'; procedures = qs; implementations = ms } ≡ (let p : r.Program = record { types = ts; constants = ds; candidates = ns; globals = hs; functions = es; axioms = bs; procedures = ps; implementations = is } in p)
 same_parts ts ns cs ds gs hs fs es as' bs qs ps ms is a b c d e f = rw (a, b, c, d, e, f) refl
 
-pub whole_is : (depth n : ℕ) (p : r.Program) (fs : List r.Fun) (told : List r.Ex) (cs : List r.Const) (gs : List r.Declared) (es : List r.Fun) (as' : List r.Ex) (qs : List r.Proc) (ms : List r.Impl) → n ≡ length p.globals → fs ≡ p.functions → told ≡ w.claims p → cs ≡ [] → es ≡ [] → as' ≡ [] → gs ≡ p.globals ++ map w.global_for p.constants → qs ≡ map (w.opened_proc (opened_within depth n fs)) p.procedures → ms ≡ map (w.opened_impl (opened_within depth n fs) told) p.implementations → record { types = p.types; constants = cs; candidates = p.candidates; globals = gs; functions = es; axioms = as'; procedures = qs; implementations = ms } ≡ w.opened_program depth p
-whole_is depth n p fs told cs gs es as' qs ms many funs claims no_constants no_functions no_axioms globals procs impls =
-    same_parts p.types p.candidates cs [] gs _ es [] as' [] qs _ ms _ no_constants globals no_functions no_axioms
+pub whole_is : (depth n : ℕ) (p : r.Program) (fs : List r.Fun) (told : List r.Ex) (cs : List r.Const) (gs : List r.Declared) (es : List r.Fun) (as' : List r.Ex) (qs : List r.Proc) (ms : List r.Impl) → n ≡ length p.globals → fs ≡ p.functions → told ≡ w.claims p → cs ≡ [] → es ≡ map w.bodiless p.functions → as' ≡ [] → gs ≡ p.globals ++ map w.global_for p.constants → qs ≡ map (w.opened_proc (opened_within depth n fs)) p.procedures → ms ≡ map (w.opened_impl (opened_within depth n fs) told) p.implementations → record { types = p.types; constants = cs; candidates = p.candidates; globals = gs; functions = es; axioms = as'; procedures = qs; implementations = ms } ≡ w.opened_program depth p
+whole_is depth n p fs told cs gs es as' qs ms many funs claims no_constants functions no_axioms globals procs impls =
+    same_parts p.types p.candidates cs [] gs _ es _ as' [] qs _ ms _ no_constants globals functions no_axioms
     (procs ∙ ap (λ (k : ℕ). map (w.opened_proc (opened_within depth k fs)) p.procedures) many ∙ ap (λ (l : List r.Fun). map (w.opened_proc (opened_within depth (length p.globals) l)) p.procedures) funs)
     (impls ∙ ap (λ (k : ℕ). map (w.opened_impl (opened_within depth k fs) told) p.implementations) many ∙ ap (λ (l : List r.Fun). map (w.opened_impl (opened_within depth (length p.globals) l) told) p.implementations) funs ∙ ap (λ (l : List r.Ex). map (w.opened_impl (w.opened_in depth p) l) p.implementations) claims)

@@ -6,7 +6,7 @@ ghost use Rattle.bg_opened.specs.Written as w;
 ghost use Rattle.bg_opening.specs.Axioms as a;
 ghost use Rattle.bg_opening.specs.Desks.{opened_at};
 
-use crate::declared::{copy_type_names, globals_for};
+use crate::declared::{copy_type_names, functions_for, globals_for};
 use crate::exprs::Desk;
 use crate::uniques::told_apart;
 use crate::whole::{assumed, body};
@@ -84,7 +84,7 @@ fn claiming(desk: Desk<'_>, first: &[Expr], axioms: &[Expr]) -> Result<Implement
     })
 }
 
-/// The program whose globals are the constants of this one, with one procedure and one implementation: it assumes that unique constants
+/// The program whose globals are the constants of this one, with its functions, one procedure and one implementation: it assumes that unique constants
 /// differ, and the axioms, opened as in `open_program`, and then claims what is false. So a run fails exactly where all this holds.
 ///
 /// Only want of memory is an error; 2^32 constants count as such.
@@ -108,12 +108,13 @@ pub fn axiom_program(
     implementations.push(claiming(desk, &apart, &program.axioms)?)?;
     let types = copy_type_names(alloc, &program.types)?;
     let globals = globals_for(alloc, &program.constants)?;
+    let functions = functions_for(alloc, &program.functions)?;
     Ok(Resolved {
         types,
         constants: Vec::new(alloc),
         candidates: Vec::new(alloc),
         globals,
-        functions: Vec::new(alloc),
+        functions,
         axioms: Vec::new(alloc),
         procedures,
         implementations,

@@ -1,11 +1,11 @@
-//! Copies of declarations, and constants as variables.
+//! Copies of declarations, constants as variables, and functions without a body.
 ghost use Rattle.std.specs.Prelude.{◌≡◌, map, IfOk};
 ghost use Rattle.bg_text.specs.Views.{id_of, option_of};
-ghost use Rattle.bg_ast.specs.Views.{type_of, type_name_of, const_of, declared_of};
+ghost use Rattle.bg_ast.specs.Views.{type_of, type_name_of, const_of, declared_of, fun_of};
 ghost use Rattle.bg_opened.specs.Written as w;
 
-use crate::types::copy_type;
-use bg_ast::resolved::{Constant, Declared, TypeName, WrittenType};
+use crate::types::{copy_type, copy_types};
+use bg_ast::resolved::{Constant, Declared, Function, TypeName, WrittenType};
 use bg_text::Name;
 use std::alloc::{AllocError, Global};
 
@@ -35,6 +35,32 @@ pub fn globals_for(alloc: Global, constants: &[Constant]) -> Result<Vec<Declared
     for c in constants {
         let c = global_for(alloc, c)?;
         made.push(c)?;
+    }
+    Ok(made)
+}
+
+fn bodiless(alloc: Global, f: &Function) -> Result<Function, AllocError>
+    ensures { IfOk result (λ x. fun_of x ≡ w.bodiless (fun_of f.now)) }
+{
+    let name = copy_name(alloc, &f.name)?;
+    let params = copy_types(alloc, &f.params)?;
+    let result = copy_type(alloc, &f.result)?;
+    Ok(Function {
+        name,
+        params,
+        result,
+        body: None,
+    })
+}
+
+/// Functions without their bodies.
+pub fn functions_for(alloc: Global, functions: &[Function]) -> Result<Vec<Function>, AllocError>
+    ensures { IfOk result (λ made. map fun_of made.items ≡ map w.bodiless (map fun_of functions.now)) }
+{
+    let mut made = Vec::new(alloc);
+    for f in functions {
+        let f = bodiless(alloc, f)?;
+        made.push(f)?;
     }
     Ok(made)
 }

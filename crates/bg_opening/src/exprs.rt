@@ -18,7 +18,7 @@ pub struct Desk<'d> {
     pub depth: usize,
 }
 
-/// The expression with bodies put in as often as it says, or until nothing is applied; then its constants are globals.
+/// The expression with bodies put in as often as it says, or until no function with a body is applied; then its constants are globals.
 ///
 /// Only want of memory is an error; 2^32 globals and constants count as such.
 #[tactic(auto, using(crate::proofs::There::there_forms))]
@@ -29,7 +29,7 @@ pub fn opened(desk: Desk<'_>, e: &Expr) -> Result<Expr, AllocError>
         globals: desk.globals,
         functions: &[],
     };
-    if desk.depth == 0 || !applies(e) {
+    if desk.depth == 0 || !applies(desk.functions, e) {
         return pass(desk.alloc, last, e);
     }
     let known = Known {
@@ -38,7 +38,7 @@ pub fn opened(desk: Desk<'_>, e: &Expr) -> Result<Expr, AllocError>
     };
     let mut left = pass(desk.alloc, known, e)?;
     for _ in 1..desk.depth {
-        if !applies(&left) {
+        if !applies(desk.functions, &left) {
             return pass(desk.alloc, last, &left);
         }
         left = pass(desk.alloc, known, &left)?;

@@ -1,4 +1,4 @@
-//! The opened program of a resolved one: constants are globals, bodies of functions stand in the place of their applications, and
+//! The opened program of a resolved one: constants are globals, bodies of functions stand in the place of their applications alone, and
 //! that unique constants differ, and the axioms, are assumed in front of each body. Beside it the axioms' own program.
 #![tactic(auto)]
 

@@ -27,9 +27,10 @@ pub fn copy_type(alloc: Global, e: &WrittenType) -> Result<WrittenType, AllocErr
     }
 }
 
+/// The same of a list.
 #[tactic(auto, using(crate::proofs::TypeForms::type_forms))]
 #[cycle(copy_type)]
-fn copy_types(alloc: Global, es: &[WrittenType]) -> Result<Vec<WrittenType>, AllocError>
+pub fn copy_types(alloc: Global, es: &[WrittenType]) -> Result<Vec<WrittenType>, AllocError>
     ensures { IfOk result (λ made. map type_of made.items ≡ map type_of es.now) }
 {
     let mut made = Vec::new(alloc);

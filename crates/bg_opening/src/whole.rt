@@ -1,6 +1,6 @@
 //! The opened program.
 ghost use Rattle.std.specs.Prelude.{◌≡◌, map, IfOk, OnOk};
-ghost use Rattle.bg_ast.specs.Views.{ex_of, st_of, sts_in, proc_of, impl_of, program_of};
+ghost use Rattle.bg_ast.specs.Views.{ex_of, st_of, sts_in, fun_of, proc_of, impl_of, program_of};
 ghost use Rattle.bg_opened.specs.Written as w;
 ghost use Rattle.bg_opening.specs.Desks.{opened_at};
 ghost use Rattle.bg_opening.specs.Views.{assuming};
@@ -9,7 +9,7 @@ use crate::declared::globals_for;
 use crate::exprs::{Desk, opened};
 use crate::stmts::{clauses, stmts};
 use crate::uniques::claims;
-use bg_ast::resolved::{Expr, Implementation, Procedure, Resolved, Stmt};
+use bg_ast::resolved::{Expr, Function, Implementation, Procedure, Resolved, Stmt};
 use std::alloc::{AllocError, Global};
 
 /// These expressions, opened, are assumed.
@@ -75,9 +75,18 @@ fn open_implementations(
     Ok(())
 }
 
-/// The program without constants, functions and axioms: its constants are globals behind the others, bodies of functions are put in, so
-/// often, in the place of their applications, and in front of each body it is assumed that unique constants of a type differ, and the
-/// axioms. Names and positions are kept.
+/// Functions lose their bodies.
+fn without_bodies(fs: &mut Vec<Function>)
+    ensures { map fun_of fs.new.items ≡ map w.bodiless (map fun_of fs.old.items) }
+{
+    for k in 0..fs.len() {
+        fs[k].body = None;
+    }
+}
+
+/// The program without constants, axioms and bodies of functions: its constants are globals behind the others, bodies of functions are
+/// put in, so often, in the place of their applications, and in front of each body it is assumed that unique constants of a type differ,
+/// and the axioms. Names and positions are kept.
 ///
 /// Only want of memory is an error; 2^32 globals count as such.
 pub fn open_program(alloc: Global, depth: usize, program: Resolved) -> Result<Resolved, AllocError>
@@ -99,7 +108,7 @@ pub fn open_program(alloc: Global, depth: usize, program: Resolved) -> Result<Re
     let mut more = globals_for(alloc, &made.constants)?;
     made.globals.append(&mut more)?;
     made.constants = Vec::new(alloc);
-    made.functions = Vec::new(alloc);
+    without_bodies(&mut made.functions);
     made.axioms = Vec::new(alloc);
     Ok(made)
 }

@@ -15,7 +15,7 @@ use Rattle.bg_sense.specs.Variables as v
 use Rattle.bg_sense.specs.Choices.{choose, choose_from, forget_all}
 use Rattle.bg_flow.specs.Core.{Demand, Saying, check_that, check_these, suppose_this, suppose_these}
 use Rattle.bg_scalar.specs.Worths.{Seen, worth}
-use Rattle.bg_scalar.specs.Values.{val_of, scope_in}
+use Rattle.bg_scalar.specs.Values.{val_of, MeanTables, scope_in}
 use Rattle.bg_scalar.specs.Choices.{choice_of}
 use Rattle.bg_scalar.specs.declared.choice.Choice.{Choice}
 use Rattle.bg_scalar.specs.declared.choice.Choice.TheVariants as choice
@@ -134,21 +134,21 @@ module _ (p : Prog) (i : e.Interp) (number : ℕ) (ds : List Decl) (a : Around) 
   abbrev here : Seen → Scope
   here = scope_in (functions_of p i) i.constants
 
-  pub checks_are : (s : Seen) (sees : World → Scope) (qs : List Demand) (m : Moment) → sees (world_of m) ≡ here s → Said_is (checks a.set s qs) (check_these ctx sees qs (world_of m)) m
-  checks_are s sees [] m h = refl
-  checks_are s sees (d ∷ qs) m h =
+  pub checks_are : (s : Seen) → MeanTables (functions_of p i) s.tables → (sees : World → Scope) (qs : List Demand) (m : Moment) → sees (world_of m) ≡ here s → Said_is (checks a.set s qs) (check_these ctx sees qs (world_of m)) m
+  checks_are s mean sees [] m h = refl
+  checks_are s mean sees (d ∷ qs) m h =
       said_then (check_one a.set s d) (checks a.set s qs) (check_that ctx sees d (world_of m)) (check_these ctx sees qs) m
       (if_is (is_kept a.set d.candidate) (or_stops (Failed d.spot) (worth d.says s)) (ensure (truth_of (ev d.says (sees (world_of m)))) d.spot (world_of m)) m
-      (rw h (ensure_is (worth d.says s) (ev d.says (here s)) d.spot m (scalar.agrees (functions_of p i) i.constants d.says s))))
-      (checks_are s sees qs m h)
+      (rw h (ensure_is (worth d.says s) (ev d.says (here s)) d.spot m (scalar.agrees (functions_of p i) i.constants d.says s mean))))
+      (checks_are s mean sees qs m h)
 
-  pub supposes_are : (s : Seen) (sees : World → Scope) (qs : List Saying) (m : Moment) → sees (world_of m) ≡ here s → Said_is (supposes a.set s qs) (suppose_these ctx sees qs (world_of m)) m
-  supposes_are s sees [] m h = refl
-  supposes_are s sees (d ∷ qs) m h =
+  pub supposes_are : (s : Seen) → MeanTables (functions_of p i) s.tables → (sees : World → Scope) (qs : List Saying) (m : Moment) → sees (world_of m) ≡ here s → Said_is (supposes a.set s qs) (suppose_these ctx sees qs (world_of m)) m
+  supposes_are s mean sees [] m h = refl
+  supposes_are s mean sees (d ∷ qs) m h =
       said_then (suppose_one a.set s d) (supposes a.set s qs) (suppose_this ctx sees d (world_of m)) (suppose_these ctx sees qs) m
       (if_is (is_kept a.set d.candidate) (or_stops Blocked (worth d.says s)) (suppose (truth_of (ev d.says (sees (world_of m)))) (world_of m)) m
-      (rw h (suppose_is (worth d.says s) (ev d.says (here s)) m (scalar.agrees (functions_of p i) i.constants d.says s))))
-      (supposes_are s sees qs m h)
+      (rw h (suppose_is (worth d.says s) (ev d.says (here s)) m (scalar.agrees (functions_of p i) i.constants d.says s mean))))
+      (supposes_are s mean sees qs m h)
 
   -- variables hold what their types stand for
   abbrev pub Declares : Type 0

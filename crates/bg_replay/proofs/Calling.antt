@@ -14,11 +14,11 @@ use Rattle.bg_sense.specs.Choices.{forget_all, choose_all}
 use Rattle.bg_flow.specs.Core.{Saying, Plan, Cmd, Check, Suppose, Forget, Put, Perform, Finish, check_these, suppose_these, act, act_all}
 use Rattle.bg_scalar.specs.Worths.{Seen}
 use Rattle.bg_scalar.specs.Lists.{Listed, Are, Leave, NoScalars, worths}
-use Rattle.bg_scalar.specs.Values.{val_of}
+use Rattle.bg_scalar.specs.Values.{val_of, MeanTables}
 use Rattle.bg_scalar.specs.declared.choice.Choice.{Choice}
 use Rattle.bg_scalar.specs.declared.choice.Choice.TheVariants as choice
 use Rattle.bg_scalar.specs.declared.scalar.Scalar.{Scalar}
-use Rattle.bg_scalar.proofs.Listing.{AllAgree, all_agree}
+use Rattle.bg_scalar.proofs.Agreeing.{AllAgree, all_agree}
 use Rattle.bg_replay.specs.Holds.{holds, hold_scalars}
 use Rattle.bg_replay.specs.Moments.{Moment, Around, Goes, and_so, world_of, seen_at}
 use Rattle.bg_replay.specs.Said.{on_said, checks, supposes}
@@ -57,7 +57,7 @@ pub both_true : (a b : Bool) → (a && b) ≡ true → (a ≡ true) × (b ≡ tr
 both_true true b h = (refl, h)
 both_true false b h = absurd cc
 
-module _ (p : Prog) (i : e.Interp) (number : ℕ) (ds : List Decl) (a : Around) where
+module _ (p : Prog) (i : e.Interp) (number : ℕ) (ds : List Decl) (a : Around) (mean : MeanTables (functions_of p i) a.tables) where
   abbrev c : Ctx
   c = ctx p i number ds a
 
@@ -70,10 +70,10 @@ module _ (p : Prog) (i : e.Interp) (number : ℕ) (ds : List Decl) (a : Around) 
   gives_is None was args qs takes u = refl
   gives_is (Some xs) was args qs takes u =
       let t = skipped xs u in
-      let s : Seen = record { globals = t.globals; before = was; frame = args ++ xs } in
+      let s : Seen = record { tables = a.tables; globals = t.globals; before = was; frame = args ++ xs } in
       let sees = callee_scope c (map val_of was) (map val_of args ++ map val_of xs) in
       so_then (on_said (supposes a.set s qs) t) (suppose_these c sees qs (world_of t)) (λ n. Goes (put_each takes xs n)) (λ n. Next (v.put_all takes (map val_of xs) n))
-      (supposes_are p i number ds a s sees qs t (ap (λ (l : List Val). callee_scope c (map val_of was) l (world_of t)) (map_join args xs)))
+      (supposes_are p i number ds a s mean sees qs t (ap (λ (l : List Val). callee_scope c (map val_of was) l (world_of t)) (map_join args xs)))
       (λ n. ap Next (put_each_is takes xs n))
 
   abbrev performs : Plan → List Val → World → Flow
@@ -84,13 +84,13 @@ module _ (p : Prog) (i : e.Interp) (number : ℕ) (ds : List Decl) (a : Around) 
   calls_with d (Leave l) vs k m h = tt
   calls_with d NoScalars vs k m h = tt
   calls_with d (Are xs) vs k m h =
-      let s : Seen = record { globals = m.globals; before = m.globals; frame = xs } in
+      let s : Seen = record { tables = a.tables; globals = m.globals; before = m.globals; frame = xs } in
       let sees = callee_scope c (map val_of m.globals) (map val_of xs) in
       rw h
       (so_then (on_said (checks a.set s k.needs) m) (check_these c sees k.needs (world_of m))
       (λ n. and_so (forgotten a k.modifies n) (λ u. given_back (chosen (holdings_of k.results) u.choices) a n.globals xs k.gives k.takes u))
       (λ x. and_then (forget_all c k.modifies x) (λ u. choose_all k.results u (gives x.globals (map val_of xs) k.gives k.takes)))
-      (checks_are p i number ds a s sees k.needs m refl)
+      (checks_are p i number ds a s mean sees k.needs m refl)
       (λ n. so_then (forgotten a k.modifies n) (forget_all c k.modifies (world_of n))
       (λ u. given_back (chosen (holdings_of k.results) u.choices) a n.globals xs k.gives k.takes u)
       (λ u. choose_all k.results u (gives (map val_of n.globals) (map val_of xs) k.gives k.takes))
@@ -101,7 +101,7 @@ module _ (p : Prog) (i : e.Interp) (number : ℕ) (ds : List Decl) (a : Around) 
   calls : Declares p i number ds a → (k : Plan) (m : Moment) → Agrees (called a k.args k.needs k.modifies (holdings_of k.results) k.gives k.takes m) (performs k (evs k.args (scope c (world_of m))) (world_of m))
   calls d k m =
       known_if (hold_scalars (holdings_of k.results)) (called_with (worths k.args (seen_at a m)) a k.needs k.modifies (holdings_of k.results) k.gives k.takes m) (performs k (evs k.args (scope c (world_of m))) (world_of m))
-      (calls_with d (worths k.args (seen_at a m)) (evs k.args (scope c (world_of m))) k m (all_agree (functions_of p i) i.constants k.args (seen_at a m)))
+      (calls_with d (worths k.args (seen_at a m)) (evs k.args (scope c (world_of m))) k m (all_agree (functions_of p i) i.constants k.args (seen_at a m) mean))
 
   assigns : (o : Listed) (vs : List Val) (xs : List Var) (m : Moment) → AllAgree o vs → Agrees (assigned o xs m) (Next (v.put_all xs vs (world_of m)))
   assigns (Leave l) vs xs m h = tt
@@ -109,11 +109,11 @@ module _ (p : Prog) (i : e.Interp) (number : ℕ) (ds : List Decl) (a : Around) 
   assigns (Are ys) vs xs m h = rw h (ap Next (put_each_is xs ys m))
 
   acts_agree : Declares p i number ds a → (k : Cmd) (m : Moment) → Agrees (acts a k m) (act c k (world_of m))
-  acts_agree d (Check qs) m = checks_are p i number ds a (seen_at a m) (scope c) qs m refl
-  acts_agree d (Suppose qs) m = supposes_are p i number ds a (seen_at a m) (scope c) qs m refl
+  acts_agree d (Check qs) m = checks_are p i number ds a (seen_at a m) mean (scope c) qs m refl
+  acts_agree d (Suppose qs) m = supposes_are p i number ds a (seen_at a m) mean (scope c) qs m refl
   acts_agree d (Forget xs) m = forgets p i number ds a d xs m
   acts_agree d (Put xs es) m =
-      assigns (worths es (seen_at a m)) (evs es (scope c (world_of m))) xs m (all_agree (functions_of p i) i.constants es (seen_at a m))
+      assigns (worths es (seen_at a m)) (evs es (scope c (world_of m))) xs m (all_agree (functions_of p i) i.constants es (seen_at a m) mean)
   acts_agree d (Perform k) m = calls d k m
   acts_agree d Finish m = refl
 

@@ -14,10 +14,11 @@ use Rattle.bg_sense.specs.Flow.{Answer, Blocked, Failed}
 use Rattle.bg_sense.specs.Clauses.{is_kept}
 use Rattle.bg_flow.specs.Core.{Demand, Saying, Plan, Cmd, Check, Suppose, Forget, Put, Perform, Finish}
 use Rattle.bg_flow.specs.Blocks.{Exit, Leap, Either, Block}
-use Rattle.bg_scalar.specs.Worths.{Seen, and_then, exact, takes, on_truths, on_numbers, operate, joined, not_on, minus_on, known, at_entry, worth}
+use Rattle.bg_scalar.specs.Worths.{Seen, and_then, exact, takes, on_truths, on_numbers, operate, joined, not_on, minus_on, known, at_entry, and_then_all, worth}
+use Rattle.bg_scalar.specs.Tables.{TableOf, told}
 use Rattle.bg_scalar.specs.Lists as lists
 use Rattle.bg_scalar.specs.Lists.{Listed, Are, Leave, NoScalars, worths}
-use Rattle.bg_scalar.specs.Values.{val_of, scope_in}
+use Rattle.bg_scalar.specs.Values.{val_of, MeanTables, scope_in}
 use Rattle.bg_scalar.specs.declared.scalar.Scalar.{Scalar}
 use Rattle.bg_scalar.specs.declared.scalar.Scalar.TheVariants.{Truth, Number}
 use Rattle.bg_scalar.specs.declared.scalar.Worth.{Worth}
@@ -109,10 +110,10 @@ module _ (fs : ℕ → List Val → Val) (cs : List Val) where
   abbrev sees : Seen → Scope
   sees = scope_in fs cs
 
-  value : (e : Ex) (c : Seen) (x : Scalar) → worth e c ≡ w.Is x → ev e (sees c) ≡ val_of x
+  value : (e : Ex) (c : Seen) (x : Scalar) → MeanTables fs c.tables → worth e c ≡ w.Is x → ev e (sees c) ≡ val_of x
   value = worth_is fs cs
 
-  module _ (o : s.Op) (a b : Ex) (c : Seen) where
+  module _ (o : s.Op) (a b : Ex) (c : Seen) (mean : MeanTables fs c.tables) where
     abbrev A : List Operation
     A = operations a (sees c)
 
@@ -124,8 +125,8 @@ module _ (fs : ℕ → List Val → Val) (cs : List Val) where
 
     both : (x y : Scalar) → worth a c ≡ w.Is x → worth b c ≡ w.Is y → first_outside A ≡ None → first_outside B ≡ None → Worthy (operate o x y) (A ++ (B ++ last))
     both x y ea eb f g =
-        subst (λ z. Worthy (operate o x y) (A ++ (B ++ operation o (number_of z) (number_of (ev b (sees c)))))) (sym (value a c x ea))
-        (subst (λ z. Worthy (operate o x y) (A ++ (B ++ operation o (number_of (val_of x)) (number_of z)))) (sym (value b c y eb))
+        subst (λ z. Worthy (operate o x y) (A ++ (B ++ operation o (number_of z) (number_of (ev b (sees c)))))) (sym (value a c x mean ea))
+        (subst (λ z. Worthy (operate o x y) (A ++ (B ++ operation o (number_of (val_of x)) (number_of z)))) (sym (value b c y mean eb))
         (subst (Worthy (operate o x y)) (append_assoc A B (operation o (number_of (val_of x)) (number_of (val_of y)))) (operates o x y (A ++ B) (none_then A B f ∙ g))))
 
     taken_by : (t : Bool) (x : Scalar) (wb : Worth) → worth a c ≡ w.Is x → worth b c ≡ wb → first_outside A ≡ None → Worthy wb B → Worthy (if t then and_then wb (operate o x) else w.NoScalar) (A ++ (B ++ last))
@@ -145,35 +146,20 @@ module _ (fs : ℕ → List Val → Val) (cs : List Val) where
   denies (w.Leaves o) os h = h
   denies w.NoScalar os h = tt
 
-  negates : (e : Ex) (c : Seen) (x : Worth) → worth e c ≡ x → Worthy x (operations e (sees c)) → Worthy (and_then x minus_on) (operations (s.Negative e) (sees c))
-  negates e c (w.Is (Truth b)) k h = tt
-  negates e c (w.Is (Number z)) k h =
-      subst (λ y. Worthy (minus_on (Number z)) (operations e (sees c) ++ (record { op = arith.Negate; a = number_of y; b = pos 0 } ∷ []))) (sym (value e c (Number z) k))
+  negates : (e : Ex) (c : Seen) → MeanTables fs c.tables → (x : Worth) → worth e c ≡ x → Worthy x (operations e (sees c)) → Worthy (and_then x minus_on) (operations (s.Negative e) (sees c))
+  negates e c mean (w.Is (Truth b)) k h = tt
+  negates e c mean (w.Is (Number z)) k h =
+      subst (λ y. Worthy (minus_on (Number z)) (operations e (sees c) ++ (record { op = arith.Negate; a = number_of y; b = pos 0 } ∷ []))) (sym (value e c (Number z) mean k))
       (last_one arith.Negate z (pos 0) (neg_ℤ z) (operations e (sees c)) refl h)
-  negates e c (w.Leaves o) k h =
+  negates e c mean (w.Leaves o) k h =
       some_then (operations e (sees c)) (record { op = arith.Negate; a = number_of (ev e (sees c)); b = pos 0 } ∷ []) o h
-  negates e c w.NoScalar k h = tt
+  negates e c mean w.NoScalar k h = tt
 
   reads : (x : Option Scalar) → Worthy (known x) []
   reads None = tt
   reads (Some x) = refl
 
-  first_of_ex : (e : Ex) (c : Seen) → Worthy (worth e c) (operations e (sees c))
-  first_of_ex (s.Number z) c = refl
-  first_of_ex (s.Fact b) c = refl
-  first_of_ex (s.Read (s.Global x)) c = reads (slice_get c.globals x)
-  first_of_ex (s.Read (s.Local x)) c = reads (slice_get c.frame x)
-  first_of_ex (s.Not e) c = denies (worth e c) (operations e (sees c)) (first_of_ex e c)
-  first_of_ex (s.Negative e) c = negates e c (worth e c) refl (first_of_ex e c)
-  first_of_ex (s.Binary o a b) c =
-      joins_by o a b c (worth a c) (worth b c) refl refl (first_of_ex a c) (first_of_ex b c)
-  first_of_ex (s.Old e) c = first_of_ex e (at_entry c)
-  first_of_ex (s.Constant k) c = tt
-  first_of_ex (s.Apply f es) c = tt
-  first_of_ex (s.Select m es) c = tt
-  first_of_ex (s.Update m es e) c = tt
-
-  -- ---- lists of expressions
+  -- ---- expressions and lists of them
 
   abbrev Listing : Listed → List Operation → Type 0
   Listing (Are xs) os = first_outside os ≡ None
@@ -187,10 +173,32 @@ module _ (fs : ℕ → List Val → Val) (cs : List Val) where
   one_more (w.Leaves o) l xs ys h k = some_then xs ys o h
   one_more w.NoScalar l xs ys h k = tt
 
-  first_of_exs : (es : Exs) (c : Seen) → Listing (worths es c) (operations_of es (sees c))
-  first_of_exs NoMore c = refl
-  first_of_exs (More e es) c =
-      one_more (worth e c) (worths es c) (operations e (sees c)) (operations_of es (sees c)) (first_of_ex e c) (first_of_exs es c)
+  applied : (f : ℕ) (ts : List TableOf) (l : Listed) (os : List Operation) → Listing l os → Worthy (and_then_all l (λ xs. w.Is (told ts f xs))) os
+  applied f ts (Are xs) os h = h
+  applied f ts (Leave o) os h = h
+  applied f ts NoScalars os h = tt
+
+  mutual
+    first_of_ex : (e : Ex) (c : Seen) → MeanTables fs c.tables → Worthy (worth e c) (operations e (sees c))
+    first_of_ex (s.Number z) c mean = refl
+    first_of_ex (s.Fact b) c mean = refl
+    first_of_ex (s.Read (s.Global x)) c mean = reads (slice_get c.globals x)
+    first_of_ex (s.Read (s.Local x)) c mean = reads (slice_get c.frame x)
+    first_of_ex (s.Not e) c mean = denies (worth e c) (operations e (sees c)) (first_of_ex e c mean)
+    first_of_ex (s.Negative e) c mean = negates e c mean (worth e c) refl (first_of_ex e c mean)
+    first_of_ex (s.Binary o a b) c mean =
+        joins_by o a b c mean (worth a c) (worth b c) refl refl (first_of_ex a c mean) (first_of_ex b c mean)
+    first_of_ex (s.Old e) c mean = first_of_ex e (at_entry c) mean
+    first_of_ex (s.Constant k) c mean = tt
+    first_of_ex (s.Apply f es) c mean =
+        applied f c.tables (worths es c) (operations_of es (sees c)) (first_of_exs es c mean)
+    first_of_ex (s.Select m es) c mean = tt
+    first_of_ex (s.Update m es e) c mean = tt
+
+    first_of_exs : (es : Exs) (c : Seen) → MeanTables fs c.tables → Listing (worths es c) (operations_of es (sees c))
+    first_of_exs NoMore c mean = refl
+    first_of_exs (More e es) c mean =
+        one_more (worth e c) (worths es c) (operations e (sees c)) (operations_of es (sees c)) (first_of_ex e c mean) (first_of_exs es c mean)
 
   -- ---- clauses
 
@@ -207,32 +215,32 @@ module _ (fs : ℕ → List Val → Val) (cs : List Val) where
   behind_it Unsaid xs os k f = tt
 
   -- a clause, and those behind it where it is true
-  one_clause : (a : Answer) (e : Ex) (c : Seen) (x : Said) (os : List Operation) → Saying_so x os → Saying_so (then_said (or_stops a (worth e c)) x) (operations e (sees c) ++ (if truth_of (ev e (sees c)) then os else []))
-  one_clause a e c x os h = by (worth e c) refl (first_of_ex e c)
+  one_clause : (a : Answer) (e : Ex) (c : Seen) → MeanTables fs c.tables → (x : Said) (os : List Operation) → Saying_so x os → Saying_so (then_said (or_stops a (worth e c)) x) (operations e (sees c) ++ (if truth_of (ev e (sees c)) then os else []))
+  one_clause a e c mean x os h = by (worth e c) refl (first_of_ex e c mean)
     where
       by : (y : Worth) → worth e c ≡ y → Worthy y (operations e (sees c)) → Saying_so (then_said (or_stops a y) x) (operations e (sees c) ++ (if truth_of (ev e (sees c)) then os else []))
       by (w.Is (Truth true)) k f =
-          subst (λ z. Saying_so x (operations e (sees c) ++ (if truth_of z then os else []))) (sym (value e c (Truth true) k)) (behind_it x (operations e (sees c)) os h f)
+          subst (λ z. Saying_so x (operations e (sees c) ++ (if truth_of z then os else []))) (sym (value e c (Truth true) mean k)) (behind_it x (operations e (sees c)) os h f)
       by (w.Is (Truth false)) k f =
-          subst (λ z. first_outside (operations e (sees c) ++ (if truth_of z then os else [])) ≡ None) (sym (value e c (Truth false) k)) (no_more (operations e (sees c)) f)
+          subst (λ z. first_outside (operations e (sees c) ++ (if truth_of z then os else [])) ≡ None) (sym (value e c (Truth false) mean k)) (no_more (operations e (sees c)) f)
       by (w.Is (Number z)) k f = tt
       by (w.Leaves o) k f = some_then (operations e (sees c)) (if truth_of (ev e (sees c)) then os else []) o f
       by w.NoScalar k f = tt
 
-  first_of_checks : (set : ℕ → Bool) (c : Seen) (ds : List Demand) → Saying_so (checks set c ds) (of_checks set (sees c) ds)
-  first_of_checks set c [] = refl
-  first_of_checks set c (d ∷ ds) = by (is_kept set d.candidate) (first_of_checks set c ds)
+  first_of_checks : (set : ℕ → Bool) (c : Seen) → MeanTables fs c.tables → (ds : List Demand) → Saying_so (checks set c ds) (of_checks set (sees c) ds)
+  first_of_checks set c mean [] = refl
+  first_of_checks set c mean (d ∷ ds) = by (is_kept set d.candidate) (first_of_checks set c mean ds)
     where
       by : (b : Bool) → Saying_so (checks set c ds) (of_checks set (sees c) ds) → Saying_so (then_said (if b then or_stops (Failed d.spot) (worth d.says c) else Fine) (checks set c ds)) (if b then operations d.says (sees c) ++ (if truth_of (ev d.says (sees c)) then of_checks set (sees c) ds else []) else of_checks set (sees c) ds)
-      by true h = one_clause (Failed d.spot) d.says c (checks set c ds) (of_checks set (sees c) ds) h
+      by true h = one_clause (Failed d.spot) d.says c mean (checks set c ds) (of_checks set (sees c) ds) h
       by false h = h
 
-  first_of_supposes : (set : ℕ → Bool) (c : Seen) (ds : List Saying) → Saying_so (supposes set c ds) (of_supposes set (sees c) ds)
-  first_of_supposes set c [] = refl
-  first_of_supposes set c (d ∷ ds) = by (is_kept set d.candidate) (first_of_supposes set c ds)
+  first_of_supposes : (set : ℕ → Bool) (c : Seen) → MeanTables fs c.tables → (ds : List Saying) → Saying_so (supposes set c ds) (of_supposes set (sees c) ds)
+  first_of_supposes set c mean [] = refl
+  first_of_supposes set c mean (d ∷ ds) = by (is_kept set d.candidate) (first_of_supposes set c mean ds)
     where
       by : (b : Bool) → Saying_so (supposes set c ds) (of_supposes set (sees c) ds) → Saying_so (then_said (if b then or_stops Blocked (worth d.says c) else Fine) (supposes set c ds)) (if b then operations d.says (sees c) ++ (if truth_of (ev d.says (sees c)) then of_supposes set (sees c) ds else []) else of_supposes set (sees c) ds)
-      by true h = one_clause Blocked d.says c (supposes set c ds) (of_supposes set (sees c) ds) h
+      by true h = one_clause Blocked d.says c mean (supposes set c ds) (of_supposes set (sees c) ds) h
       by false h = h
 
   -- ---- commands
@@ -292,42 +300,42 @@ module _ (fs : ℕ → List Val → Val) (cs : List Val) where
   so_plain (Outside o) os k h g = h
   so_plain Unknown os k h g = tt
 
-  gives : (a : Around) (k : Plan) (was args : List Scalar) (o : Option (List Scalar)) (m : Moment) → Leaving (given_back o a was args k.gives k.takes m) (of_results sees a k was args o m)
-  gives a k was args None m = refl
-  gives a k was args (Some xs) m =
-      let inside : Seen = record { globals = (skipped xs m).globals; before = was; frame = args ++ xs } in
-      so_plain (on_said (supposes a.set inside k.gives) (skipped xs m)) (of_supposes a.set (sees inside) k.gives) (λ n. Goes (put_each k.takes xs n)) (on_leaving (supposes a.set inside k.gives) (skipped xs m) (of_supposes a.set (sees inside) k.gives) (first_of_supposes a.set inside k.gives)) (λ n. refl)
+  gives : (a : Around) → MeanTables fs a.tables → (k : Plan) (was args : List Scalar) (o : Option (List Scalar)) (m : Moment) → Leaving (given_back o a was args k.gives k.takes m) (of_results sees a k was args o m)
+  gives a mean k was args None m = refl
+  gives a mean k was args (Some xs) m =
+      let inside : Seen = record { tables = a.tables; globals = (skipped xs m).globals; before = was; frame = args ++ xs } in
+      so_plain (on_said (supposes a.set inside k.gives) (skipped xs m)) (of_supposes a.set (sees inside) k.gives) (λ n. Goes (put_each k.takes xs n)) (on_leaving (supposes a.set inside k.gives) (skipped xs m) (of_supposes a.set (sees inside) k.gives) (first_of_supposes a.set inside mean k.gives)) (λ n. refl)
 
-  calls : (a : Around) (k : Plan) (l : Listed) (m : Moment) (os : List Operation) → Listing l os → Leaving (called_with l a k.needs k.modifies (holdings_of k.results) k.gives k.takes m) (os ++ of_call sees a k l m)
-  calls a k (Are args) m os h =
-      let inside : Seen = record { globals = m.globals; before = m.globals; frame = args } in
+  calls : (a : Around) → MeanTables fs a.tables → (k : Plan) (l : Listed) (m : Moment) (os : List Operation) → Listing l os → Leaving (called_with l a k.needs k.modifies (holdings_of k.results) k.gives k.takes m) (os ++ of_call sees a k l m)
+  calls a mean k (Are args) m os h =
+      let inside : Seen = record { tables = a.tables; globals = m.globals; before = m.globals; frame = args } in
       let rest : Moment → Out = λ n. and_so (forgotten a k.modifies n) (λ u. given_back (chosen (holdings_of k.results) u.choices) a n.globals args k.gives k.takes u) in
       let more : Moment → List Operation = λ n. behind (forgotten a k.modifies n) (λ u. of_results sees a k n.globals args (chosen (holdings_of k.results) u.choices) u) in
       behind_none (and_so (on_said (checks a.set inside k.needs) m) rest) os (of_checks a.set (sees inside) k.needs ++ behind (on_said (checks a.set inside k.needs) m) more) h
-      (so_leaving (on_said (checks a.set inside k.needs) m) (of_checks a.set (sees inside) k.needs) rest more (on_leaving (checks a.set inside k.needs) m (of_checks a.set (sees inside) k.needs) (first_of_checks a.set inside k.needs)) (λ n. so_leaving (forgotten a k.modifies n) [] (λ u. given_back (chosen (holdings_of k.results) u.choices) a n.globals args k.gives k.takes u) (λ u. of_results sees a k n.globals args (chosen (holdings_of k.results) u.choices) u) (forgets a k.modifies n) (λ u. gives a k n.globals args (chosen (holdings_of k.results) u.choices) u)))
-  calls a k (Leave o) m os h = some_then os [] o h
-  calls a k NoScalars m os h = tt
+      (so_leaving (on_said (checks a.set inside k.needs) m) (of_checks a.set (sees inside) k.needs) rest more (on_leaving (checks a.set inside k.needs) m (of_checks a.set (sees inside) k.needs) (first_of_checks a.set inside mean k.needs)) (λ n. so_leaving (forgotten a k.modifies n) [] (λ u. given_back (chosen (holdings_of k.results) u.choices) a n.globals args k.gives k.takes u) (λ u. of_results sees a k n.globals args (chosen (holdings_of k.results) u.choices) u) (forgets a k.modifies n) (λ u. gives a mean k n.globals args (chosen (holdings_of k.results) u.choices) u)))
+  calls a mean k (Leave o) m os h = some_then os [] o h
+  calls a mean k NoScalars m os h = tt
 
   performs : (z : Bool) (x : Out) (os : List Operation) → Leaving x os → Leaving (if z then x else Unknown) os
   performs true x os h = h
   performs false x os h = tt
 
-  first_of_act : (a : Around) (k : Cmd) (m : Moment) → Leaving (acts a k m) (of_act sees a k m)
-  first_of_act a (Check ds) m =
-      on_leaving (checks a.set (seen_at a m) ds) m (of_checks a.set (sees (seen_at a m)) ds) (first_of_checks a.set (seen_at a m) ds)
-  first_of_act a (Suppose ds) m =
-      on_leaving (supposes a.set (seen_at a m) ds) m (of_supposes a.set (sees (seen_at a m)) ds) (first_of_supposes a.set (seen_at a m) ds)
-  first_of_act a (Forget xs) m = forgets a xs m
-  first_of_act a (Put xs es) m =
-      assigns (worths es (seen_at a m)) xs m (operations_of es (sees (seen_at a m))) (first_of_exs es (seen_at a m))
-  first_of_act a (Perform k) m =
-      performs (hold_scalars (holdings_of k.results)) _ _ (calls a k (worths k.args (seen_at a m)) m (operations_of k.args (sees (seen_at a m))) (first_of_exs k.args (seen_at a m)))
-  first_of_act a Finish m = refl
+  first_of_act : (a : Around) → MeanTables fs a.tables → (k : Cmd) (m : Moment) → Leaving (acts a k m) (of_act sees a k m)
+  first_of_act a mean (Check ds) m =
+      on_leaving (checks a.set (seen_at a m) ds) m (of_checks a.set (sees (seen_at a m)) ds) (first_of_checks a.set (seen_at a m) mean ds)
+  first_of_act a mean (Suppose ds) m =
+      on_leaving (supposes a.set (seen_at a m) ds) m (of_supposes a.set (sees (seen_at a m)) ds) (first_of_supposes a.set (seen_at a m) mean ds)
+  first_of_act a mean (Forget xs) m = forgets a xs m
+  first_of_act a mean (Put xs es) m =
+      assigns (worths es (seen_at a m)) xs m (operations_of es (sees (seen_at a m))) (first_of_exs es (seen_at a m) mean)
+  first_of_act a mean (Perform k) m =
+      performs (hold_scalars (holdings_of k.results)) _ _ (calls a mean k (worths k.args (seen_at a m)) m (operations_of k.args (sees (seen_at a m))) (first_of_exs k.args (seen_at a m) mean))
+  first_of_act a mean Finish m = refl
 
-  first_of_acts : (a : Around) (ks : List Cmd) (m : Moment) → Leaving (acts_each a ks m) (of_acts sees a ks m)
-  first_of_acts a [] m = refl
-  first_of_acts a (k ∷ ks) m =
-      so_leaving (acts a k m) (of_act sees a k m) (acts_each a ks) (of_acts sees a ks) (first_of_act a k m) (first_of_acts a ks)
+  first_of_acts : (a : Around) → MeanTables fs a.tables → (ks : List Cmd) (m : Moment) → Leaving (acts_each a ks m) (of_acts sees a ks m)
+  first_of_acts a mean [] m = refl
+  first_of_acts a mean (k ∷ ks) m =
+      so_leaving (acts a k m) (of_act sees a k m) (acts_each a ks) (of_acts sees a ks) (first_of_act a mean k m) (first_of_acts a mean ks)
 
   -- ---- blocks
 
@@ -352,13 +360,13 @@ module _ (fs : ℕ → List Val → Val) (cs : List Val) where
   tests (w.Leaves o) on off m os h = h
   tests w.NoScalar on off m os h = tt
 
-  first_of_exit : (a : Around) (x : Exit) (m : Moment) → Leading (leaves a x m) (of_exit sees a x m)
-  first_of_exit a (Leap []) m = refl
-  first_of_exit a (Leap (k ∷ [])) m = refl
-  first_of_exit a (Leap (k ∷ l ∷ ks)) m = branches (branched m.choices) (k ∷ l ∷ ks) (moved m)
-  first_of_exit a (Either Star on off) m = branches (branched m.choices) (on ∷ off ∷ []) (moved m)
-  first_of_exit a (Either (Test e) on off) m =
-      tests (worth e (seen_at a m)) on off m (operations e (sees (seen_at a m))) (first_of_ex e (seen_at a m))
+  first_of_exit : (a : Around) → MeanTables fs a.tables → (x : Exit) (m : Moment) → Leading (leaves a x m) (of_exit sees a x m)
+  first_of_exit a mean (Leap []) m = refl
+  first_of_exit a mean (Leap (k ∷ [])) m = refl
+  first_of_exit a mean (Leap (k ∷ l ∷ ks)) m = branches (branched m.choices) (k ∷ l ∷ ks) (moved m)
+  first_of_exit a mean (Either Star on off) m = branches (branched m.choices) (on ∷ off ∷ []) (moved m)
+  first_of_exit a mean (Either (Test e) on off) m =
+      tests (worth e (seen_at a m)) on off m (operations e (sees (seen_at a m))) (first_of_ex e (seen_at a m) mean)
 
   so_ran : (x : Out) (xs : List Operation) (k : Moment → Said) (f : Moment → List Operation) → Leaving x xs → ((m : Moment) → Saying_so (k m) (f m)) → Saying_so (ran x k) (xs ++ behind x f)
   so_ran (Goes m) xs k f h g = behind_it (k m) xs (f m) (g m) h
@@ -372,17 +380,17 @@ module _ (fs : ℕ → List Val → Val) (cs : List Val) where
   so_enters (Beyond o) xs k f h g = some_then xs [] o h
   so_enters Nowhere xs k f h g = tt
 
-  first_of_run : (a : Around) (k : ℕ) (bs : List Block) (m : Moment) → Saying_so (runs a k bs m) (of_run sees a k bs m)
-  first_of_run a zero [] m = refl
-  first_of_run a (suc k) [] m = refl
-  first_of_run a (suc k) (b ∷ bs) m = first_of_run a k bs m
-  first_of_run a zero (b ∷ bs) m =
-      so_ran (acts_each a b.cmds m) (of_acts sees a b.cmds m) (λ n. enters (leaves a b.exit n) (λ k u. runs a k bs u)) (λ n. of_exit sees a b.exit n ++ behind_way (leaves a b.exit n) (λ k u. of_run sees a k bs u)) (first_of_acts a b.cmds m)
-      (λ n. so_enters (leaves a b.exit n) (of_exit sees a b.exit n) (λ k u. runs a k bs u) (λ k u. of_run sees a k bs u) (first_of_exit a b.exit n) (λ k u. first_of_run a k bs u))
+  first_of_run : (a : Around) → MeanTables fs a.tables → (k : ℕ) (bs : List Block) (m : Moment) → Saying_so (runs a k bs m) (of_run sees a k bs m)
+  first_of_run a mean zero [] m = refl
+  first_of_run a mean (suc k) [] m = refl
+  first_of_run a mean (suc k) (b ∷ bs) m = first_of_run a mean k bs m
+  first_of_run a mean zero (b ∷ bs) m =
+      so_ran (acts_each a b.cmds m) (of_acts sees a b.cmds m) (λ n. enters (leaves a b.exit n) (λ k u. runs a k bs u)) (λ n. of_exit sees a b.exit n ++ behind_way (leaves a b.exit n) (λ k u. of_run sees a k bs u)) (first_of_acts a mean b.cmds m)
+      (λ n. so_enters (leaves a b.exit n) (of_exit sees a b.exit n) (λ k u. runs a k bs u) (λ k u. of_run sees a k bs u) (first_of_exit a mean b.exit n) (λ k u. first_of_run a mean k bs u))
 
   -- what ends at an operation ends at the first that leaves the range; what ends with an answer has none
-  pub leaves_first : (a : Around) (k : ℕ) (bs : List Block) (m : Moment) (o : OutOfRange) → runs a k bs m ≡ Leaves o → first_outside (of_run sees a k bs m) ≡ Some o
-  leaves_first a k bs m o e = subst (λ x. Saying_so x (of_run sees a k bs m)) e (first_of_run a k bs m)
+  pub leaves_first : (a : Around) → MeanTables fs a.tables → (k : ℕ) (bs : List Block) (m : Moment) (o : OutOfRange) → runs a k bs m ≡ Leaves o → first_outside (of_run sees a k bs m) ≡ Some o
+  leaves_first a mean k bs m o e = subst (λ x. Saying_so x (of_run sees a k bs m)) e (first_of_run a mean k bs m)
 
-  pub stops_within : (a : Around) (k : ℕ) (bs : List Block) (m : Moment) (x : Answer) → runs a k bs m ≡ Stops x → first_outside (of_run sees a k bs m) ≡ None
-  stops_within a k bs m x e = subst (λ y. Saying_so y (of_run sees a k bs m)) e (first_of_run a k bs m)
+  pub stops_within : (a : Around) → MeanTables fs a.tables → (k : ℕ) (bs : List Block) (m : Moment) (x : Answer) → runs a k bs m ≡ Stops x → first_outside (of_run sees a k bs m) ≡ None
+  stops_within a mean k bs m x e = subst (λ y. Saying_so y (of_run sees a k bs m)) e (first_of_run a mean k bs m)

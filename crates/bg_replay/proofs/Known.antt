@@ -1,48 +1,23 @@
--- Typed clauses and lists over scalars say something.
-use Rattle.std.proofs.Common.{◌≡◌, ℕ, Bool, true, false, List, [], ◌∷◌, map, ap}
+-- Typed clauses over scalars say something.
+use Rattle.std.proofs.Common.{◌≡◌, ℕ, Bool, true, false, List, [], ◌∷◌}
 use Rattle.std.specs.Prelude.{if◌then◌else◌}
-use Rattle.bg_ast.specs.Values.{Ty, BoolTy, is_of}
-use Rattle.bg_ast.specs.Syntax.{Exs, NoMore, More}
+use Rattle.bg_ast.specs.Values.{BoolTy}
 use Rattle.bg_sense.specs.Flow.{Answer, Blocked, Failed}
 use Rattle.bg_sense.specs.Clauses.{is_kept}
-use Rattle.bg_sense.specs.Types.{are_of}
-use Rattle.bg_sense.specs.Typing.{Sig, HaveTypes}
-use Rattle.bg_sense.proofs.Bools.{both}
+use Rattle.bg_sense.specs.Typing.{Sig}
 use Rattle.bg_flow.specs.Core.{Demand, Saying}
 use Rattle.bg_block_types.specs.TypedFlow.{DemandsAreTyped, SayingsAreTyped}
 use Rattle.bg_scalar.specs.Worths.{Seen, worth}
-use Rattle.bg_scalar.specs.Lists.{Listed, Are, Leave, NoScalars, cons, worths}
 use Rattle.bg_scalar.specs.Typed.{is_scalar, Sees, HasWorth}
-use Rattle.bg_scalar.specs.Values.{val_of}
 use Rattle.bg_scalar.specs.declared.scalar.Scalar.TheVariants.{Truth, Number}
 use Rattle.bg_scalar.specs.declared.scalar.Worth.{Worth}
 use Rattle.bg_scalar.specs.declared.scalar.Worth.TheVariants.{Is, Leaves, NoScalar}
 use Rattle.bg_scalar.proofs.Typing.{has_worth}
 use Rattle.bg_replay.specs.Said as said
 use Rattle.bg_replay.specs.Said.{Said, Fine, Stops, Unsaid, then_said, or_stops, check_one, checks, suppose_one, supposes}
-use Rattle.bg_replay.specs.Over.{over_exs, over_demands, over_sayings}
+use Rattle.bg_replay.specs.Over.{over_demands, over_sayings}
 use Rattle.bg_replay.specs.Endings.{Tells}
 use Rattle.bg_replay.proofs.Calling.{both_true}
-
--- scalars of these types, unless an operation leaves the range
-abbrev pub HaveWorths : List Ty → Listed → Type 0
-HaveWorths ts (Are xs) = are_of ts (map val_of xs) ≡ true
-HaveWorths ts (Leave o) = Unit {0}
-HaveWorths ts NoScalars = ⊥
-
-cons_have : (t : Ty) (ts : List Ty) (a : Worth) (l : Listed) → HasWorth t a → HaveWorths ts l → HaveWorths (t ∷ ts) (cons a l)
-cons_have t ts (Is x) (Are xs) h k = both (is_of t (val_of x)) (are_of ts (map val_of xs)) h k
-cons_have t ts (Is x) (Leave o) h k = tt
-cons_have t ts (Is x) NoScalars h k = absurd k
-cons_have t ts (Leaves o) l h k = tt
-cons_have t ts NoScalar l h k = absurd h
-
-pub known_exs : (g : Sig) (es : Exs) (ts : List Ty) (s : Seen) → Sees g s → HaveTypes es g ts → over_exs es ≡ true → HaveWorths ts (worths es s)
-known_exs g NoMore ts s w h k = ap (λ l. are_of l []) h
-known_exs g (More e es) [] s w h k = absurd h
-known_exs g (More e es) (t ∷ ts) s w h k =
-    let b = both_true (is_scalar e) (over_exs es) k in
-    cons_have t ts (worth e s) (worths es s) (has_worth e s g t b.0 h.0 w) (known_exs g es ts s w h.1 b.1)
 
 tells_then : (s t : Said) → Tells s → Tells t → Tells (then_said s t)
 tells_then Fine t h k = k

@@ -114,19 +114,19 @@ module _ (extra : List Choice) where
   given_longer (Some xs) hs a was args gives takes m e =
       let c = chosen_more hs m.choices xs e in
       let moments : skipped xs (more m) ≡ more (skipped xs m) = ap (λ (cs : List Choice). record m { choices = cs }) c.behind in
-      let says = λ (t : Moment). on_said (supposes a.set (record { globals = t.globals; before = was; frame = args ++ xs }) gives) t in
+      let says = λ (t : Moment). on_said (supposes a.set (record { tables = a.tables; globals = t.globals; before = was; frame = args ++ xs }) gives) t in
       subst
       (λ (z : Option (List Scalar)). Longer (given_back (Some xs) a was args gives takes m) (given_back z a was args gives takes (more m)))
       (sym c.same)
       (subst
-      (λ (t : Moment). Longer (given_back (Some xs) a was args gives takes m) (and_so (on_said (supposes a.set (record { globals = t.globals; before = was; frame = args ++ xs }) gives) t) (λ s. Goes (put_each takes xs s))))
+      (λ (t : Moment). Longer (given_back (Some xs) a was args gives takes m) (and_so (on_said (supposes a.set (record { tables = a.tables; globals = t.globals; before = was; frame = args ++ xs }) gives) t) (λ s. Goes (put_each takes xs s))))
       (sym moments)
       (and_longer
       (says (skipped xs m))
       (says (more (skipped xs m)))
       (λ s. Goes (put_each takes xs s))
       (λ s. Goes (put_each takes xs s))
-      (said_longer (supposes a.set (record { globals = m.globals; before = was; frame = args ++ xs }) gives) (skipped xs m))
+      (said_longer (supposes a.set (record { tables = a.tables; globals = m.globals; before = was; frame = args ++ xs }) gives) (skipped xs m))
       (λ s. inr (ap Goes (put_each_more takes xs s)))))
 
   called_with_longer : (ys : Listed) (a : Around) (needs : List Demand) (modifies : List Var) (hs : List Holding) (gives : List Saying) (takes : List Var) (m : Moment) → Longer (called_with ys a needs modifies hs gives takes m) (called_with ys a needs modifies hs gives takes (more m))
@@ -138,7 +138,7 @@ module _ (extra : List Choice) where
       _
       (λ n. and_so (forgotten a modifies n) (λ u. given_back (chosen hs u.choices) a n.globals args gives takes u))
       (λ n. and_so (forgotten a modifies n) (λ u. given_back (chosen hs u.choices) a n.globals args gives takes u))
-      (said_longer (checks a.set (record { globals = m.globals; before = m.globals; frame = args }) needs) m)
+      (said_longer (checks a.set (record { tables = a.tables; globals = m.globals; before = m.globals; frame = args }) needs) m)
       (λ n. and_longer
       (forgotten a modifies n)
       (forgotten a modifies (more n))

@@ -1,8 +1,9 @@
 -- Commands of the program: one assumption, and a call's plan.
-use Rattle.std.proofs.Common.{◌≡◌, ℕ, zero, suc, Bool, true, false, List, [], ◌∷◌, map, refl, sym, ap}
+use Rattle.std.proofs.Common.{◌≡◌, ℕ, zero, suc, Bool, true, false, List, [], ◌∷◌, map, refl, sym, ap, ◌∙◌}
 use Rattle.std.specs.Prelude.{slice_get}
 use Rattle.bg_ast.specs.Values as v
 use Rattle.bg_ast.specs.Syntax as s
+use Rattle.bg_ast.specs.Syntax.{Var}
 use Rattle.bg_ast.specs.Resolved as r
 use Rattle.bg_ast.specs.Meaning as m
 use Rattle.bg_ast.specs.Execution.{AtCall}
@@ -12,16 +13,19 @@ use Rattle.bg_ast.specs.declared.resolved.Procedure.{Procedure}
 use Rattle.bg_ast.specs.declared.resolved.Variable.{Variable}
 use Rattle.bg_sense.specs.Flow.{Blocked}
 use Rattle.bg_sense.specs.Variables.{wheres_of, wheres_at, wheres_in, modified}
-use Rattle.bg_flow.specs.Core.{Saying, Plan, Perform, demands, sayings, plain, each_one, plan_of, still}
+use Rattle.bg_flow.specs.Core.{Demand, Saying, Plan, Perform, demands, sayings, plain, each_one, plan_of, still}
 use Rattle.bg_blocks.specs.Views.{clauses_in, procedure_in}
 use Rattle.bg_scalar.specs.Worths.{Seen, worth}
+use Rattle.bg_fits.specs.declared.types.Holding.{Holding}
+use Rattle.bg_scalar.specs.Lists.{Are}
+use Rattle.bg_scalar.specs.declared.scalar.Scalar.{Scalar}
 use Rattle.bg_scalar.specs.declared.scalar.Scalar.TheVariants.{Truth, Number}
 use Rattle.bg_scalar.specs.declared.scalar.Worth.{Worth}
 use Rattle.bg_scalar.specs.declared.scalar.Worth.TheVariants.{Is, Leaves, NoScalar}
 use Rattle.bg_replay.specs.Holds.{results_in}
 use Rattle.bg_replay.specs.Moments.{Moment, Around, Out, and_so}
-use Rattle.bg_replay.specs.Said.{or_stops, then_said, Fine, supposes, on_said}
-use Rattle.bg_replay.specs.Acts.{called, acts}
+use Rattle.bg_replay.specs.Said.{Said, or_stops, then_said, Fine, checks, supposes, on_said}
+use Rattle.bg_replay.specs.Acts.{forgotten, chosen, given_back, called_with, called, acts}
 use Rattle.bg_replay.specs.Views.{said_by}
 use Rattle.bg_replay.specs.declared.ending.Ending.{Ending}
 use Rattle.bg_replay.specs.declared.ending.Ending.TheVariants as ends
@@ -73,3 +77,12 @@ plan_called p k q xs a n =
     let gives : plan.gives ≡ says =
     gives_is _ _ says (no_wheres_at p (modified (m.meaning_of p) (procedure_in p (proc_of q)))) (no_wheres_of named (map declared_of q.results.items)) in
     ap (λ (l : List Saying). called a plan.args plan.needs (map var_of xs) (results_in p (map declared_of q.results.items)) l plan.takes n) (sym gives)
+
+-- a call whose clauses hold and whose globals are forgotten goes on with its results
+pub call_goes : (a : Around) (args was : List Scalar) (needs : List Demand) (modifies : List Var) (results : List Holding) (gives : List Saying) (takes : List Var) (n u : Moment) (checked forgot : Said) → checked ≡ checks a.set (record { tables = a.tables; globals = n.globals; before = n.globals; frame = args }) needs → checked ≡ Fine → on_said forgot u ≡ forgotten a modifies n → forgot ≡ Fine → was ≡ n.globals → given_back (chosen results u.choices) a was args gives takes u ≡ called_with (Are args) a needs modifies results gives takes n
+call_goes a args was needs modifies results gives takes n u checked forgot c cf f ff w =
+    let back : Moment → Moment → Out = λ t v. given_back (chosen results v.choices) a t.globals args gives takes v in
+    let on : Moment → Out = λ t. and_so (forgotten a modifies t) (back t) in
+    ap (λ gs. given_back (chosen results u.choices) a gs args gives takes u) w
+    ∙ (ap (λ x. and_so (on_said x u) (back n)) (sym ff)
+    ∙ (ap (λ o. and_so o (back n)) f ∙ ap (λ x. and_so (on_said x n) on) (sym cf ∙ c)))

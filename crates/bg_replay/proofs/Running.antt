@@ -13,6 +13,7 @@ use Rattle.bg_flow.specs.Core.{act_all}
 use Rattle.bg_flow.specs.Blocks.{Block, Exit, Leap, Either, Table, at_table, enter, index, leave, table}
 use Rattle.bg_scalar.specs.Worths.{worth}
 use Rattle.bg_scalar.specs.Choices.{choice_of}
+use Rattle.bg_scalar.specs.Values.{MeanTables}
 use Rattle.bg_scalar.specs.declared.choice.Choice.{Choice}
 use Rattle.bg_scalar.specs.declared.choice.Choice.TheVariants as choice
 use Rattle.bg_scalar.specs.declared.scalar.Scalar.TheVariants.{Truth, Number}
@@ -75,14 +76,14 @@ module _ (t : Table) where
   tests (worths.Leaves o) x on off m h = tt
   tests worths.NoScalar x on off m h = tt
 
-module _ (p : Prog) (i : e.Interp) (number : ℕ) (ds : List Decl) (a : Around) where
+module _ (p : Prog) (i : e.Interp) (number : ℕ) (ds : List Decl) (a : Around) (mean : MeanTables (functions_of p i) a.tables) where
   abbrev c : Ctx
   c = ctx p i number ds a
 
   decides : (t : Table) (g : Guard) (on off : ℕ) (m : Moment) → EnterIs t (decided a g on off m) (decide c g (world_of m) (Jumps (Behind on)) (Jumps (Behind off)))
   decides t Star on off m = sides t m.choices on off m
   decides t (Test x) on off m =
-      tests t (worth x (seen_at a m)) (ev x (scope c (world_of m))) on off m (scalar.agrees (functions_of p i) i.constants x (seen_at a m))
+      tests t (worth x (seen_at a m)) (ev x (scope c (world_of m))) on off m (scalar.agrees (functions_of p i) i.constants x (seen_at a m) mean)
 
   leaving : (t : Table) (x : Exit) (m : Moment) → EnterIs t (leaves a x m) (leave c x (world_of m))
   leaving t (Leap []) m = refl
@@ -107,5 +108,5 @@ module _ (p : Prog) (i : e.Interp) (number : ℕ) (ds : List Decl) (a : Around) 
   runs_agree d k [] m = refl
   runs_agree d zero (b ∷ bs) m =
       ran_is (table c [] bs) (λ k u. runs a k bs u) (λ k u. runs_agree d k bs u) b.exit (acts_each a b.cmds m) (act_all c b.cmds (world_of m))
-      (all_acts_agree p i number ds a d b.cmds m)
+      (all_acts_agree p i number ds a mean d b.cmds m)
   runs_agree d (suc k) (b ∷ bs) m = runs_agree d k bs m

@@ -13,24 +13,24 @@ use Rattle.bg_passive.specs.Incarnations.{ty_of}
 use Rattle.bg_block_types.specs.TypedFlow.{sig_with, sig_here, SayingsAreTyped, PlanIsTyped, CmdIsTyped, CmdsAreTyped, ExitIsTyped, CodeIsTyped}
 use Rattle.bg_scalar.specs.Worths.{Seen, worth}
 use Rattle.bg_scalar.specs.Lists.{Listed, Are, Leave, NoScalars, worths}
-use Rattle.bg_scalar.specs.Typed.{Sees, HasWorth}
+use Rattle.bg_scalar.specs.Typed.{are_scalar, Sees, HasWorth, HaveWorths}
 use Rattle.bg_scalar.specs.Values.{val_of}
 use Rattle.bg_scalar.specs.declared.choice.Choice.{Choice}
 use Rattle.bg_scalar.specs.declared.scalar.Scalar.{Scalar}
 use Rattle.bg_scalar.specs.declared.scalar.Scalar.TheVariants.{Truth, Number}
 use Rattle.bg_scalar.specs.declared.scalar.Worth.{Worth}
 use Rattle.bg_scalar.specs.declared.scalar.Worth.TheVariants as is_worth
-use Rattle.bg_scalar.proofs.Typing.{has_worth}
+use Rattle.bg_scalar.proofs.Typing.{has_worth, have_worths}
 use Rattle.bg_replay.specs.Holds.{holds_scalars, hold_scalars, held, held_at}
 use Rattle.bg_replay.specs.Moments.{Moment, Around, Out, Goes, Over, Outside, Unknown, and_so, seen_at}
 use Rattle.bg_replay.specs.Said.{Said, Fine, Stops, Leaves, Unsaid, on_said, checks, supposes}
 use Rattle.bg_replay.specs.Acts.{taken, moved, choose_by, put, put_each, forgotten, assigned, chosen, skipped, given_back, called_with, acts}
 use Rattle.bg_replay.specs.Ways.{Way, On, Off, Beyond, Nowhere, branched, go_to, branch_to, test_to, leaves, acts_each, enters, ran, runs}
-use Rattle.bg_replay.specs.Over.{over_exs, over_demands, over_sayings, over_cmd, over_exit, over_cmds, over_blocks}
+use Rattle.bg_replay.specs.Over.{over_demands, over_sayings, over_cmd, over_exit, over_cmds, over_blocks}
 use Rattle.bg_replay.specs.Endings.{Tells, TypedMoment, TypedAround}
 use Rattle.bg_replay.proofs.Agreeing.{held_is}
 use Rattle.bg_replay.proofs.Calling.{both_true}
-use Rattle.bg_replay.proofs.Known.{HaveWorths, known_exs, checks_tell, supposes_tell}
+use Rattle.bg_replay.proofs.Known.{checks_tell, supposes_tell}
 use Rattle.bg_replay.proofs.Typed.{typed_set, typed_join, scalars_held, taken_typed, chosen_typed}
 
 module _ (p : Prog) (ds : List Decl) (a : Around) where
@@ -103,10 +103,10 @@ module _ (p : Prog) (ds : List Decl) (a : Around) where
     known_given params results cs None was args gives takes m l hw ha t h e w = tt
     known_given params results cs (Some ys) was args gives takes m l hw ha t h e w =
         let u = skipped ys m in
-        let s : Seen = record { globals = u.globals; before = was; frame = args ++ ys } in
+        let s : Seen = record { tables = a.tables; globals = u.globals; before = was; frame = args ++ ys } in
         let typed : Typed u = record { globals = w.globals; frame = w.frame } in
         let sees : Sees (there (params ++ types_of results)) s =
-        record { globals = w.globals; before = hw; frame = typed_join params (types_of results) args ys ha (l ys refl) } in
+        record { tables = b.tables; globals = w.globals; before = hw; frame = typed_join params (types_of results) args ys ha (l ys refl) } in
         known_then (on_said (supposes a.set s gives) u) (λ n. Goes (put_each takes ys n))
         (known_on (supposes a.set s gives) u (supposes_tell a.set (there (params ++ types_of results)) s gives sees t h) typed)
         (λ n k. typed_each takes ys n (subst (λ ts. are_of ts (map val_of ys) ≡ true) (sym e) (l ys refl)) k)
@@ -115,8 +115,8 @@ module _ (p : Prog) (ds : List Decl) (a : Around) where
     known_call (Leave o) k m h t hn hg w = tt
     known_call NoScalars k m h t hn hg w = absurd h
     known_call (Are xs) k m h t hn hg w =
-        let s : Seen = record { globals = m.globals; before = m.globals; frame = xs } in
-        let sees : Sees (there (types_of k.params)) s = record { globals = w.globals; before = w.globals; frame = h } in
+        let s : Seen = record { tables = a.tables; globals = m.globals; before = m.globals; frame = xs } in
+        let sees : Sees (there (types_of k.params)) s = record { tables = b.tables; globals = w.globals; before = w.globals; frame = h } in
         known_then (on_said (checks a.set s k.needs) m) (λ n. and_so (forgotten a k.modifies n) (λ u. given_back (chosen (holdings_of k.results) u.choices) a n.globals xs k.gives k.takes u))
         (known_on (checks a.set s k.needs) m (checks_tell a.set (there (types_of k.params)) s k.needs sees t.1.0 hn) w)
         (λ n wn. known_then (forgotten a k.modifies n) (λ u. given_back (chosen (holdings_of k.results) u.choices) a n.globals xs k.gives k.takes u)
@@ -129,7 +129,7 @@ module _ (p : Prog) (ds : List Decl) (a : Around) where
     known_assigned NoScalars xs m h w = absurd h
 
     sees_here : (m : Moment) → Typed m → Sees (sig_here p ds) (seen_at a m)
-    sees_here m w = record { globals = w.globals; before = b.before; frame = w.frame }
+    sees_here m w = record { tables = b.tables; globals = w.globals; before = b.before; frame = w.frame }
 
     known_act : (k : Cmd) (m : Moment) → CmdIsTyped p ds k → over_cmd k ≡ true → Typed m → Known (acts a k m)
     known_act (Check qs) m t h w =
@@ -138,13 +138,13 @@ module _ (p : Prog) (ds : List Decl) (a : Around) where
         known_on (supposes a.set (seen_at a m) qs) m (supposes_tell a.set (sig_here p ds) (seen_at a m) qs (sees_here m w) t h) w
     known_act (Forget xs) m t h w = known_forgotten xs m w
     known_act (Put xs es) m t h w =
-        known_assigned (worths es (seen_at a m)) xs m (known_exs (sig_here p ds) es (map (ty_of p ds) xs) (seen_at a m) (sees_here m w) t.0 h) w
+        known_assigned (worths es (seen_at a m)) xs m (have_worths es (seen_at a m) (sig_here p ds) (map (ty_of p ds) xs) h t.0 (sees_here m w)) w
     known_act (Perform k) m t h w =
-        let h0 = both_true (hold_scalars (holdings_of k.results)) (over_exs k.args && (over_demands k.needs && over_sayings k.gives)) h in
-        let h1 = both_true (over_exs k.args) (over_demands k.needs && over_sayings k.gives) h0.1 in
+        let h0 = both_true (hold_scalars (holdings_of k.results)) (are_scalar k.args && (over_demands k.needs && over_sayings k.gives)) h in
+        let h1 = both_true (are_scalar k.args) (over_demands k.needs && over_sayings k.gives) h0.1 in
         let h2 = both_true (over_demands k.needs) (over_sayings k.gives) h1.1 in
         known_if (hold_scalars (holdings_of k.results)) (called_with (worths k.args (seen_at a m)) a k.needs k.modifies (holdings_of k.results) k.gives k.takes m) h0.0
-        (known_call (worths k.args (seen_at a m)) k m (known_exs (sig_here p ds) k.args (types_of k.params) (seen_at a m) (sees_here m w) t.0.0 h1.0) t h2.0 h2.1 w)
+        (known_call (worths k.args (seen_at a m)) k m (have_worths k.args (seen_at a m) (sig_here p ds) (types_of k.params) h1.0 t.0.0 (sees_here m w)) t h2.0 h2.1 w)
     known_act Finish m t h w = tt
 
     known_acts : (ks : List Cmd) (m : Moment) → CmdsAreTyped p ds ks → over_cmds ks ≡ true → Typed m → Known (acts_each a ks m)

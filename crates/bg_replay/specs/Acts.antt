@@ -79,12 +79,12 @@ abbrev pub given_back : Option (List Scalar) → Around → List Scalar → List
 given_back None a was args gives takes m = Over BadChoice
 given_back (Some xs) a was args gives takes m =
     let t = skipped xs m in
-    and_so (on_said (supposes a.set (record { globals = t.globals; before = was; frame = args ++ xs }) gives) t) (λ s. Goes (put_each takes xs s))
+    and_so (on_said (supposes a.set (record { tables = a.tables; globals = t.globals; before = was; frame = args ++ xs }) gives) t) (λ s. Goes (put_each takes xs s))
 
 -- a call with these arguments, if they are scalars
 abbrev pub called_with : Listed → Around → List Demand → List Var → List Holding → List Saying → List Var → Moment → Out
 called_with (Are args) a needs modifies results gives takes m =
-    and_so (on_said (checks a.set (record { globals = m.globals; before = m.globals; frame = args }) needs) m) (λ n.
+    and_so (on_said (checks a.set (record { tables = a.tables; globals = m.globals; before = m.globals; frame = args }) needs) m) (λ n.
     and_so (forgotten a modifies n) (λ u.
     given_back (chosen results u.choices) a n.globals args gives takes u))
 called_with (Leave o) a needs modifies results gives takes m = Outside o

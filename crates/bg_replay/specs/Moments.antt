@@ -3,6 +3,7 @@ use Rattle.std.specs.Prelude.{ℕ, Bool, List, map}
 use Rattle.bg_base.specs.declared.exact.OutOfRange.{OutOfRange}
 use Rattle.bg_fits.specs.declared.types.Holding.{Holding}
 use Rattle.bg_sense.specs.Flow.{World, Answer}
+use Rattle.bg_scalar.specs.Tables.{TableOf}
 use Rattle.bg_scalar.specs.Worths.{Seen}
 use Rattle.bg_scalar.specs.Values.{val_of}
 use Rattle.bg_scalar.specs.Choices.{choice_of}
@@ -15,10 +16,11 @@ pub record Moment : Type 0 where
   pub frame : List Scalar
   pub choices : List Choice
 
--- what stays the same during a run: the candidates that are there, the globals at entry, and what globals and variables of the frame
--- hold
+-- what stays the same during a run: the candidates that are there, the tables of functions, the globals at entry, and what globals and
+-- variables of the frame hold
 pub record Around : Type 0 where
   pub set : ℕ → Bool
+  pub tables : List TableOf
   pub before : List Scalar
   pub globals : List Holding
   pub frame : List Holding
@@ -43,4 +45,4 @@ world_of m =
 
 -- what is seen at this moment
 abbrev pub seen_at : Around → Moment → Seen
-seen_at a m = record { globals = m.globals; before = a.before; frame = m.frame }
+seen_at a m = record { tables = a.tables; globals = m.globals; before = a.before; frame = m.frame }

@@ -5,7 +5,7 @@ use Rattle.bg_base.specs.declared.exact.Op as exact
 use Rattle.bg_base.specs.declared.exact.Op.TheVariants as arith
 use Rattle.bg_base.specs.declared.exact.OutOfRange.{OutOfRange}
 use Rattle.bg_ast.specs.Values.{number_of, truth_of}
-use Rattle.bg_ast.specs.Syntax.{Op, Plus, Minus, Times, Ex, Not, Negative, Binary, Old, Exs, NoMore, More, Test}
+use Rattle.bg_ast.specs.Syntax.{Op, Plus, Minus, Times, Ex, Not, Negative, Binary, Old, Apply, Exs, NoMore, More, Test}
 use Rattle.bg_fits.specs.Holdings.{holdings_of}
 use Rattle.bg_sense.specs.Eval.{Scope, ev}
 use Rattle.bg_sense.specs.Clauses.{is_kept}
@@ -41,19 +41,21 @@ operation Minus x y = record { op = arith.Minus; a = x; b = y } ∷ []
 operation Times x y = record { op = arith.Times; a = x; b = y } ∷ []
 operation _ x y = []
 
--- an operator's operands come first, from left to right
-abbrev pub operations : Ex → Scope → List Operation
-operations (Not e) c = operations e c
-operations (Negative e) c =
-    operations e c ++ (record { op = arith.Negate; a = number_of (ev e c); b = pos 0 } ∷ [])
-operations (Binary o a b) c =
-    operations a c ++ (operations b c ++ operation o (number_of (ev a c)) (number_of (ev b c)))
-operations (Old e) c = operations e (record c { globals = c.before })
-operations _ c = []
+abbrev mutual
+  -- an operator's operands come first, from left to right, and so do the arguments of a function, which makes none itself
+  pub operations : Ex → Scope → List Operation
+  operations (Not e) c = operations e c
+  operations (Negative e) c =
+      operations e c ++ (record { op = arith.Negate; a = number_of (ev e c); b = pos 0 } ∷ [])
+  operations (Binary o a b) c =
+      operations a c ++ (operations b c ++ operation o (number_of (ev a c)) (number_of (ev b c)))
+  operations (Old e) c = operations e (record c { globals = c.before })
+  operations (Apply f es) c = operations_of es c
+  operations _ c = []
 
-abbrev pub operations_of : Exs → Scope → List Operation
-operations_of NoMore c = []
-operations_of (More e es) c = operations e c ++ operations_of es c
+  pub operations_of : Exs → Scope → List Operation
+  operations_of NoMore c = []
+  operations_of (More e es) c = operations e c ++ operations_of es c
 
 -- ---- of clauses that are there, up to the first that is false
 
@@ -84,11 +86,11 @@ module _ (sees : Seen → Scope) where
   abbrev pub of_results : Around → Plan → List Scalar → List Scalar → Option (List Scalar) → Moment → List Operation
   of_results a k was args None m = []
   of_results a k was args (Some xs) m =
-      of_supposes a.set (sees (record { globals = (skipped xs m).globals; before = was; frame = args ++ xs })) k.gives
+      of_supposes a.set (sees (record { tables = a.tables; globals = (skipped xs m).globals; before = was; frame = args ++ xs })) k.gives
 
   abbrev pub of_call : Around → Plan → Listed → Moment → List Operation
   of_call a k (Are args) m =
-      let inside : Seen = record { globals = m.globals; before = m.globals; frame = args } in
+      let inside : Seen = record { tables = a.tables; globals = m.globals; before = m.globals; frame = args } in
       of_checks a.set (sees inside) k.needs
       ++ behind (on_said (checks a.set inside k.needs) m) (λ n.
       behind (forgotten a k.modifies n) (λ u. of_results a k n.globals args (chosen (holdings_of k.results) u.choices) u))

@@ -1,15 +1,11 @@
 -- Blocks over scalars: each expression is one of scalars, and each result of a call is a scalar.
 use Rattle.std.specs.Prelude.{Bool, true, ◌&&◌, List, [], ◌∷◌}
-use Rattle.bg_ast.specs.Syntax.{Exs, NoMore, More, Star, Test}
+use Rattle.bg_ast.specs.Syntax.{Star, Test}
 use Rattle.bg_fits.specs.Holdings.{holdings_of}
 use Rattle.bg_flow.specs.Core.{Demand, Saying, Plan, Cmd, Check, Suppose, Forget, Put, Perform, Finish}
 use Rattle.bg_flow.specs.Blocks.{Exit, Leap, Either, Block}
-use Rattle.bg_scalar.specs.Typed.{is_scalar}
+use Rattle.bg_scalar.specs.Typed.{is_scalar, are_scalar}
 use Rattle.bg_replay.specs.Holds.{hold_scalars}
-
-abbrev pub over_exs : Exs → Bool
-over_exs NoMore = true
-over_exs (More e es) = is_scalar e && over_exs es
 
 abbrev pub over_demands : List Demand → Bool
 over_demands [] = true
@@ -21,13 +17,13 @@ over_sayings (d ∷ ds) = is_scalar d.says && over_sayings ds
 
 abbrev pub over_plan : Plan → Bool
 over_plan k =
-    hold_scalars (holdings_of k.results) && (over_exs k.args && (over_demands k.needs && over_sayings k.gives))
+    hold_scalars (holdings_of k.results) && (are_scalar k.args && (over_demands k.needs && over_sayings k.gives))
 
 abbrev pub over_cmd : Cmd → Bool
 over_cmd (Check ds) = over_demands ds
 over_cmd (Suppose ds) = over_sayings ds
 over_cmd (Forget xs) = true
-over_cmd (Put xs es) = over_exs es
+over_cmd (Put xs es) = are_scalar es
 over_cmd (Perform k) = over_plan k
 over_cmd Finish = true
 

@@ -3,6 +3,7 @@ use Rattle.std.specs.Prelude.{ℕ, Bool, false, List, Option, Some, None, Vec, s
 use Rattle.std.specs.declared.alloc.Global.{Global}
 use Rattle.bg_places.specs.Views.{spot_of}
 use Rattle.bg_sense.specs.Flow.{Ended, Blocked, Failed, BadChoice}
+use Rattle.bg_scalar.specs.Views.{tables_in}
 use Rattle.bg_scalar.specs.declared.scalar.Scalar.{Scalar}
 use Rattle.bg_replay.specs.Moments.{Moment, Around}
 use Rattle.bg_replay.specs.Said.{Said, Fine, Stops, Leaves, Unsaid}
@@ -24,7 +25,14 @@ abbrev pub set_of : List Bool → ℕ → Bool
 set_of bs b = unwrap_or (slice_get bs b) false
 
 abbrev pub around_of : code_around.Around → Around
-around_of a = record { set = set_of a.set.now; before = a.before.now; globals = a.globals.now; frame = a.frame.now }
+around_of a =
+    record {
+      set = set_of a.set.now;
+      tables = tables_in a.tables.now;
+      before = a.before.now;
+      globals = a.globals.now;
+      frame = a.frame.now;
+    }
 
 abbrev pub said_by : Ending → Said
 said_by ending.Ended = Stops Ended

@@ -49,11 +49,12 @@ fn give_back(
     moment.left = rest_of(moment.left, values.len());
     append(&mut frame, &values)?;
     let sight = Sight {
+        tables: around.tables,
         globals: &moment.globals,
         before: was,
         frame: &frame,
     };
-    match suppose(around.set, sight, Kept::Each, &callee.procedure.ensures_) {
+    match suppose(around, sight, Kept::Each, &callee.procedure.ensures_)? {
         Step::Over(e) => Ok(Step::Over(e)),
         Step::Goes => {
             put_taken(moment, &callee.call.takes, &values);
@@ -73,12 +74,13 @@ fn call_with(
     ensures { IfOk result (λ step. on_said (said_of step) (moment_of moment.new) ≡ called_with (Are args.items) (around_of around.entry) (demands (AtCall callee.entry.call.now.site) (clauses_in callee.entry.procedure.now.requires_.items)) (map var_of callee.entry.modifies.now) callee.entry.results.now (sayings each_one (clauses_in callee.entry.procedure.now.ensures_.items)) (map m.variable_of (map placed_of callee.entry.call.now.takes.items)) (moment_of moment.old)) }
 {
     let sight = Sight {
+        tables: around.tables,
         globals: &moment.globals,
         before: &moment.globals,
         frame: &args,
     };
     let group = Group::Call(callee.call.site);
-    match check(around.set, sight, group, &callee.procedure.requires_) {
+    match check(around, sight, group, &callee.procedure.requires_)? {
         Step::Over(e) => return Ok(Step::Over(e)),
         Step::Goes => {}
     }

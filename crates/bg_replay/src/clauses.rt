@@ -1,5 +1,5 @@
 //! Clauses that are checked or assumed.
-ghost use Rattle.std.specs.Prelude.{◌≡◌};
+ghost use Rattle.std.specs.Prelude.{◌≡◌, IfOk};
 ghost use Rattle.bg_text.specs.Views.{option_of};
 ghost use Rattle.bg_ast.specs.Views.{candidate_of};
 ghost use Rattle.bg_sense.specs.Flow.{Blocked, Failed};
@@ -10,14 +10,16 @@ ghost use Rattle.bg_blocks.specs.Views.{clauses_in};
 ghost use Rattle.bg_replay.specs.Said.{checks, supposes, or_stops};
 ghost use Rattle.bg_replay.specs.Kept.{which_of};
 ghost use Rattle.bg_scalar.specs.Views.{seen_of};
-ghost use Rattle.bg_replay.specs.Views.{said_of, set_of};
+ghost use Rattle.bg_replay.specs.Views.{said_of, set_of, around_of};
 
 use crate::ending::{Ending, Step};
+use crate::moment::Around;
 use bg_ast::resolved::Clause;
 use bg_base::CandId;
 use bg_blocks::Kept;
 use bg_places::{Group, spot_at};
 use bg_scalar::{Scalar, Sight, Worth, worth};
+use std::alloc::AllocError;
 
 /// Whether a clause with this candidate is there.
 fn is_kept(set: &[bool], candidate: Option<CandId>) -> bool
@@ -67,31 +69,45 @@ fn is_which(which: Kept, is_free: bool) -> bool
 }
 
 /// Clauses are checked in order.
-pub fn check(set: &[bool], sight: Sight<'_>, group: Group, clauses: &[Clause]) -> Step
-    ensures { said_of result ≡ checks (set_of set.now) (seen_of sight.entry) (demands (spot_in group) (clauses_in clauses.now)) }
+///
+/// Only want of memory is an error.
+pub fn check(
+    around: Around<'_>,
+    sight: Sight<'_>,
+    group: Group,
+    clauses: &[Clause],
+) -> Result<Step, AllocError>
+    ensures { IfOk result (λ step. said_of step ≡ checks (around_of around.entry).set (seen_of sight.entry) (demands (spot_in group) (clauses_in clauses.now))) }
 {
     for k in clauses {
-        if !k.is_free && is_kept(set, k.candidate) {
-            match ensured(group, k.id, worth(sight, &k.formula)) {
+        if !k.is_free && is_kept(around.set, k.candidate) {
+            match ensured(group, k.id, worth(around.alloc, sight, &k.formula)?) {
                 Step::Goes => {}
-                Step::Over(e) => return Step::Over(e),
+                Step::Over(e) => return Ok(Step::Over(e)),
             }
         }
     }
-    Step::Goes
+    Ok(Step::Goes)
 }
 
 /// Clauses are assumed in order.
-pub fn suppose(set: &[bool], sight: Sight<'_>, which: Kept, clauses: &[Clause]) -> Step
-    ensures { said_of result ≡ supposes (set_of set.now) (seen_of sight.entry) (sayings (which_of which) (clauses_in clauses.now)) }
+///
+/// Only want of memory is an error.
+pub fn suppose(
+    around: Around<'_>,
+    sight: Sight<'_>,
+    which: Kept,
+    clauses: &[Clause],
+) -> Result<Step, AllocError>
+    ensures { IfOk result (λ step. said_of step ≡ supposes (around_of around.entry).set (seen_of sight.entry) (sayings (which_of which) (clauses_in clauses.now))) }
 {
     for k in clauses {
-        if is_which(which, k.is_free) && is_kept(set, k.candidate) {
-            match assumed(worth(sight, &k.formula)) {
+        if is_which(which, k.is_free) && is_kept(around.set, k.candidate) {
+            match assumed(worth(around.alloc, sight, &k.formula)?) {
                 Step::Goes => {}
-                Step::Over(e) => return Step::Over(e),
+                Step::Over(e) => return Ok(Step::Over(e)),
             }
         }
     }
-    Step::Goes
+    Ok(Step::Goes)
 }

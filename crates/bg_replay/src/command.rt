@@ -45,9 +45,9 @@ fn command(around: Around<'_>, moment: &mut Moment<'_>, k: &Cmd<'_>) -> Result<S
     ensures { IfOk result (λ step. on_said (said_of step) (moment_of moment.new) ≡ acts (around_of around.entry) (cmd_of (program_of around.entry.program.now) k.now) (moment_of moment.old)) }
 {
     match k {
-        Cmd::Check(group, ks) => Ok(check(around.set, seen(around, moment), *group, ks)),
-        Cmd::Suppose(which, ks) => Ok(suppose(around.set, seen(around, moment), *which, ks)),
-        Cmd::Assume(e) => Ok(assumed(worth(seen(around, moment), e))),
+        Cmd::Check(group, ks) => check(around, seen(around, moment), *group, ks),
+        Cmd::Suppose(which, ks) => suppose(around, seen(around, moment), *which, ks),
+        Cmd::Assume(e) => Ok(assumed(worth(around.alloc, seen(around, moment), e)?)),
         Cmd::Forget(xs) => Ok(forget(around, moment, xs)),
         Cmd::Put(targets, es) => assign(around, moment, targets, es),
         Cmd::Perform(k, q, xs) => call(around, moment, k, q, xs),

@@ -6,6 +6,7 @@ ghost use Rattle.bg_ast.specs.Syntax.{Decl, Prog};
 ghost use Rattle.bg_ast.specs.Resolved as r;
 ghost use Rattle.bg_ast.specs.Meaning as mean;
 ghost use Rattle.bg_ast.specs.Execution.{Interp};
+ghost use Rattle.bg_sense.specs.Eval.{body_of};
 ghost use Rattle.bg_sense.specs.Flow.{Answer, BadChoice};
 ghost use Rattle.bg_sense.specs.Run.{induction_run};
 ghost use Rattle.bg_replay.specs.Said.{Stops, Leaves};
@@ -15,7 +16,8 @@ ghost use Rattle.bg_blocks.specs.Whole.{AreBlocks};
 ghost use Rattle.bg_blocks.specs.Views.{block_of};
 ghost use Rattle.bg_blocks.specs.declared.block.Block.{Block};
 ghost use Rattle.bg_scalar.specs.Choices.{choice_of, state_of};
-ghost use Rattle.bg_scalar.specs.Values.{scope_in};
+ghost use Rattle.bg_scalar.specs.Tables.{TableOf};
+ghost use Rattle.bg_scalar.specs.Values.{tables_of, scope_in, MeanTables};
 ghost use Rattle.bg_scalar.specs.declared.choice.Choice.{Choice};
 ghost use Rattle.bg_scalar.specs.declared.scalar.Scalar.{Scalar};
 ghost use Rattle.bg_replay.specs.Moments.{Moment, Around};
@@ -26,10 +28,12 @@ ghost use Rattle.bg_replay.specs.Operations.{first_outside, of_run};
 ghost use Rattle.bg_replay.specs.Views.{set_of, said_by};
 ghost use Rattle.bg_replay.specs.declared.ending.Ending.{Ending};
 
-/// A replay of the blocks that are made of an implementation ends as its induction run does, where it ends with an answer.
+/// A replay of the blocks that are made of an implementation of a program whose functions have no bodies ends as its induction run does
+/// under the interpretation that has these tables, where it ends with an answer.
 pub fn replays_are_induction_runs()
-    ensures { (p : r.Program) (set : List Bool) (i : Interp) (number : ℕ) (m : r.Impl) (q : r.Proc) (bs : List Block) (gs fs : List Scalar) (cs : List Choice) (ending : Ending) →
-        slice_get p.implementations number ≡ Some m → slice_get p.procedures m.procedure ≡ Some q → AreBlocks p number m q bs → IsReplay p bs set number m q gs fs cs ending →
+    ensures { (p : r.Program) (set : List Bool) (i : Interp) (number : ℕ) (m : r.Impl) (q : r.Proc) (bs : List Block) (ts : List TableOf) (gs fs : List Scalar) (cs : List Choice) (ending : Ending) →
+        ((f : ℕ) → body_of (slice_get (mean.meaning_of p).functions f) ≡ None) → i.tables ≡ tables_of ts →
+        slice_get p.implementations number ≡ Some m → slice_get p.procedures m.procedure ≡ Some q → AreBlocks p number m q bs → IsReplay p bs set number m q ts gs fs cs ending →
         IsRight ending (induction_run (mean.meaning_of p) (set_of set) i number (state_of gs fs) (map choice_of cs)) }
 {}
 
@@ -45,15 +49,15 @@ pub fn runs_with_more_choices_are_the_same()
 {}
 
 /// Where a replay meets an operation that leaves 128 bits, it is the first on the run that does: of the operations before it, over whole
-/// numbers without bound, each has a result within them. A replay that ends with an answer meets none. And how a replay of the same blocks
-/// ends is determined by the values and the choices.
+/// numbers without bound and where functions mean the tables, each has a result within them. A replay that ends with an answer meets
+/// none. And how a replay of the same blocks ends is determined by the tables, the values and the choices.
 pub fn replays_leave_first()
-    ensures first { (functions : ℕ → List Val → Val) (constants : List Val) (p : r.Program) (bs : List Block) (set : List Bool) (number : ℕ) (m : r.Impl) (q : r.Proc) (gs fs : List Scalar) (cs : List Choice) (ending : Ending) (o : OutOfRange) →
-        IsReplay p bs set number m q gs fs cs ending → said_by ending ≡ Leaves o →
-        first_outside (of_run (scope_in functions constants) (around_in p m q set gs) 0 (map (block_of p) bs) (moment_in gs fs cs)) ≡ Some o }
-    ensures none { (functions : ℕ → List Val → Val) (constants : List Val) (p : r.Program) (bs : List Block) (set : List Bool) (number : ℕ) (m : r.Impl) (q : r.Proc) (gs fs : List Scalar) (cs : List Choice) (ending : Ending) (x : Answer) →
-        IsReplay p bs set number m q gs fs cs ending → said_by ending ≡ Stops x →
-        first_outside (of_run (scope_in functions constants) (around_in p m q set gs) 0 (map (block_of p) bs) (moment_in gs fs cs)) ≡ None }
-    ensures same { (p : r.Program) (bs : List Block) (set : List Bool) (number other : ℕ) (m : r.Impl) (q : r.Proc) (gs fs : List Scalar) (cs : List Choice) (a b : Ending) →
-        IsReplay p bs set number m q gs fs cs a → IsReplay p bs set other m q gs fs cs b → said_by a ≡ said_by b }
+    ensures first { (functions : ℕ → List Val → Val) (constants : List Val) (p : r.Program) (bs : List Block) (set : List Bool) (number : ℕ) (m : r.Impl) (q : r.Proc) (ts : List TableOf) (gs fs : List Scalar) (cs : List Choice) (ending : Ending) (o : OutOfRange) →
+        MeanTables functions ts → IsReplay p bs set number m q ts gs fs cs ending → said_by ending ≡ Leaves o →
+        first_outside (of_run (scope_in functions constants) (around_in p m q set ts gs) 0 (map (block_of p) bs) (moment_in gs fs cs)) ≡ Some o }
+    ensures none { (functions : ℕ → List Val → Val) (constants : List Val) (p : r.Program) (bs : List Block) (set : List Bool) (number : ℕ) (m : r.Impl) (q : r.Proc) (ts : List TableOf) (gs fs : List Scalar) (cs : List Choice) (ending : Ending) (x : Answer) →
+        MeanTables functions ts → IsReplay p bs set number m q ts gs fs cs ending → said_by ending ≡ Stops x →
+        first_outside (of_run (scope_in functions constants) (around_in p m q set ts gs) 0 (map (block_of p) bs) (moment_in gs fs cs)) ≡ None }
+    ensures same { (p : r.Program) (bs : List Block) (set : List Bool) (number other : ℕ) (m : r.Impl) (q : r.Proc) (ts : List TableOf) (gs fs : List Scalar) (cs : List Choice) (a b : Ending) →
+        IsReplay p bs set number m q ts gs fs cs a → IsReplay p bs set other m q ts gs fs cs b → said_by a ≡ said_by b }
 {}

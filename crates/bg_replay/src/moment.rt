@@ -15,7 +15,7 @@ use crate::ending::{Ending, Step};
 use crate::holds::{held, holds_scalars, value_of};
 use bg_ast::resolved::{Placed, Resolved, Target, Variable};
 use bg_fits::Holding;
-use bg_scalar::{Choice, Scalar, Sight};
+use bg_scalar::{Choice, Scalar, Sight, Table};
 use std::alloc::Global;
 
 /// The values of the variables, and the choices that are left.
@@ -26,13 +26,14 @@ pub struct Moment<'c> {
     pub left: &'c [Choice],
 }
 
-/// What stays the same during a run: the candidates that are there, the globals at entry, and what globals and variables of the frame
-/// hold.
+/// What stays the same during a run: the candidates that are there, the tables of functions, the globals at entry, and what globals and
+/// variables of the frame hold.
 #[derive(Clone, Copy)]
 pub struct Around<'a> {
     pub alloc: Global,
     pub program: &'a Resolved,
     pub set: &'a [bool],
+    pub tables: &'a [Table],
     pub before: &'a [Scalar],
     pub globals: &'a [Holding],
     pub frame: &'a [Holding],
@@ -43,6 +44,7 @@ pub fn seen<'m>(around: Around<'m>, moment: &'m Moment<'_>) -> Sight<'m>
     ensures { seen_of result ≡ seen_at (around_of around.entry) (moment_of moment.now) }
 {
     Sight {
+        tables: around.tables,
         globals: &moment.globals,
         before: around.before,
         frame: &moment.frame,

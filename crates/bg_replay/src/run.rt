@@ -44,12 +44,21 @@ fn tested(value: Worth, on: usize, off: usize) -> Way
 }
 
 /// A guard decides between two ways.
-fn decide(around: Around<'_>, moment: &mut Moment<'_>, guard: &Guard, on: usize, off: usize) -> Way
-    ensures { way_of result (moment_of moment.new) ≡ decided (around_of around.entry) (m.guard_of (guard_of guard.now)) on off (moment_of moment.old) }
+fn decide(
+    around: Around<'_>,
+    moment: &mut Moment<'_>,
+    guard: &Guard,
+    on: usize,
+    off: usize,
+) -> Result<Way, AllocError>
+    ensures { IfOk result (λ way. way_of way (moment_of moment.new) ≡ decided (around_of around.entry) (m.guard_of (guard_of guard.now)) on off (moment_of moment.old)) }
 {
     match guard {
-        Guard::Star => branch(moment, &[on, off]),
-        Guard::Test(e) => tested(worth(seen(around, moment), e), on, off),
+        Guard::Star => Ok(branch(moment, &[on, off])),
+        Guard::Test(e) => {
+            let value = worth(around.alloc, seen(around, moment), e)?;
+            Ok(tested(value, on, off))
+        }
     }
 }
 
@@ -71,11 +80,11 @@ fn leap(around: Around<'_>, moment: &mut Moment<'_>, ks: &[usize]) -> Way
 }
 
 /// Where a block leads.
-fn leave(around: Around<'_>, moment: &mut Moment<'_>, exit: &Exit<'_>) -> Way
-    ensures { way_of result (moment_of moment.new) ≡ leaves (around_of around.entry) (exit_of exit.now) (moment_of moment.old) }
+fn leave(around: Around<'_>, moment: &mut Moment<'_>, exit: &Exit<'_>) -> Result<Way, AllocError>
+    ensures { IfOk result (λ way. way_of way (moment_of moment.new) ≡ leaves (around_of around.entry) (exit_of exit.now) (moment_of moment.old)) }
 {
     match exit {
-        Exit::Leap(ks) => leap(around, moment, ks),
+        Exit::Leap(ks) => Ok(leap(around, moment, ks)),
         Exit::Either(guard, on, off) => decide(around, moment, guard, *on, *off),
     }
 }
@@ -95,7 +104,7 @@ pub fn run(
             Step::Over(e) => return Ok(e),
             Step::Goes => {}
         }
-        match leave(around, moment, &b.exit) {
+        match leave(around, moment, &b.exit)? {
             Way::Over(e) => return Ok(e),
             Way::To(k) => rest = rest_of(after, k),
         }

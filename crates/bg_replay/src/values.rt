@@ -18,10 +18,15 @@ use std::alloc::{AllocError, Global};
 
 /// The value that is assigned to a target; maps are no scalars.
 #[tactic(auto, using(crate::proofs::Written::written_is))]
-fn value_for(sight: Sight<'_>, target: &Target, e: &Expr) -> Worth
-    ensures { result ≡ spec.worth (m.written (Read (target_of target.now).placed.variable) (target_of target.now).brackets (m.ex_of (view.ex_of e.now))) (seen_of sight.entry) }
+fn value_for(
+    alloc: Global,
+    sight: Sight<'_>,
+    target: &Target,
+    e: &Expr,
+) -> Result<Worth, AllocError>
+    ensures { IfOk result (λ x. x ≡ spec.worth (m.written (Read (target_of target.now).placed.variable) (target_of target.now).brackets (m.ex_of (view.ex_of e.now))) (seen_of sight.entry)) }
 {
-    behind(&target.brackets, worth(sight, e))
+    Ok(behind(&target.brackets, worth(alloc, sight, e)?))
 }
 
 /// The values that are assigned, one for each target, if they are scalars.
@@ -39,7 +44,7 @@ pub fn values_for(
         if i >= es.len() {
             return Ok(Scalars::Are(made));
         }
-        match value_for(sight, target, &es[i]) {
+        match value_for(alloc, sight, target, &es[i])? {
             Worth::Leaves(o) => return Ok(Scalars::Leave(o)),
             Worth::NoScalar => return Ok(Scalars::NoScalars),
             Worth::Is(x) => made.push(x)?,

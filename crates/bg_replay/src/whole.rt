@@ -4,6 +4,7 @@ ghost use Rattle.bg_ast.specs.Resolved as r;
 ghost use Rattle.bg_ast.specs.Meaning.{meaning_of};
 ghost use Rattle.bg_ast.specs.Views.{program_of, impl_of, proc_of};
 ghost use Rattle.bg_fits.specs.Holdings.{holdings_of};
+ghost use Rattle.bg_scalar.specs.Views.{tables_in};
 ghost use Rattle.bg_replay.specs.Endings.{IsReplay, frame_in};
 
 use crate::ending::Ending;
@@ -13,7 +14,7 @@ use crate::values::copied;
 use bg_ast::resolved::{Implementation, Procedure, Resolved};
 use bg_blocks::Block;
 use bg_fits::{Holding, push_holdings};
-use bg_scalar::{Choice, Scalar};
+use bg_scalar::{Choice, Scalar, Table};
 use std::alloc::{AllocError, Global};
 
 /// What is run: blocks of an implementation of the program, where these candidates are there.
@@ -24,9 +25,11 @@ pub struct Code<'a> {
     pub set: &'a [bool],
 }
 
-/// From what a run goes: values of the globals and of the frame (parameters, results, locals), and the choices that it takes.
+/// From what a run goes: the tables of functions, by number, values of the globals and of the frame (parameters, results, locals), and
+/// the choices that it takes.
 #[derive(Clone, Copy)]
 pub struct Start<'a> {
+    pub tables: &'a [Table],
     pub globals: &'a [Scalar],
     pub frame: &'a [Scalar],
     pub choices: &'a [Choice],
@@ -66,7 +69,7 @@ fn replay_body(
     q: &Procedure,
     start: Start<'_>,
 ) -> Result<Ending, AllocError>
-    ensures { IfOk result (λ ending. (number : ℕ) → IsReplay (program_of code.entry.program.now) code.entry.blocks.now code.entry.set.now number (impl_of m.now) (proc_of q.now) start.entry.globals.now start.entry.frame.now start.entry.choices.now ending) }
+    ensures { IfOk result (λ ending. (number : ℕ) → IsReplay (program_of code.entry.program.now) code.entry.blocks.now code.entry.set.now number (impl_of m.now) (proc_of q.now) (tables_in start.entry.tables.now) start.entry.globals.now start.entry.frame.now start.entry.choices.now ending) }
 {
     let of_globals = global_holdings(alloc, code.program)?;
     let of_frame = frame_holdings(alloc, code.program, m, q)?;
@@ -76,6 +79,7 @@ fn replay_body(
         alloc,
         program: code.program,
         set: code.set,
+        tables: start.tables,
         before: start.globals,
         globals: &of_globals,
         frame: &of_frame,
@@ -89,7 +93,8 @@ fn replay_body(
 }
 
 /// The run of this code, which is of the implementation with this number, from this start: with the blocks that `bg_blocks` makes of
-/// the implementation its induction run, by `laws::replays_are_induction_runs`, unless an operation leaves 128 bits on the way.
+/// the implementation its induction run where functions mean these tables, by `laws::replays_are_induction_runs`, unless an operation
+/// leaves 128 bits on the way.
 /// `NoScalars` is the ending of a run that meets what is no scalar, and of one where the implementation or its procedure isn't there.
 ///
 /// Only want of memory is an error.
@@ -99,7 +104,7 @@ pub fn replay(
     implementation: usize,
     start: Start<'_>,
 ) -> Result<Ending, AllocError>
-    ensures { IfOk result (λ ending. (m : r.Impl) (q : r.Proc) → slice_get (program_of code.entry.program.now).implementations implementation ≡ Some m → slice_get (program_of code.entry.program.now).procedures m.procedure ≡ Some q → IsReplay (program_of code.entry.program.now) code.entry.blocks.now code.entry.set.now implementation m q start.entry.globals.now start.entry.frame.now start.entry.choices.now ending) }
+    ensures { IfOk result (λ ending. (m : r.Impl) (q : r.Proc) → slice_get (program_of code.entry.program.now).implementations implementation ≡ Some m → slice_get (program_of code.entry.program.now).procedures m.procedure ≡ Some q → IsReplay (program_of code.entry.program.now) code.entry.blocks.now code.entry.set.now implementation m q (tables_in start.entry.tables.now) start.entry.globals.now start.entry.frame.now start.entry.choices.now ending) }
 {
     let Some(m) = code.program.implementations.get(implementation) else {
         return Ok(Ending::NoScalars);

@@ -1,5 +1,5 @@
 -- What an expression is worth is its value, where no operation leaves the range.
-use Rattle.std.proofs.Common.{◌≡◌, ℕ, zero, suc, ℤ, Bool, true, false, List, [], ◌∷◌, map, refl, ap, ◌∙◌}
+use Rattle.std.proofs.Common.{◌≡◌, ℕ, zero, suc, ℤ, Bool, true, false, List, [], ◌∷◌, map, refl, sym, ap, ◌∙◌}
 use Rattle.std.specs.Prelude.{not, if◌then◌else◌, slice_get, ◌+ℤ◌, ◌-ℤ◌, ◌*ℤ◌, neg_ℤ, pos, Ok, Err}
 use Rattle.bg_base.specs.Exact.{fits, exactly}
 use Rattle.bg_base.specs.declared.exact.Op.{Op}
@@ -8,13 +8,15 @@ use Rattle.bg_base.specs.declared.exact.OutOfRange.{OutOfRange}
 use Rattle.bg_ast.specs.Values as v
 use Rattle.bg_ast.specs.Syntax as s
 use Rattle.bg_sense.specs.Eval as sense
-use Rattle.bg_sense.specs.Eval.{Scope, ev, value_at}
-use Rattle.bg_scalar.specs.Worths.{Seen, and_then, exact, same, takes, on_truths, on_numbers, operate, joined, not_on, minus_on, known, at_entry, worth}
-use Rattle.bg_scalar.specs.Values.{val_of, scope_in}
+use Rattle.bg_sense.specs.Eval.{Scope, ev, evs, value_at}
+use Rattle.bg_scalar.specs.Worths.{Seen, and_then, exact, same, takes, on_truths, on_numbers, operate, joined, not_on, minus_on, known, at_entry, Listed, Are, Leave, NoScalars, cons, and_then_all, worth, worths}
+use Rattle.bg_scalar.specs.Tables.{TableOf, told}
+use Rattle.bg_scalar.specs.Values.{val_of, MeanTables, scope_in}
 use Rattle.bg_scalar.specs.declared.scalar.Scalar.{Scalar}
 use Rattle.bg_scalar.specs.declared.scalar.Scalar.TheVariants.{Truth, Number}
 use Rattle.bg_scalar.specs.declared.scalar.Worth.{Worth}
 use Rattle.bg_scalar.specs.declared.scalar.Worth.TheVariants.{Is, Leaves, NoScalar}
+use Rattle.bg_scalar.proofs.Tabled.{told_is}
 
 -- the value is this one, where there is one
 abbrev pub Agrees : Worth → v.Val → Type 0
@@ -100,28 +102,52 @@ reads [] k = tt
 reads (x ∷ xs) zero = refl
 reads (x ∷ xs) (suc k) = reads xs k
 
+-- the values are these, where there are some
+abbrev pub AllAgree : Listed → List v.Val → Type 0
+AllAgree (Are xs) ys = ys ≡ map val_of xs
+AllAgree (Leave o) ys = Unit {0}
+AllAgree NoScalars ys = Unit {0}
+
+cons_agrees : (a : Worth) (l : Listed) (y : v.Val) (ys : List v.Val) → Agrees a y → AllAgree l ys → AllAgree (cons a l) (y ∷ ys)
+cons_agrees (Is x) (Are xs) y ys h k = rw (h, k) refl
+cons_agrees (Is x) (Leave o) y ys h k = tt
+cons_agrees (Is x) NoScalars y ys h k = tt
+cons_agrees (Leaves o) l y ys h k = tt
+cons_agrees NoScalar l y ys h k = tt
+
 module _ (fs : ℕ → List v.Val → v.Val) (cs : List v.Val) where
   abbrev here : Seen → Scope
   here = scope_in fs cs
 
-  pub agrees : (e : s.Ex) (w : Seen) → Agrees (worth e w) (ev e (here w))
-  agrees (s.Number z) w = refl
-  agrees (s.Fact b) w = refl
-  agrees (s.Constant k) w = tt
-  agrees (s.Read (s.Global x)) w = reads w.globals x
-  agrees (s.Read (s.Local x)) w = reads w.frame x
-  agrees (s.Not e) w = nots (worth e w) (ev e (here w)) (agrees e w)
-  agrees (s.Negative e) w = minuses (worth e w) (ev e (here w)) (agrees e w)
-  agrees (s.Binary o a b) w =
-      joins o (worth a w) (worth b w) (ev a (here w)) (ev b (here w)) (agrees a w) (agrees b w)
-  agrees (s.Apply f es) w = tt
-  agrees (s.Select m es) w = tt
-  agrees (s.Update m es e) w = tt
-  agrees (s.Old e) w = agrees e (at_entry w)
+  applies : (f : ℕ) (ts : List TableOf) (l : Listed) (ys : List v.Val) → MeanTables fs ts → AllAgree l ys → Agrees (and_then_all l (λ xs. Is (told ts f xs))) (fs f ys)
+  applies f ts (Are xs) ys m h = ap (fs f) h ∙ (m f (map val_of xs) ∙ told_is ts f xs)
+  applies f ts (Leave o) ys m h = tt
+  applies f ts NoScalars ys m h = tt
+
+  mutual
+    pub agrees : (e : s.Ex) (w : Seen) → MeanTables fs w.tables → Agrees (worth e w) (ev e (here w))
+    agrees (s.Number z) w m = refl
+    agrees (s.Fact b) w m = refl
+    agrees (s.Constant k) w m = tt
+    agrees (s.Read (s.Global x)) w m = reads w.globals x
+    agrees (s.Read (s.Local x)) w m = reads w.frame x
+    agrees (s.Not e) w m = nots (worth e w) (ev e (here w)) (agrees e w m)
+    agrees (s.Negative e) w m = minuses (worth e w) (ev e (here w)) (agrees e w m)
+    agrees (s.Binary o a b) w m =
+        joins o (worth a w) (worth b w) (ev a (here w)) (ev b (here w)) (agrees a w m) (agrees b w m)
+    agrees (s.Apply f es) w m = applies f w.tables (worths es w) (evs es (here w)) m (all_agree es w m)
+    agrees (s.Select x es) w m = tt
+    agrees (s.Update x es e) w m = tt
+    agrees (s.Old e) w m = agrees e (at_entry w) m
+
+    pub all_agree : (es : s.Exs) (w : Seen) → MeanTables fs w.tables → AllAgree (worths es w) (evs es (here w))
+    all_agree s.NoMore w m = refl
+    all_agree (s.More e es) w m =
+        cons_agrees (worth e w) (worths es w) (ev e (here w)) (evs es (here w)) (agrees e w m) (all_agree es w m)
 
 -- where there is one, it is the value
-pub worth_is : (fs : ℕ → List v.Val → v.Val) (cs : List v.Val) (e : s.Ex) (w : Seen) (x : Scalar) → worth e w ≡ Is x → ev e (scope_in fs cs w) ≡ val_of x
-worth_is fs cs e w x h = on (worth e w) h (agrees fs cs e w)
+pub worth_is : (fs : ℕ → List v.Val → v.Val) (cs : List v.Val) (e : s.Ex) (w : Seen) (x : Scalar) → MeanTables fs w.tables → worth e w ≡ Is x → ev e (scope_in fs cs w) ≡ val_of x
+worth_is fs cs e w x m h = on (worth e w) h (agrees fs cs e w m)
   where
     on : (a : Worth) → a ≡ Is x → Agrees a (ev e (scope_in fs cs w)) → ev e (scope_in fs cs w) ≡ val_of x
     on (Is y) h k = let same : y ≡ x = cc in k ∙ ap val_of same

@@ -11,13 +11,14 @@ use Rattle.bg_ast.specs.Syntax as s
 use Rattle.bg_ast.specs.Resolved as r
 use Rattle.bg_ast.specs.Meaning as m
 use Rattle.bg_ast.specs.Views as view
-use Rattle.bg_ast.specs.Views.{links_of, link_view, behind_parts, brackets_of, bracket_view}
+use Rattle.bg_ast.specs.Views.{links_of, link_view, exs_in, behind_parts, brackets_of, bracket_view}
 use Rattle.bg_ast.specs.declared.resolved.Expr.TheVariants as expr
 use Rattle.bg_ast.specs.declared.resolved.Expr.{Expr}
 use Rattle.bg_ast.specs.declared.resolved.Link.{Link}
 use Rattle.bg_ast.specs.declared.resolved.Bracket.{Bracket}
-use Rattle.bg_ast.proofs.Lists.{ex_of-Chain, ex_of-Postfix}
-use Rattle.bg_scalar.specs.Worths.{Seen, and_then, not_on, minus_on, joined, worth}
+use Rattle.bg_ast.proofs.Lists.{ex_of-Apply, ex_of-Chain, ex_of-Postfix}
+use Rattle.bg_scalar.specs.Worths.{Seen, and_then, not_on, minus_on, joined, and_then_all, worth, worths}
+use Rattle.bg_scalar.specs.Tables.{told}
 use Rattle.bg_scalar.specs.Signs.{prefixed, signed, behind}
 use Rattle.bg_scalar.specs.Along.{under, and_premise, premise_after, operand_after, along}
 use Rattle.bg_scalar.specs.declared.scalar.Scalar.TheVariants.{Truth, Number}
@@ -84,6 +85,9 @@ innermost (y ∷ xs) x a = ap (prefixed y.sign) (innermost xs x a)
 -- the value of the code's expression
 abbrev pub worth_of : Expr → Seen → Worth
 worth_of e w = worth (m.ex_of (view.ex_of e)) w
+
+pub apply_expr : (p : Pos) (f : ℕ) (es : Vec Expr Global) (w : Seen) → worth_of (expr.Apply p f es) w ≡ and_then_all (worths (m.exs_of (exs_in es.items)) w) (λ xs. Is (told w.tables f xs))
+apply_expr p f es w = ap (λ x. worth (m.ex_of x) w) (ex_of-Apply p f es)
 
 pub chain_expr : (e : Box Expr Global) (ls : Vec Link Global) (w : Seen) → worth_of (expr.Chain e ls) w ≡ along None (worth_of e.value w) (map link_view ls.items) w
 chain_expr e ls w =

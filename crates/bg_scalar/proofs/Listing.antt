@@ -1,15 +1,19 @@
 -- Lists of expressions are worth their values.
-use Rattle.std.proofs.Common.{◌≡◌, ℕ, List, [], ◌∷◌, ◌++◌, map, refl, ap, ◌∙◌, append_assoc}
+use Rattle.std.proofs.Common.{◌≡◌, ◌<◌, ◌+◌, ℕ, suc, List, [], ◌∷◌, ◌++◌, map, length, drop, drop-cons, add-one, get_or, refl, sym, ap, ◌∙◌, append_assoc}
 use Rattle.bg_ast.specs.Values as v
-use Rattle.bg_ast.specs.Syntax.{Exs, NoMore, More}
-use Rattle.bg_sense.specs.Eval.{ev, evs}
-use Rattle.bg_scalar.specs.Worths.{Seen, worth}
-use Rattle.bg_scalar.specs.Values.{val_of, scope_in}
+use Rattle.bg_ast.specs.Syntax.{Exs}
+use Rattle.bg_ast.specs.Meaning.{exs_of}
+use Rattle.bg_ast.specs.Views.{exs_in}
+use Rattle.bg_ast.specs.declared.resolved.Expr.{Expr}
+use Rattle.bg_sense.specs.Eval.{evs}
+use Rattle.bg_scalar.specs.Worths.{Seen}
+use Rattle.bg_scalar.specs.Values.{val_of, MeanTables, scope_in}
 use Rattle.bg_scalar.specs.Lists.{Listed, Are, Leave, NoScalars, cons, worths, onto}
 use Rattle.bg_scalar.specs.declared.scalar.Scalar.{Scalar}
+use Rattle.bg_scalar.specs.declared.scalar.Worth.TheVariants.{Is}
 use Rattle.bg_scalar.specs.declared.scalar.Worth.{Worth}
-use Rattle.bg_scalar.specs.declared.scalar.Worth.TheVariants.{Is, Leaves, NoScalar}
-use Rattle.bg_scalar.proofs.Agreeing.{Agrees, agrees}
+use Rattle.bg_scalar.proofs.Agreeing.{AllAgree, all_agree}
+use Rattle.bg_scalar.proofs.Chains.{worth_of}
 
 -- one more value behind those that are there
 pub onto_one : (xs : List Scalar) (x : Scalar) (l : Listed) → onto (xs ++ x ∷ []) l ≡ onto xs (cons (Is x) l)
@@ -24,27 +28,18 @@ onto_none NoScalars = refl
 
 pub ruleset list_forms = (onto_one, onto_none)
 
--- the values are these, where there are some
-abbrev pub AllAgree : Listed → List v.Val → Type 0
-AllAgree (Are xs) ys = ys ≡ map val_of xs
-AllAgree (Leave o) ys = Unit {0}
-AllAgree NoScalars ys = Unit {0}
+-- one more expression that is worth a scalar
+pub list_step : (es : List Expr) (i : ℕ) (e : Expr) (w : Seen) (made new : List Scalar) (x : Scalar) (a : Worth) (whole : Listed) → i < length es → e ≡ get_or es i e → a ≡ worth_of e w → a ≡ Is x → new ≡ made ++ x ∷ [] → onto made (worths (exs_of (exs_in (drop i es))) w) ≡ whole → onto new (worths (exs_of (exs_in (drop (i + 1) es))) w) ≡ whole
+list_step es i e w made new x a whole l at h k m known =
+    let rest = worths (exs_of (exs_in (drop (i + 1) es))) w in
+    let one : drop i es ≡ e ∷ drop (i + 1) es = rw (add-one, drop-cons es i e l) (ap (λ y. y ∷ drop (suc i) es) (sym at)) in
+    ap (λ ys. onto ys rest) m
+    ∙ (onto_one made x rest
+    ∙ (ap (λ b. onto made (cons b rest)) (sym k ∙ h)
+    ∙ (ap (λ ys. onto made (worths (exs_of (exs_in ys)) w)) (sym one) ∙ known)))
 
-cons_agrees : (a : Worth) (l : Listed) (y : v.Val) (ys : List v.Val) → Agrees a y → AllAgree l ys → AllAgree (cons a l) (y ∷ ys)
-cons_agrees (Is x) (Are xs) y ys h k = rw (h, k) refl
-cons_agrees (Is x) (Leave o) y ys h k = tt
-cons_agrees (Is x) NoScalars y ys h k = tt
-cons_agrees (Leaves o) l y ys h k = tt
-cons_agrees NoScalar l y ys h k = tt
-
-module _ (fs : ℕ → List v.Val → v.Val) (cs : List v.Val) where
-  pub all_agree : (es : Exs) (w : Seen) → AllAgree (worths es w) (evs es (scope_in fs cs w))
-  all_agree NoMore w = refl
-  all_agree (More e es) w =
-      cons_agrees (worth e w) (worths es w) (ev e (scope_in fs cs w)) (evs es (scope_in fs cs w)) (agrees fs cs e w) (all_agree es w)
-
-pub worths_are : (fs : ℕ → List v.Val → v.Val) (cs : List v.Val) (es : Exs) (w : Seen) (xs : List Scalar) → worths es w ≡ Are xs → evs es (scope_in fs cs w) ≡ map val_of xs
-worths_are fs cs es w xs h = on (worths es w) h (all_agree fs cs es w)
+pub worths_are : (fs : ℕ → List v.Val → v.Val) (cs : List v.Val) (es : Exs) (w : Seen) (xs : List Scalar) → MeanTables fs w.tables → worths es w ≡ Are xs → evs es (scope_in fs cs w) ≡ map val_of xs
+worths_are fs cs es w xs m h = on (worths es w) h (all_agree fs cs es w m)
   where
     on : (l : Listed) → l ≡ Are xs → AllAgree l (evs es (scope_in fs cs w)) → evs es (scope_in fs cs w) ≡ map val_of xs
     on (Are ys) e k = let same : ys ≡ xs = cc in k ∙ ap (map val_of) same

@@ -1,5 +1,5 @@
 -- Typed expressions over scalars are worth scalars.
-use Rattle.std.proofs.Common.{◌≡◌, ℕ, zero, suc, ℤ, Bool, true, false, List, [], ◌∷◌, map, Some, refl, sym, subst}
+use Rattle.std.proofs.Common.{◌≡◌, ℕ, zero, suc, ℤ, Bool, true, false, List, [], ◌∷◌, map, Some, refl, sym, ap, subst}
 use Rattle.std.specs.Prelude.{if◌then◌else◌, slice_get, ◌+ℤ◌, ◌-ℤ◌, ◌*ℤ◌, neg_ℤ, pos, Ok, Err}
 use Rattle.bg_base.specs.Exact.{fits, exactly}
 use Rattle.bg_base.specs.declared.exact.Op.{Op}
@@ -7,16 +7,20 @@ use Rattle.bg_base.specs.declared.exact.Op.TheVariants as exact_op
 use Rattle.bg_base.specs.declared.exact.OutOfRange.{OutOfRange}
 use Rattle.bg_ast.specs.Values.{Ty, IntTy, BoolTy, UserTy, MapTy, is_int, is_bool, is_of}
 use Rattle.bg_ast.specs.Syntax as s
+use Rattle.bg_ast.specs.Syntax.{Fun}
 use Rattle.bg_sense.specs.Types.{are_of}
-use Rattle.bg_sense.specs.Typing.{Sig, HasType}
-use Rattle.bg_sense.proofs.Bools.{and_left, and_right}
-use Rattle.bg_scalar.specs.Worths.{Seen, and_then, exact, on_truths, on_numbers, takes, joined, not_on, minus_on, known, at_entry, worth}
-use Rattle.bg_scalar.specs.Values.{val_of}
-use Rattle.bg_scalar.specs.Typed.{is_scalar, Sees, HasWorth}
+use Rattle.bg_sense.specs.Tables.{are_tables}
+use Rattle.bg_sense.specs.Typing.{Sig, HasType, HaveTypes}
+use Rattle.bg_sense.proofs.Bools.{and_left, and_right, both}
+use Rattle.bg_scalar.specs.Worths.{Seen, and_then, exact, on_truths, on_numbers, takes, joined, not_on, minus_on, known, at_entry, Listed, Are, Leave, NoScalars, cons, and_then_all, worth, worths}
+use Rattle.bg_scalar.specs.Tables.{TableOf, told}
+use Rattle.bg_scalar.specs.Values.{val_of, tables_of}
+use Rattle.bg_scalar.specs.Typed.{is_scalar, are_scalar, Sees, HasWorth, HaveWorths}
 use Rattle.bg_scalar.specs.declared.scalar.Scalar.{Scalar}
 use Rattle.bg_scalar.specs.declared.scalar.Scalar.TheVariants.{Truth, Number}
 use Rattle.bg_scalar.specs.declared.scalar.Worth.{Worth}
 use Rattle.bg_scalar.specs.declared.scalar.Worth.TheVariants.{Is, Leaves, NoScalar}
+use Rattle.bg_scalar.proofs.Tabled.{told_typed}
 
 if_number : (b : Bool) (z : ℤ) (o : OutOfRange) → HasWorth IntTy (exact (if b then Ok z else Err o))
 if_number true z o = refl
@@ -87,6 +91,19 @@ minus (Is (Number z)) h = number exact_op.Negate z (pos 0) (neg_ℤ z)
 minus (Leaves o) h = tt
 minus NoScalar h = absurd h
 
+cons_have : (t : Ty) (ts : List Ty) (a : Worth) (l : Listed) → HasWorth t a → HaveWorths ts l → HaveWorths (t ∷ ts) (cons a l)
+cons_have t ts (Is x) (Are xs) h k = both (is_of t (val_of x)) (are_of ts (map val_of xs)) h k
+cons_have t ts (Is x) (Leave o) h k = tt
+cons_have t ts (Is x) NoScalars h k = absurd k
+cons_have t ts (Leaves o) l h k = tt
+cons_have t ts NoScalar l h k = absurd h
+
+-- what a function's table tells is of its result's type
+applied : (fs : List Fun) (ts : List TableOf) (f : ℕ) (fn : Fun) (l : Listed) → are_tables fs (tables_of ts) ≡ true → slice_get fs f ≡ Some fn → HaveWorths fn.params l → HasWorth fn.result (and_then_all l (λ xs. Is (told ts f xs)))
+applied fs ts f fn (Are xs) h e k = told_typed fs ts f fn xs h e
+applied fs ts f fn (Leave o) h e k = tt
+applied fs ts f fn NoScalars h e k = k
+
 module _ (g : Sig) where
   -- an operand that is worth a scalar of its type
   abbrev Good : Worth → s.Ex → Type 0
@@ -120,20 +137,31 @@ module _ (g : Sig) where
   joins s.Times a b x y h k t c j =
       by_type t IntTy _ j.0 (numbers s.Times IntTy (λ p q. number exact_op.Times p q (p *ℤ q)) (λ p. refl) a b (h IntTy (and_left (is_scalar x) (is_scalar y) c) j.1) (k IntTy (and_right (is_scalar x) (is_scalar y) c) j.2))
 
-  good : (e : s.Ex) (w : Seen) → Sees g w → Good (worth e w) e
-  good (s.Number z) w v t c j = by_type t IntTy (Is (Number z)) j refl
-  good (s.Fact b) w v t c j = by_type t BoolTy (Is (Truth b)) j refl
-  good (s.Constant k) w v t c j = absurd (let bad : ⊥ = cc in bad)
-  good (s.Read (s.Global x)) w v t c j = reads g.globals w.globals x t v.globals j
-  good (s.Read (s.Local x)) w v t c j = reads g.frame w.frame x t v.frame j
-  good (s.Not e) w v t c j = by_type t BoolTy _ j.0 (nots (worth e w) (good e w v BoolTy c j.1))
-  good (s.Negative e) w v t c j = by_type t IntTy _ j.0 (minus (worth e w) (good e w v IntTy c j.1))
-  good (s.Binary op a b) w v t c j = joins op (worth a w) (worth b w) a b (good a w v) (good b w v) t c j
-  good (s.Apply f es) w v t c j = absurd (let bad : ⊥ = cc in bad)
-  good (s.Select m es) w v t c j = absurd (let bad : ⊥ = cc in bad)
-  good (s.Update m es e) w v t c j = absurd (let bad : ⊥ = cc in bad)
-  good (s.Old e) w v t c j =
-      good e (at_entry w) (record { globals = v.before; before = v.before; frame = v.frame }) t c j
+  mutual
+    good : (e : s.Ex) (w : Seen) → Sees g w → Good (worth e w) e
+    good (s.Number z) w v t c j = by_type t IntTy (Is (Number z)) j refl
+    good (s.Fact b) w v t c j = by_type t BoolTy (Is (Truth b)) j refl
+    good (s.Constant k) w v t c j = absurd (let bad : ⊥ = cc in bad)
+    good (s.Read (s.Global x)) w v t c j = reads g.globals w.globals x t v.globals j
+    good (s.Read (s.Local x)) w v t c j = reads g.frame w.frame x t v.frame j
+    good (s.Not e) w v t c j = by_type t BoolTy _ j.0 (nots (worth e w) (good e w v BoolTy c j.1))
+    good (s.Negative e) w v t c j = by_type t IntTy _ j.0 (minus (worth e w) (good e w v IntTy c j.1))
+    good (s.Binary op a b) w v t c j = joins op (worth a w) (worth b w) a b (good a w v) (good b w v) t c j
+    good (s.Apply f es) w v t c j =
+        by_type t j.0.result _ j.2 (applied g.functions w.tables f j.0 (worths es w) v.tables j.1 (goods es w v j.0.params c j.3))
+    good (s.Select m es) w v t c j = absurd (let bad : ⊥ = cc in bad)
+    good (s.Update m es e) w v t c j = absurd (let bad : ⊥ = cc in bad)
+    good (s.Old e) w v t c j =
+        good e (at_entry w) (record { tables = v.tables; globals = v.before; before = v.before; frame = v.frame }) t c j
+
+    goods : (es : s.Exs) (w : Seen) → Sees g w → (ts : List Ty) → are_scalar es ≡ true → HaveTypes es g ts → HaveWorths ts (worths es w)
+    goods s.NoMore w v ts c j = ap (λ l. are_of l []) j
+    goods (s.More e es) w v [] c j = absurd j
+    goods (s.More e es) w v (t ∷ ts) c j =
+        cons_have t ts (worth e w) (worths es w) (good e w v t (and_left (is_scalar e) (are_scalar es) c) j.0) (goods es w v ts (and_right (is_scalar e) (are_scalar es) c) j.1)
 
 pub has_worth : (e : s.Ex) (w : Seen) (g : Sig) (t : Ty) → is_scalar e ≡ true → HasType e g t → Sees g w → HasWorth t (worth e w)
 has_worth e w g t c j v = good g e w v t c j
+
+pub have_worths : (es : s.Exs) (w : Seen) (g : Sig) (ts : List Ty) → are_scalar es ≡ true → HaveTypes es g ts → Sees g w → HaveWorths ts (worths es w)
+have_worths es w g ts c j v = goods g es w v ts c j

@@ -1,3 +1,4 @@
+pub mod Tables
 pub mod Worths
 pub mod Signs
 pub mod Along

@@ -1,17 +1,19 @@
 -- What expressions over scalars are worth, from left to right: each operation is exact, or it is the first that leaves the range.
-use Rattle.std.specs.Prelude.{ℤ, Bool, true, false, not, ◌&&◌, ◌||◌, if◌then◌else◌, List, Option, Some, None, Result, Ok, Err, slice_get, int_lt, int_le}
+use Rattle.std.specs.Prelude.{ℤ, Bool, true, false, not, ◌&&◌, ◌||◌, if◌then◌else◌, List, [], ◌∷◌, Option, Some, None, Result, Ok, Err, slice_get, int_lt, int_le}
 use Rattle.std.specs.Ordering.{int_eq}
 use Rattle.bg_base.specs.Exact.{sum_of, difference_of, product_of, negation_of}
 use Rattle.bg_base.specs.declared.exact.OutOfRange.{OutOfRange}
 use Rattle.bg_ast.specs.Syntax as s
-use Rattle.bg_ast.specs.Syntax.{Var, Local, Global, Op, And, Or, Implies, Iff, Equal, Unequal, Less, AtMost, Greater, AtLeast, Plus, Minus, Times, Ex, Fact, Read, Not, Negative, Binary, Old}
+use Rattle.bg_ast.specs.Syntax.{Var, Local, Global, Op, And, Or, Implies, Iff, Equal, Unequal, Less, AtMost, Greater, AtLeast, Plus, Minus, Times, Ex, Fact, Read, Not, Negative, Binary, Old, Apply, Exs, NoMore, More}
 use Rattle.bg_scalar.specs.declared.scalar.Scalar.{Scalar}
 use Rattle.bg_scalar.specs.declared.scalar.Scalar.TheVariants.{Truth, Number}
 use Rattle.bg_scalar.specs.declared.scalar.Worth.{Worth}
 use Rattle.bg_scalar.specs.declared.scalar.Worth.TheVariants.{Is, Leaves, NoScalar}
+use Rattle.bg_scalar.specs.Tables.{TableOf, told}
 
--- the values of variables: the globals now and at entry, and the frame
+-- the tables of functions, and the values of variables: the globals now and at entry, and the frame
 pub record Seen : Type 0 where
+  pub tables : List TableOf
   pub globals : List Scalar
   pub before : List Scalar
   pub frame : List Scalar
@@ -102,13 +104,42 @@ read_in w (Local x) = known (slice_get w.frame x)
 abbrev pub at_entry : Seen → Seen
 at_entry w = record w { globals = w.before }
 
--- an expression; constants, functions and maps are no scalars
-abbrev pub worth : Ex → Seen → Worth
-worth (s.Number z) w = Is (Number z)
-worth (Fact b) w = Is (Truth b)
-worth (Read x) w = read_in w x
-worth (Not e) w = and_then (worth e w) not_on
-worth (Negative e) w = and_then (worth e w) minus_on
-worth (Binary o a b) w = joined o (worth a w) (worth b w)
-worth (Old e) w = worth e (at_entry w)
-worth _ w = NoScalar
+-- what a list of expressions is worth: scalars, or what is wrong with the first that is none
+pub data Listed : Type 0 where
+  Are : List Scalar → Listed
+  Leave : OutOfRange → Listed
+  NoScalars : Listed
+
+abbrev pub more : Scalar → Listed → Listed
+more x (Are xs) = Are (x ∷ xs)
+more x (Leave o) = Leave o
+more x NoScalars = NoScalars
+
+abbrev pub cons : Worth → Listed → Listed
+cons (Is x) l = more x l
+cons (Leaves o) l = Leave o
+cons NoScalar l = NoScalars
+
+-- what has values goes on with them
+abbrev pub and_then_all : Listed → (List Scalar → Worth) → Worth
+and_then_all (Are xs) go_on = go_on xs
+and_then_all (Leave o) go_on = Leaves o
+and_then_all NoScalars go_on = NoScalar
+
+abbrev mutual
+  -- an expression; an application is what its function's table says. Constants and maps are no scalars
+  pub worth : Ex → Seen → Worth
+  worth (s.Number z) w = Is (Number z)
+  worth (Fact b) w = Is (Truth b)
+  worth (Read x) w = read_in w x
+  worth (Not e) w = and_then (worth e w) not_on
+  worth (Negative e) w = and_then (worth e w) minus_on
+  worth (Binary o a b) w = joined o (worth a w) (worth b w)
+  worth (Old e) w = worth e (at_entry w)
+  worth (Apply f es) w = and_then_all (worths es w) (λ xs. Is (told w.tables f xs))
+  worth _ w = NoScalar
+
+  -- a list of expressions
+  pub worths : Exs → Seen → Listed
+  worths NoMore w = Are []
+  worths (More e es) w = cons (worth e w) (worths es w)

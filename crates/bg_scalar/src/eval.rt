@@ -1,23 +1,30 @@
 //! The evaluation of expressions, from left to right.
-ghost use Rattle.std.specs.Prelude.{◌≡◌, map, None};
+ghost use Rattle.std.specs.Prelude.{◌≡◌, map, None, IfOk};
 ghost use Rattle.bg_ast.specs.Meaning as m;
 ghost use Rattle.bg_ast.specs.Views as view;
-ghost use Rattle.bg_ast.specs.Views.{link_view, var_of};
+ghost use Rattle.bg_ast.specs.Meaning.{exs_of};
+ghost use Rattle.bg_ast.specs.Views.{link_view, var_of, exs_in};
 ghost use Rattle.bg_scalar.specs.Worths as spec;
-ghost use Rattle.bg_scalar.specs.Worths.{known, read_in, worth};
+ghost use Rattle.bg_scalar.specs.Worths.{known, read_in, and_then_all, worth, worths};
+ghost use Rattle.bg_scalar.specs.Tables.{told};
 ghost use Rattle.bg_scalar.specs.Signs.{signed, behind};
+ghost use Rattle.bg_scalar.specs.declared.scalar.Worth.TheVariants.{Is};
 ghost use Rattle.bg_scalar.specs.Along as way;
 ghost use Rattle.bg_scalar.specs.Along.{under, along};
-ghost use Rattle.bg_scalar.specs.Views.{seen_of};
+ghost use Rattle.bg_scalar.specs.Lists.{listed};
+ghost use Rattle.bg_scalar.specs.Views.{seen_of, tables_in};
 
 use crate::joined::{joined, prefixed};
-use crate::scalar::{Scalar, Worth};
+use crate::scalar::{Scalar, Scalars, Worth};
+use crate::table::{Table, told};
 use bg_ast::resolved::{Expr, Link, Variable};
 use bg_text::{InfixSign, TreePrefix};
+use std::alloc::{AllocError, Global};
 
-/// The values of variables: the globals now and at entry, and the frame.
+/// The tables of functions, and the values of variables: the globals now and at entry, and the frame.
 #[derive(Clone, Copy)]
 pub struct Sight<'a> {
+    pub tables: &'a [Table],
     pub globals: &'a [Scalar],
     pub before: &'a [Scalar],
     pub frame: &'a [Scalar],
@@ -46,6 +53,7 @@ fn entry(sight: Sight<'_>) -> Sight<'_>
     ensures { seen_of result ≡ spec.at_entry (seen_of sight.entry) }
 {
     Sight {
+        tables: sight.tables,
         globals: sight.before,
         before: sight.before,
         frame: sight.frame,
@@ -111,37 +119,82 @@ fn under(premise: Option<Worth>, a: Worth) -> Worth
     }
 }
 
-/// What an expression is worth where variables have these values, evaluated from left to right; but `a <== b` is `b ==> a`, where b
-/// comes first.
+/// What a function's table says for these arguments, if they are scalars.
+fn applied(tables: &[Table], function: u32, args: Scalars) -> Worth
+    ensures { result ≡ and_then_all (listed args) (λ xs. Is (told (tables_in tables.now) function xs)) }
+{
+    match args {
+        Scalars::Leave(o) => Worth::Leaves(o),
+        Scalars::NoScalars => Worth::NoScalar,
+        Scalars::Are(xs) => Worth::Is(told(tables, function, &xs)),
+    }
+}
+
+/// What an expression is worth where functions have these tables and variables these values, evaluated from left to right; but `a <== b`
+/// is `b ==> a`, where b comes first.
+///
+/// Only want of memory is an error.
 #[cycle(worth)]
-pub fn worth(sight: Sight<'_>, e: &Expr) -> Worth
-    ensures { result ≡ worth (m.ex_of (view.ex_of e.now)) (seen_of sight.entry) }
+pub fn worth(alloc: Global, sight: Sight<'_>, e: &Expr) -> Result<Worth, AllocError>
+    ensures { IfOk result (λ x. x ≡ worth (m.ex_of (view.ex_of e.now)) (seen_of sight.entry)) }
 {
     match e {
-        Expr::Number(_, z) => Worth::Is(Scalar::Number(*z)),
-        Expr::Truth(_, b) => Worth::Is(Scalar::Truth(*b)),
-        Expr::Read(_, x) => read(sight, *x),
-        Expr::Parens(_, e) => worth(sight, e),
-        Expr::Prefix(signs, e) => signed(signs, worth(sight, e)),
-        Expr::Chain(first, links) => chain(sight, worth(sight, first), links),
-        Expr::Old(_, e) => worth(entry(sight), e),
-        Expr::Constant(_, _) => Worth::NoScalar,
-        Expr::Apply(_, _, _) => Worth::NoScalar,
-        Expr::Postfix(e, brackets) => behind(brackets, worth(sight, e)),
+        Expr::Number(_, z) => Ok(Worth::Is(Scalar::Number(*z))),
+        Expr::Truth(_, b) => Ok(Worth::Is(Scalar::Truth(*b))),
+        Expr::Read(_, x) => Ok(read(sight, *x)),
+        Expr::Parens(_, e) => worth(alloc, sight, e),
+        Expr::Prefix(signs, e) => {
+            let value = worth(alloc, sight, e)?;
+            Ok(signed(signs, value))
+        }
+        Expr::Chain(first, links) => {
+            let first = worth(alloc, sight, first)?;
+            chain(alloc, sight, first, links)
+        }
+        Expr::Old(_, e) => worth(alloc, entry(sight), e),
+        Expr::Constant(_, _) => Ok(Worth::NoScalar),
+        Expr::Apply(_, f, args) => {
+            let values = worths(alloc, sight, args)?;
+            Ok(applied(sight.tables, *f, values))
+        }
+        Expr::Postfix(e, brackets) => {
+            let value = worth(alloc, sight, e)?;
+            Ok(behind(brackets, value))
+        }
     }
 }
 
 /// The value of a chain behind its first operand.
 #[cycle(worth)]
-fn chain(sight: Sight<'_>, first: Worth, links: &[Link]) -> Worth
-    ensures { result ≡ along None first (map link_view links.now) (seen_of sight.entry) }
+fn chain(alloc: Global, sight: Sight<'_>, first: Worth, links: &[Link]) -> Result<Worth, AllocError>
+    ensures { IfOk result (λ x. x ≡ along None first (map link_view links.now) (seen_of sight.entry)) }
 {
     let mut premise = None;
     let mut operand = first;
     for link in links {
-        let next = worth(sight, &link.operand);
+        let next = worth(alloc, sight, &link.operand)?;
         premise = premise_after(link.sign, premise, operand);
         operand = operand_after(link.sign, operand, next);
     }
-    under(premise, operand)
+    Ok(under(premise, operand))
+}
+
+/// What expressions are worth, evaluated from left to right.
+///
+/// Only want of memory is an error.
+#[cycle(worth)]
+#[tactic(auto, using(crate::proofs::Listing::list_forms))]
+pub fn worths(alloc: Global, sight: Sight<'_>, es: &[Expr]) -> Result<Scalars, AllocError>
+    ensures { IfOk result (λ made. listed made ≡ worths (exs_of (exs_in es.now)) (seen_of sight.entry)) }
+{
+    let mut made = Vec::new(alloc);
+    for e in es {
+        let value = worth(alloc, sight, e)?;
+        match value {
+            Worth::Leaves(o) => return Ok(Scalars::Leave(o)),
+            Worth::NoScalar => return Ok(Scalars::NoScalars),
+            Worth::Is(x) => made.push(x)?,
+        }
+    }
+    Ok(Scalars::Are(made))
 }

@@ -2,7 +2,7 @@
 use bg_base::OutOfRange;
 
 /// A truth value or a whole number.
-#[derive(Clone, Copy, PartialEq, Eq, Debug)]
+#[derive(Clone, Copy, PartialEq, Eq, PartialOrd, Ord, Debug)]
 pub enum Scalar {
     Truth(bool),
     Number(i128),
@@ -15,4 +15,12 @@ pub enum Worth {
     Is(Scalar),
     Leaves(OutOfRange),
     NoScalar,
+}
+
+/// What a list of expressions is worth: scalars; or what comes first, an operation that leaves the range or what is no scalar.
+#[derive(Drop)]
+pub enum Scalars {
+    Are(Vec<Scalar>),
+    Leave(OutOfRange),
+    NoScalars,
 }

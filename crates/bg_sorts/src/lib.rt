@@ -7,5 +7,5 @@ mod known;
 mod types;
 mod whole;
 
-pub use types::{frame_sorts, sorts_of};
+pub use types::{frame_sorts, sorts_of, written_sort};
 pub use whole::sorts;

@@ -77,16 +77,23 @@ fn named_sort(types: &[TypeName], k: u32) -> Sort
     Sort::Other
 }
 
-/// The sort of a variable that is declared so.
-fn declared_sort(types: &[TypeName], d: &Declared) -> Sort
-    ensures { result ≡ sort_of_type (decl_of (named_of (map type_name_of types.now)) (declared_of d.now)).ty }
+/// The sort of what has this type as it is written, where these types are declared: what it stands for tells it.
+pub fn written_sort(types: &[TypeName], ty: &WrittenType) -> Sort
+    ensures { result ≡ sort_of_type (type_in (named_of (map type_name_of types.now)) (type_of ty.now)) }
 {
-    match kind_of(&d.ty) {
+    match kind_of(ty) {
         Kind::Truth => Sort::Truth,
         Kind::Number => Sort::Number,
         Kind::Other => Sort::Other,
         Kind::Named(k) => named_sort(types, k),
     }
+}
+
+/// The sort of a variable that is declared so.
+fn declared_sort(types: &[TypeName], d: &Declared) -> Sort
+    ensures { result ≡ sort_of_type (decl_of (named_of (map type_name_of types.now)) (declared_of d.now)).ty }
+{
+    written_sort(types, &d.ty)
 }
 
 /// Adds the sort of each declared variable.

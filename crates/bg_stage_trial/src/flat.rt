@@ -6,15 +6,15 @@ use bg_linear::Sort;
 use std::alloc::Global;
 use std::test::Fail;
 
-/// What is assumed of two numbers and a truth value; how many terms there are, and how many rows: an application that is written twice
-/// is one term, so an equality of both has no row, and one inside another is a term too.
+/// What is assumed of two numbers and a truth value; how many terms there are, and how many rows: an application to variables that is
+/// written twice is one term, so an equality of both has no row; one to a sum is a term each time; and one inside another is a term too.
 type Case = (&'static [u8], usize, usize);
 
 const CASES: [Case; 6] = [
     (b"assume f(x) == f(x)", 1, 0),
     (b"assume f(x) < f(y); assume f(y) >= 3", 2, 2),
     (b"assume f(f(x)) == (f((x)))", 2, 2),
-    (b"assume f(x + 1) <= f(x + 1) - 1", 1, 0),
+    (b"assume f(x + 1) <= f(x + 1) - 1", 2, 1),
     (b"assume g(x, p) < g(x, !p) ==> p", 2, 1),
     (b"assume x < y", 0, 1),
 ];
@@ -39,7 +39,7 @@ fn counted(alloc: Global, text: &'static [u8]) -> Result<(usize, Option<usize>),
     let p = program(alloc, &[(FRONT, 1), (text, 1), (b"; }", 1)])?;
     let passive = passive_of(alloc, &p)?;
     let flat = flattened(alloc, passive.count, &passive.blocks)?;
-    let terms = flat.terms.terms.len();
+    let terms = flat.terms.len();
     let sorts = sorts(alloc, terms)?;
     let rows = atoms(alloc, &sorts, 0, &flat.blocks)?.map(|a| a.rows.len());
     Ok((terms, rows))

@@ -75,9 +75,11 @@ fn found(alloc: Global, p: &Resolved, case: &Case) -> Result<Option<Counterexamp
         blocks: &blocks,
         firsts,
         forms: &forms,
+        front: 0,
     };
     let valuation = Valuation { truths, values };
-    Ok(counterexample(alloc, routine, spot, &[], valuation)?)
+    let tables = Vec::new(alloc);
+    Ok(counterexample(alloc, routine, spot, &[], valuation, tables)?)
 }
 
 fn tells(alloc: Global, case: &Case) -> Result<bool, Fail> {

@@ -55,6 +55,7 @@ fn ends(alloc: Global, number: usize, choice: Choice, wanted: Ending) -> Result<
     };
     let choices = [choice];
     let start = Start {
+        tables: &[],
         globals: &globals,
         frame: &[],
         choices: &choices,

@@ -31,11 +31,13 @@ use Rattle.bg_forms.specs.Worth.{bools_at}
 use Rattle.bg_formed.specs.Formed.{FormBlock}
 use Rattle.bg_clause.specs.Tables.{there_in}
 use Rattle.bg_clause.specs.Whole.{clauses_of}
-use Rattle.bg_linear.specs.Sorts.{scalar_values}
-use Rattle.bg_atoms.specs.Ranks.{rank}
 use Rattle.bg_atoms.specs.Sorted.{blocks_sorted}
-use Rattle.bg_faithful.specs.Sorted.{sorts_in}
-use Rattle.bg_faithful.specs.Encoded.{Encoding, IsEncoding}
+use Rattle.bg_faithful.specs.Encoded.{Encoding}
+use Rattle.bg_terms.specs.Instances as terms
+use Rattle.bg_termed.specs.Termed.{IsTabled, sorts_in, behind_in}
+use Rattle.bg_termed.specs.Clauses.{IsEncoding}
+use Rattle.bg_flatten.specs.Mapless.{are_mapless}
+use Rattle.bg_flat_clauses.specs.Linear.{LinearBlocks}
 use Rattle.bg_fits.specs.Scalars.{is_over_scalars}
 
 abbrev pub FunctionLaw : Type 0
@@ -76,12 +78,12 @@ abbrev pub MetLaw : Type 0
 MetLaw =
     (p : Prog) (k : ℕ) (m : Impl) (q : Proc) → IsTyped p → is_over_scalars true p ≡ true →
     slice_get p.implementations k ≡ Some m → procedure_of p m.procedure ≡ Some q →
-    (a : Encoding) → IsEncoding p k m q a → (target : Spot) (f : Formula) → clauses_of a.first a.named a.terms a.rows target a.blocks ≡ Ok f →
-    (i : Interp) (values : List Val) (set : ℕ → Bool) → are_of (incarnations_in p k m q) values ≡ true →
+    (instances : List terms.Instance) (a : Encoding) → IsEncoding p k m q instances a →
+    (target : Spot) (f : Formula) → clauses_of a.first a.named a.terms a.rows target a.blocks ≡ Ok f →
+    (i : Interp) (values : List Val) (set : ℕ → Bool) → IsInterp p i → are_of (incarnations_in p k m q) values ≡ true →
     is_well (slice_get (equations set target (passive_scope p i values) (passives_in p k m q)) 0) ≡ false →
-    (v : Valuation) × ((values ≡ scalar_values v.numbers (λ j. v.truths (rank (sorts_in p k m q) j)) (sorts_in p k m q))
-    × (((b : ℕ) → bools_at a.named b ≡ true → there_in f.candidates v.truths b ≡ set b)
-    × (clauses_true v f.atoms f.clauses ≡ true)))
+    (v : Valuation) × (((b : ℕ) → bools_at a.named b ≡ true → there_in f.candidates v.truths b ≡ set b)
+    × (clauses_true v f.atoms f.clauses ≡ true))
 
 -- a candidate's atom is the truth variable of its number
 abbrev pub UnitAtomLaw : Type 0
@@ -114,4 +116,43 @@ abbrev pub SortLaw : Type 0
 SortLaw =
     (p : Prog) (k : ℕ) (m : Impl) (q : Proc) → IsTyped p → is_over_scalars true p ≡ true →
     slice_get p.implementations k ≡ Some m → procedure_of p m.procedure ≡ Some q →
-    blocks_sorted (sorts_in p k m q) p.candidates (passives_in p k m q) ≡ true
+    (instances : List terms.Instance) → blocks_sorted (sorts_in p k m q) p.candidates (behind_in p k m q instances) ≡ true
+
+-- ---- laws of programs whose functions have tables, for programs over scalars
+
+abbrev pub TabledLaw : Type 0
+TabledLaw = (p : Prog) → IsTyped p → is_over_scalars true p ≡ true → IsTabled p
+
+abbrev pub MaplessLaw : Type 0
+MaplessLaw =
+    (p : Prog) (k : ℕ) (m : Impl) (q : Proc) → IsTyped p → is_over_scalars true p ≡ true →
+    slice_get p.implementations k ≡ Some m → procedure_of p m.procedure ≡ Some q → are_mapless (incarnations_in p k m q) ≡ true
+
+abbrev pub LinearLaw : Type 0
+LinearLaw =
+    (p : Prog) (k : ℕ) (m : Impl) (q : Proc) → IsTyped p → is_over_scalars true p ≡ true →
+    slice_get p.implementations k ≡ Some m → procedure_of p m.procedure ≡ Some q → LinearBlocks p.candidates (passives_in p k m q)
+
+abbrev pub AnyMetLaw : Type 0
+AnyMetLaw =
+    (p : Prog) (k : ℕ) (m : Impl) (q : Proc) → IsTabled p → slice_get p.implementations k ≡ Some m → procedure_of p m.procedure ≡ Some q →
+    are_mapless (incarnations_in p k m q) ≡ true →
+    (instances : List terms.Instance) (a : Encoding) → IsEncoding p k m q instances a →
+    (target : Spot) (f : Formula) → clauses_of a.first a.named a.terms a.rows target a.blocks ≡ Ok f →
+    (i : Interp) (values : List Val) (set : ℕ → Bool) → IsInterp p i → are_of (incarnations_in p k m q) values ≡ true →
+    is_well (slice_get (equations set target (passive_scope p i values) (passives_in p k m q)) 0) ≡ false →
+    (v : Valuation) × (((b : ℕ) → bools_at a.named b ≡ true → there_in f.candidates v.truths b ≡ set b)
+    × (clauses_true v f.atoms f.clauses ≡ true))
+
+abbrev pub AnySortLaw : Type 0
+AnySortLaw =
+    (p : Prog) (k : ℕ) (m : Impl) (q : Proc) → IsTabled p → slice_get p.implementations k ≡ Some m → procedure_of p m.procedure ≡ Some q →
+    are_mapless (incarnations_in p k m q) ≡ true → LinearBlocks p.candidates (passives_in p k m q) →
+    (instances : List terms.Instance) → blocks_sorted (sorts_in p k m q) p.candidates (behind_in p k m q instances) ≡ true
+
+pub met_law : TabledLaw → MaplessLaw → AnyMetLaw → MetLaw
+met_law tabled mapless met p k m q t o im pr = met p k m q (tabled p t o) im pr (mapless p k m q t o im pr)
+
+pub sort_law : TabledLaw → MaplessLaw → LinearLaw → AnySortLaw → SortLaw
+sort_law tabled mapless linear sorted p k m q t o im pr =
+    sorted p k m q (tabled p t o) im pr (mapless p k m q t o im pr) (linear p k m q t o im pr)

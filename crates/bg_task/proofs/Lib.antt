@@ -4,5 +4,8 @@ pub mod Failures
 pub mod Numbered
 pub mod Prepares
 pub mod Slices
+pub mod Sliced
+pub mod Preparing
+pub mod Sorting
 pub mod Onways
 pub mod Determined

@@ -41,14 +41,16 @@ use Rattle.bg_incarnate.specs.Even.{BlocksEven}
 use Rattle.bg_incarnate.specs.Views.{passive_block_of, incarnations_of, incarnations_at}
 use Rattle.bg_incarnate.specs.declared.blocks.Passive.{Passive}
 use Rattle.bg_incarnate.specs.Walked.{next_in}
-use Rattle.bg_block_types.specs.Typed.{blocks_in, arrivals_in, passives_in}
+use Rattle.bg_block_types.specs.Typed.{blocks_in, arrivals_in, incarnations_in, passives_in}
 use Rattle.bg_fits.specs.Scalars.{is_over_scalars}
 use Rattle.bg_linear.specs.declared.scalar.Sort.{Sort}
 use Rattle.bg_sorts.specs.Sorts.{sort_of_type, decl_sorts}
 use Rattle.bg_sorts.specs.Passive.{ArrivesAt}
 use Rattle.bg_atoms.specs.Sorted.{blocks_sorted}
-use Rattle.bg_faithful.specs.Sorted.{sorts_in}
-use Rattle.bg_faithful.specs.Encoded.{Encoding, Encodes, IsEncoding}
+use Rattle.bg_faithful.specs.Encoded.{Encodes}
+use Rattle.bg_terms.specs.Instances.{Instance}
+use Rattle.bg_flat.specs.Blocks.{in_front}
+use Rattle.bg_termed.specs.Termed.{count_in, sorts_in, behind_in}
 use Rattle.bg_task.specs.declared.cut.Cut.{Cut}
 use Rattle.bg_task.specs.declared.prepared.Prepared.{Prepared}
 use Rattle.bg_task.specs.Prepared.{IsPrepared, encoding_over, frame_declared, firsts_of}
@@ -136,15 +138,15 @@ module _ (p : r.Program) (n : ℕ) (w : Prepared) (h : IsPrepared p n w) where
       ∙ ap (λ l. map next_in (arrived (meaning_of p) (frame_decls impl proc) l).arrivals) blocks_are)
 
   -- an operation that leaves the range, of those that count for a place
-  pub outside_here : (spot : Spot) (candidate : Option ℕ) (x : Cut) (o : OutOfRange) (named : List Bool) (rows : List AtomOf) (forms : List FormBlock) → IsSliceFor p n w spot x → forms ≡ (encoding_in x).blocks → clauses_of (encoding_in x).first named (encoding_in x).terms rows spot forms ≡ Err o → HasOutside (meaning_of p) (record { implementation = n; spot = spot; candidate = candidate }) o
-  outside_here spot candidate x o named rows forms cut b e =
+  pub outside_here : (es : List Instance) (spot : Spot) (candidate : Option ℕ) (x : Cut) (o : OutOfRange) (named : List Bool) (rows : List AtomOf) (forms : List FormBlock) → IsSliceFor p n w es spot x → forms ≡ (encoding_in x).blocks → clauses_of (encoding_in x).first named (encoding_in x).terms rows spot forms ≡ Err o → HasOutside (meaning_of p) (record { implementation = n; spot = spot; candidate = candidate }) es o
+  outside_here es spot candidate x o named rows forms cut b e =
       record {
         implementation = impl;
         procedure = proc;
         is_there = impl_at;
         is_its = proc_at;
-        encoding = encoding_over (meaning_of p).candidates w.atoms;
-        is_own = h.own;
+        encoding = cut.whole;
+        is_own = cut.own h;
         is_refused = sym cut.refusals ∙ (ap (refused spot) (sym b) ∙ by (refused spot forms) refl e);
       }
     where
@@ -153,12 +155,12 @@ module _ (p : r.Program) (n : ℕ) (w : Prepared) (h : IsPrepared p n w) where
       by (Some y) g k = let same : y ≡ o = cc in g ∙ ap Some same
 
   -- the clauses of a place
-  abbrev pub clauses_here : (spot : Spot) (candidate : Option ℕ) (x : Cut) (f : Formula) → IsSliceFor p n w spot x → ClausesOf x (record { implementation = n; spot = spot; candidate = candidate }) f → HasOwnClauses (meaning_of p) (record { implementation = n; spot = spot; candidate = candidate }) f
-  clauses_here spot candidate x f cut e =
+  abbrev pub clauses_here : (es : List Instance) (spot : Spot) (candidate : Option ℕ) (x : Cut) (f : Formula) → IsSliceFor p n w es spot x → ClausesOf x (record { implementation = n; spot = spot; candidate = candidate }) f → HasOwnClauses (meaning_of p) (record { implementation = n; spot = spot; candidate = candidate }) es f
+  clauses_here es spot candidate x f cut e =
       record {
         clauses = record { implementation = impl; procedure = proc; is_there = impl_at; is_its = proc_at; encoding = encoding_in x; is_encoding = cut.encoding h; clauses = e };
-        whole = encoding_over (meaning_of p).candidates w.atoms;
-        is_own = h.own;
+        whole = cut.whole;
+        is_own = cut.own h;
         is_cut = cut.cut;
       }
 
@@ -185,14 +187,27 @@ listed_some ss bs None a e h = absurd (let bad : ⊥ = cc in bad)
 listed_some ss bs (Some x) a e h = let same : x ≡ a = cc in subst (λ y. rows_in y.rows ≡ rows_of ss bs) same h
 
 -- with the sorts, the number of candidates and the passive blocks of the implementation
-pub own_here : (p : s.Prog) (n : ℕ) (m : s.Impl) (q : s.Proc) (ss : List Sort) (k : ℕ) (bs : List PassiveBlock) (a : Atoms) → ss ≡ sorts_in p n m q → k ≡ p.candidates → bs ≡ passives_in p n m q → IsEncoding p n m q (encoding_over k a) → blocks_of a.blocks ≡ blocks_over ss a.first (rows_in a.rows) bs → rows_in a.rows ≡ rows_of ss bs → IsOwn p n m q (encoding_over p.candidates a)
-own_here p n m q ss k bs a sorts count passives encodes exact listed =
+pub own_here : (p : s.Prog) (n : ℕ) (m : s.Impl) (q : s.Proc) (es : List Instance) (ss : List Sort) (k : ℕ) (bs : List PassiveBlock) (a : Atoms) → ss ≡ sorts_in p n m q → k ≡ p.candidates → bs ≡ behind_in p n m q es → Encodes ss k bs (encoding_over k a) → blocks_of a.blocks ≡ blocks_over ss a.first (rows_in a.rows) bs → rows_in a.rows ≡ rows_of ss bs → IsOwn p n m q es (encoding_over p.candidates a)
+own_here p n m q es ss k bs a sorts count passives encodes exact listed =
+    let x = subst (λ l. Encodes l k bs (encoding_over k a)) sorts encodes in
+    let y = subst (λ c. Encodes (sorts_in p n m q) c bs (encoding_over c a)) count x in
     record {
-      encodes = subst (λ c. IsEncoding p n m q (encoding_over c a)) count encodes;
+      encodes = subst (λ l. Encodes (sorts_in p n m q) p.candidates l (encoding_over p.candidates a)) passives y;
       blocks = exact ∙ ap (λ l. blocks_over l a.first (rows_in a.rows) bs) sorts ∙ ap (blocks_over (sorts_in p n m q) a.first (rows_in a.rows)) passives;
       named = refl;
       rows = listed ∙ ap (λ l. rows_of l bs) sorts ∙ ap (rows_of (sorts_in p n m q)) passives;
     }
+
+-- sorts of the blocks behind instances
+pub sorted_own : SortLaw → (p : s.Prog) (n : ℕ) (m : s.Impl) (q : s.Proc) (es : List Instance) → IsTyped p → is_over_scalars true p ≡ true → slice_get p.implementations n ≡ Some m → procedure_of p m.procedure ≡ Some q → (ss : List Sort) (k : ℕ) (bs : List PassiveBlock) → ss ≡ sorts_in p n m q → k ≡ p.candidates → bs ≡ behind_in p n m q es → blocks_sorted ss k bs ≡ true
+sorted_own law p n m q es t o im pr ss k bs sorts count passives =
+    ap (λ x. blocks_sorted x k bs) sorts
+    ∙ (ap (λ x. blocks_sorted (sorts_in p n m q) x bs) count
+    ∙ (ap (λ x. blocks_sorted (sorts_in p n m q) p.candidates x) passives ∙ law p n m q t o im pr es))
+
+pub none_in_front : (xs : List PassiveBlock) → in_front [] xs ≡ xs
+none_in_front [] = refl
+none_in_front (x ∷ xs) = refl
 
 -- ---- how an implementation is prepared
 
@@ -216,10 +231,10 @@ module _ (p : r.Program) (n : ℕ) (m : r.Impl) (q : r.Proc) (im : slice_get p.i
   abbrev declared : List r.Declared
   declared = frame_declared m q
 
-  impl_is : slice_get P.implementations n ≡ Some M
+  pub impl_is : slice_get P.implementations n ≡ Some M
   impl_is = slice_get-map (impl_of types) p.implementations n ∙ ap (option_map (impl_of types)) im
 
-  proc_is : procedure_of P M.procedure ≡ Some Q
+  pub proc_is : procedure_of P M.procedure ≡ Some Q
   proc_is = slice_get-map (proc_of types) p.procedures m.procedure ∙ ap (option_map (proc_of types)) pr
 
   pub frame_meant : frame_of p declared ≡ frame_decls M Q
@@ -237,7 +252,7 @@ module _ (p : r.Program) (n : ℕ) (m : r.Impl) (q : r.Proc) (im : slice_get p.i
     even = subst BlocksEven (sym made) (evens P n M Q t o impl_is proc_is)
 
     -- the sorts of the incarnations
-    pub sorts_are : (sorts : List Sort) → sorts ≡ map sort_of_type (incarnations P (frame_of p declared) (arrived P (frame_of p declared) (map (block_of p) bs)).made) → sorts ≡ sorts_in P n M Q
+    pub sorts_are : (sorts : List Sort) → sorts ≡ map sort_of_type (incarnations P (frame_of p declared) (arrived P (frame_of p declared) (map (block_of p) bs)).made) → sorts ≡ map sort_of_type (incarnations_in P n M Q)
     sorts_are sorts e =
         e
         ∙ (ap (λ ds. map sort_of_type (incarnations P ds (arrived P ds (map (block_of p) bs)).made)) frame_meant
@@ -250,18 +265,12 @@ module _ (p : r.Program) (n : ℕ) (m : r.Impl) (q : r.Proc) (im : slice_get p.i
         ∙ (ap (λ ds. passives (arrived P ds (map (block_of p) bs)).arrivals (map (block_of p) bs)) frame_meant
         ∙ ap (λ l. passives (arrived P (frame_decls M Q) l).arrivals l) made)
 
-    -- they are well sorted
-    pub sorted_here : SortLaw → (sorts : List Sort) (candidates : ℕ) (blocks : List PassiveBlock) → sorts ≡ sorts_in P n M Q → candidates ≡ P.candidates → blocks ≡ passives_in P n M Q → blocks_sorted sorts candidates blocks ≡ true
-    sorted_here law sorts candidates blocks a b c =
-        ap (λ x. blocks_sorted x candidates blocks) a
-        ∙ (ap (λ x. blocks_sorted (sorts_in P n M Q) x blocks) b
-        ∙ (ap (λ x. blocks_sorted (sorts_in P n M Q) P.candidates x) c ∙ law P n M Q t o impl_is proc_is))
-
-    -- what encodes them is an encoding of the implementation
-    pub encodes : (sorts : List Sort) (candidates : ℕ) (blocks : List PassiveBlock) (a : Encoding) → sorts ≡ sorts_in P n M Q → candidates ≡ P.candidates → blocks ≡ passives_in P n M Q → Encodes sorts candidates blocks a → IsEncoding P n M Q a
-    encodes sorts candidates blocks a x y z h =
-        subst (λ l. Encodes (sorts_in P n M Q) P.candidates l a) z
-        (subst (λ k. Encodes (sorts_in P n M Q) k blocks a) y (subst (λ ss. Encodes ss candidates blocks a) x h))
+    -- how many incarnations there are
+    pub count_made : (k : ℕ) → k ≡ length (incarnations P (frame_of p declared) (arrived P (frame_of p declared) (map (block_of p) bs)).made) → k ≡ count_in P n M Q
+    count_made k e =
+        e
+        ∙ (ap (λ ds. length (incarnations P ds (arrived P ds (map (block_of p) bs)).made)) frame_meant
+        ∙ ap (λ l. length (incarnations P (frame_decls M Q) (arrived P (frame_decls M Q) l).made)) made)
 
     -- what is said of the passive blocks of these blocks, where the frame has so many variables
     abbrev pub PassiveSays : Passive → ℕ → List Block → Type 0
@@ -276,9 +285,9 @@ module _ (p : r.Program) (n : ℕ) (m : r.Impl) (q : r.Proc) (im : slice_get p.i
         (rs : List r.Declared) → frame ≡ decl_sorts (frame_of p rs) → ArrivesAt p rs l w → BlocksEven (map (block_of p) l) → sorts ≡ map sort_of_type (incarnations P (frame_of p rs) (arrived P (frame_of p rs) (map (block_of p) l)).made)
 
     -- the passive blocks and the sorts that are made
-    pub made_here : (frame f1 : List Sort) (k : ℕ) (l1 l2 : List Block) (w : Passive) (sorts : List Sort) → frame ≡ decl_sorts (frame_of p declared) → f1 ≡ frame → k ≡ length frame → l1 ≡ bs → l2 ≡ bs → PassiveSays w k l1 → SortsSay f1 w l2 sorts → IsPassive p declared bs w × (sorts ≡ sorts_in P n M Q)
+    pub made_here : (frame f1 : List Sort) (k : ℕ) (l1 l2 : List Block) (w : Passive) (sorts : List Sort) → frame ≡ decl_sorts (frame_of p declared) → f1 ≡ frame → k ≡ length frame → l1 ≡ bs → l2 ≡ bs → PassiveSays w k l1 → SortsSay f1 w l2 sorts → IsPassive p declared bs w × ((sorts ≡ map sort_of_type (incarnations_in P n M Q)) × (w.count ≡ count_in P n M Q))
     made_here frame f1 k l1 l2 w sorts fe f1e ke e1 e2 passive says =
         let h = subst (PassiveSays w k) e1 passive declared (many frame fe ∙ sym ke) in
         let g = subst (λ x. SortsSay x w l2 sorts) f1e says in
         let s = subst (λ l. SortsSay frame w l sorts) e2 g declared fe (record { arrivals = h.0; count = h.1.0 }) even in
-        (h.1.1, sorts_are sorts s)
+        (h.1.1, (sorts_are sorts s, count_made w.count (h.1.0 even)))

@@ -1,21 +1,22 @@
 -- The clauses of a place: those of its implementation's own blocks of forms, of which no more is left than counts for it.
-use Rattle.std.specs.Prelude.{◌≡◌, ℕ, true, replicate}
+use Rattle.std.specs.Prelude.{◌≡◌, ℕ, true, List, replicate}
 use Rattle.bg_ast.specs.Syntax.{Proc, Impl, Prog}
 use Rattle.bg_ast.specs.Execution.{Spot, Place}
 use Rattle.bg_formula.specs.Formulas.{Formula}
 use Rattle.bg_slice.specs.Slices.{sliced, sliced_rows, guards_in}
-use Rattle.bg_block_types.specs.Typed.{passives_in}
 use Rattle.bg_atoms.specs.Listed.{rows_of}
 use Rattle.bg_atoms.specs.Encoded.{blocks_over}
-use Rattle.bg_faithful.specs.Sorted.{sorts_in}
-use Rattle.bg_faithful.specs.Encoded.{Encoding, IsEncoding, HasClauses}
+use Rattle.bg_faithful.specs.Encoded.{Encoding}
+use Rattle.bg_terms.specs.Instances.{Instance}
+use Rattle.bg_termed.specs.Termed.{sorts_in, behind_in}
+use Rattle.bg_termed.specs.Clauses.{IsEncoding, HasClauses}
 
--- the blocks of forms of the implementation with this number, which is one of this procedure: exactly those of its passive blocks, over
--- their rows. Each candidate may guard a command
-pub record IsOwn (p : Prog) (k : ℕ) (m : Impl) (q : Proc) (a : Encoding) : Type 0 where
-  pub encodes : IsEncoding p k m q a
-  pub rows : a.rows ≡ rows_of (sorts_in p k m q) (passives_in p k m q)
-  pub blocks : a.blocks ≡ blocks_over (sorts_in p k m q) a.first a.rows (passives_in p k m q)
+-- the blocks of forms of the implementation with this number, which is one of this procedure: exactly those of its flat blocks behind
+-- these instances, over their rows. Each candidate may guard a command
+pub record IsOwn (p : Prog) (k : ℕ) (m : Impl) (q : Proc) (instances : List Instance) (a : Encoding) : Type 0 where
+  pub encodes : IsEncoding p k m q instances a
+  pub rows : a.rows ≡ rows_of (sorts_in p k m q) (behind_in p k m q instances)
+  pub blocks : a.blocks ≡ blocks_over (sorts_in p k m q) a.first a.rows (behind_in p k m q instances)
   pub named : a.named ≡ replicate p.candidates true
 
 -- the same blocks of forms, in which only commands that count for the target say something, with the rows and the candidates that they
@@ -27,9 +28,9 @@ pub record IsCut (candidates : ℕ) (t : Spot) (whole cut : Encoding) : Type 0 w
   pub blocks : cut.blocks ≡ sliced t whole.blocks
   pub named : cut.named ≡ guards_in candidates (sliced t whole.blocks)
 
--- the clauses of a place: those of its implementation's own blocks of forms, cut down to what counts for the place
-pub record HasOwnClauses (p : Prog) (t : Place) (f : Formula) : Type 0 where
-  pub clauses : HasClauses p t f
+-- the clauses of a place behind these instances: those of its implementation's own blocks of forms, cut down to what counts for the place
+pub record HasOwnClauses (p : Prog) (t : Place) (instances : List Instance) (f : Formula) : Type 0 where
+  pub clauses : HasClauses p t instances f
   pub whole : Encoding
-  pub is_own : IsOwn p t.implementation clauses.implementation clauses.procedure whole
+  pub is_own : IsOwn p t.implementation clauses.implementation clauses.procedure instances whole
   pub is_cut : IsCut p.candidates t.spot whole clauses.encoding

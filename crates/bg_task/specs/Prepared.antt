@@ -11,9 +11,11 @@ use Rattle.bg_blocks.specs.declared.block.Block.{Block}
 use Rattle.bg_places.specs.Placed.{Placed}
 use Rattle.bg_passive.specs.Arrivals.{arrived}
 use Rattle.bg_incarnate.specs.Walked.{next_in}
+use Rattle.bg_incarnate.specs.Views.{passive_block_of}
 use Rattle.bg_atoms.specs.declared.product.Atoms.{Atoms}
-use Rattle.bg_faithful.specs.Sorted.{sorts_in}
 use Rattle.bg_faithful.specs.Encoded.{Encoding}
+use Rattle.bg_term_table.specs.Views as table
+use Rattle.bg_termed.specs.Termed.{count_in, terms_in, flats_in, sorts_in}
 use Rattle.bg_task.specs.Cuts.{IsOwn}
 use Rattle.bg_task.specs.declared.prepared.Prepared.{Prepared}
 
@@ -34,7 +36,8 @@ encoding_over candidates a = encoding_of (replicate candidates true) a
 abbrev pub frame_declared : r.Impl → r.Proc → List r.Declared
 frame_declared m q = q.params ++ (q.results ++ m.locals)
 
--- the blocks of the implementation with this number, the first new incarnations at their arrivals, the sorts of the incarnations, and the blocks of forms
+-- the blocks of the implementation with this number, the first new incarnations at their arrivals, how many incarnations there are, its
+-- terms, its flat blocks where it has terms, the sorts of incarnations and terms, and the blocks of forms behind no instance
 pub record IsPrepared (p : r.Program) (number : ℕ) (w : Prepared) : Type 0 where
   pub implementation : r.Impl
   pub procedure : r.Proc
@@ -43,8 +46,11 @@ pub record IsPrepared (p : r.Program) (number : ℕ) (w : Prepared) : Type 0 whe
   pub frame : w.frame ≡ length (frame_declared implementation procedure)
   pub blocks : AreBlocks p number implementation procedure w.blocks.items
   pub firsts : w.firsts.items ≡ firsts_of p (frame_declared implementation procedure) w.blocks.items
+  pub count : w.count ≡ count_in (meaning_of p) number (impl_of (named_of p.types) implementation) (proc_of (named_of p.types) procedure)
+  pub terms : table.terms_in (meaning_of p).functions w.terms.items ≡ terms_in (meaning_of p) number (impl_of (named_of p.types) implementation) (proc_of (named_of p.types) procedure)
+  pub flats : (w.terms.items ≡ [] → ⊥) → map passive_block_of w.flats.items ≡ flats_in (meaning_of p) number (impl_of (named_of p.types) implementation) (proc_of (named_of p.types) procedure)
   pub sorts : w.sorts.items ≡ sorts_in (meaning_of p) number (impl_of (named_of p.types) implementation) (proc_of (named_of p.types) procedure)
-  pub own : IsOwn (meaning_of p) number (impl_of (named_of p.types) implementation) (proc_of (named_of p.types) procedure) (encoding_over (meaning_of p).candidates w.atoms)
+  pub own : IsOwn (meaning_of p) number (impl_of (named_of p.types) implementation) (proc_of (named_of p.types) procedure) [] (encoding_over (meaning_of p).candidates w.atoms)
 
 -- each is a place of the implementation that is prepared
 abbrev pub ArePrepared : r.Program → Prepared → List Placed → Type 0

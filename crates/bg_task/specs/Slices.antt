@@ -1,22 +1,35 @@
 -- What of an implementation's blocks of forms counts for a place.
-use Rattle.std.specs.Prelude.{◌≡◌, ℕ}
+use Rattle.std.specs.Prelude.{◌≡◌, ℕ, List}
 use Rattle.bg_ast.specs.Resolved as r
 use Rattle.bg_ast.specs.Meaning.{meaning_of, named_of, impl_of, proc_of}
 use Rattle.bg_ast.specs.Execution.{Spot}
-use Rattle.bg_faithful.specs.Encoded.{Encoding, IsEncoding}
+use Rattle.bg_passive.specs.Passive.{PassiveBlock}
 use Rattle.bg_formed.specs.Used.{refused}
+use Rattle.bg_linear.specs.declared.scalar.Sort.{Sort}
+use Rattle.bg_atoms.specs.declared.product.Atoms.{Atoms}
+use Rattle.bg_faithful.specs.Encoded.{Encoding, Encodes}
+use Rattle.bg_terms.specs.Instances.{Instance}
+use Rattle.bg_termed.specs.Clauses.{IsEncoding}
 use Rattle.bg_task.specs.declared.cut.Cut.{Cut}
 use Rattle.bg_task.specs.declared.prepared.Prepared.{Prepared}
 use Rattle.bg_task.specs.Prepared.{IsPrepared, encoding_of, encoding_over}
-use Rattle.bg_task.specs.Cuts.{IsCut}
+use Rattle.bg_task.specs.Cuts.{IsOwn, IsCut}
 
 -- what is left for a place, as data
 abbrev pub encoding_in : Cut → Encoding
 encoding_in c = encoding_of c.named.items c.atoms
 
--- blocks of forms that encode the implementation with this number as the prepared ones do, cut down to what counts for the target; the
--- same operation that leaves the range counts, if any
-pub record IsSliceFor (p : r.Program) (number : ℕ) (w : Prepared) (t : Spot) (c : Cut) : Type 0 where
-  pub encoding : (h : IsPrepared p number w) → IsEncoding (meaning_of p) number (impl_of (named_of p.types) h.implementation) (proc_of (named_of p.types) h.procedure) (encoding_in c)
-  pub cut : IsCut (meaning_of p).candidates t (encoding_over (meaning_of p).candidates w.atoms) (encoding_in c)
-  pub refusals : refused t (encoding_in c).blocks ≡ refused t (encoding_over (meaning_of p).candidates w.atoms).blocks
+-- what is left of blocks of forms for a target encodes what they do; the same operation that leaves the range counts, if any
+pub record IsSliceOf (candidates : ℕ) (whole : Atoms) (t : Spot) (c : Cut) : Type 0 where
+  pub encodes : (sorts : List Sort) (blocks : List PassiveBlock) → Encodes sorts candidates blocks (encoding_over candidates whole) → Encodes sorts candidates blocks (encoding_in c)
+  pub cut : IsCut candidates t (encoding_over candidates whole) (encoding_in c)
+  pub refusals : refused t (encoding_in c).blocks ≡ refused t (encoding_over candidates whole).blocks
+
+-- blocks of forms that encode the implementation with this number behind these instances, as its own ones do, cut down to what counts for
+-- the target; the same operation that leaves the range counts, if any
+pub record IsSliceFor (p : r.Program) (number : ℕ) (w : Prepared) (instances : List Instance) (t : Spot) (c : Cut) : Type 0 where
+  pub whole : Encoding
+  pub own : (h : IsPrepared p number w) → IsOwn (meaning_of p) number (impl_of (named_of p.types) h.implementation) (proc_of (named_of p.types) h.procedure) instances whole
+  pub encoding : (h : IsPrepared p number w) → IsEncoding (meaning_of p) number (impl_of (named_of p.types) h.implementation) (proc_of (named_of p.types) h.procedure) instances (encoding_in c)
+  pub cut : IsCut (meaning_of p).candidates t whole (encoding_in c)
+  pub refusals : refused t (encoding_in c).blocks ≡ refused t whole.blocks

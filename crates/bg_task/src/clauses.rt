@@ -1,10 +1,9 @@
 //! The clauses of a place.
-ghost use Rattle.std.specs.Prelude.{◌≡◌, true, IfOk};
+ghost use Rattle.std.specs.Prelude.{List, IfOk};
 ghost use Rattle.bg_ast.specs.Meaning.{meaning_of};
 ghost use Rattle.bg_ast.specs.Views.{program_of};
-ghost use Rattle.bg_sense.specs.Typed.{IsTyped};
 ghost use Rattle.bg_places.specs.Views.{placed_of, spot_of};
-ghost use Rattle.bg_fits.specs.Scalars.{is_over_scalars};
+ghost use Rattle.bg_terms.specs.Instances as terms;
 ghost use Rattle.bg_task.specs.Prepared.{IsPrepared};
 ghost use Rattle.bg_task.specs.Slices.{IsSliceFor};
 ghost use Rattle.bg_task.specs.Made.{IsMade};
@@ -24,7 +23,7 @@ pub enum Made {
     Outside(OutOfRange),
 }
 
-/// The clauses of a place, over what counts for it.
+/// The clauses of a place, over what counts for it, behind the instances for which that was made.
 ///
 /// Only want of memory is an error; 2^32 atoms count as such.
 pub fn place_clauses(
@@ -32,11 +31,8 @@ pub fn place_clauses(
     question: Question<'_, '_>,
     cut: &Cut,
 ) -> Result<Made, AllocError>
-    requires typed { IsTyped (meaning_of (program_of question.program.now)) }
-    requires scalars { is_over_scalars true (meaning_of (program_of question.program.now)) ≡ true }
     requires prepared { IsPrepared (program_of question.program.now) question.place.now.implementation question.prepared.now }
-    requires slice { IsSliceFor (program_of question.program.now) question.place.now.implementation question.prepared.now (spot_of question.place.now.spot) cut.now }
-    ensures { IfOk result (λ made. IsMade (meaning_of (program_of question.entry.program.now)) cut.now (placed_of question.entry.place.now).place made) }
+    ensures { IfOk result (λ made. (instances : List terms.Instance) → IsSliceFor (program_of question.entry.program.now) question.entry.place.now.implementation question.entry.prepared.now instances (spot_of question.entry.place.now.spot) cut.now → IsMade (meaning_of (program_of question.entry.program.now)) instances cut.now (placed_of question.entry.place.now).place made) }
 {
     let atoms = &cut.atoms;
     let names = Names {

@@ -10,8 +10,8 @@ ghost use Rattle.bg_formula.specs.Meaning.{AtomsAgree};
 ghost use Rattle.bg_cert.specs.Certs.{CertOf, Accepts, cert_of, uses};
 ghost use Rattle.bg_cert.specs.Walks.{has, no_instance};
 ghost use Rattle.bg_fits.specs.Scalars.{is_over_scalars};
-ghost use Rattle.bg_block_types.specs.Typed.{passives_in};
-ghost use Rattle.bg_faithful.specs.Sorted.{sorts_in};
+ghost use Rattle.bg_terms.specs.Instances.{Instance};
+ghost use Rattle.bg_termed.specs.Termed.{sorts_in, behind_in};
 ghost use Rattle.bg_formula.specs.Formulas.{Formula};
 ghost use Rattle.bg_task.specs.Cuts.{HasOwnClauses};
 ghost use Rattle.bg_task.specs.Ways.{LiesOnWay};
@@ -19,56 +19,63 @@ ghost use Rattle.bg_task.specs.Certified.{HasCertificate, HasOutside};
 
 use bg_cert::laws::{accepted_has_no_valuation, accepted_where_used};
 use bg_clause::laws::atoms_of_clauses;
-use bg_faithful::laws::clauses_over_scalars_fail_alike;
 use bg_passive::equations::equations_deny_failing_walks;
 use bg_passive::laws::{arrivals_fit, passive_blocks_fail_alike};
 use bg_sense::laws::typed_programs_have_typed_bodies;
 use bg_slice::laws::slices_use_alike;
+use bg_termed::laws::{
+    denied_passive_blocks_have_valuations, implementations_over_scalars_have_scalars,
+    programs_over_scalars_are_tabled,
+};
 
-/// A place whose clauses have a certificate has no failing run, under any set that has what the certificate uses.
+/// A place whose clauses, behind whatever instances, have a certificate has no failing run, under any set that has what the certificate uses.
 pub fn proved_places_do_not_fail()
-    ensures { (p : Prog) (set other : ℕ → Bool) (t : Place) (cert : Cert) → IsTyped p → is_over_scalars true p ≡ true →
-        HasCertificate p set t cert → ((c : ℕ) → uses (cert_of cert).nodes c ≡ true → other c ≡ true) →
+    ensures { (p : Prog) (set other : ℕ → Bool) (t : Place) (instances : List Instance) (cert : Cert) → IsTyped p → is_over_scalars true p ≡ true →
+        HasCertificate p set t instances cert → ((c : ℕ) → uses (cert_of cert).nodes c ≡ true → other c ≡ true) →
         (i : Interp) (s : State) (choices : List Choice) → Fails p other t i s choices → ⊥ }
 {
     typed_programs_have_typed_bodies();
     passive_blocks_fail_alike();
     arrivals_fit();
     equations_deny_failing_walks();
-    clauses_over_scalars_fail_alike();
+    programs_over_scalars_are_tabled();
+    implementations_over_scalars_have_scalars();
+    denied_passive_blocks_have_valuations();
     accepted_has_no_valuation();
     accepted_where_used();
     atoms_of_clauses()
 }
 
-/// A place whose clauses accept a certificate has no failing run, wherever the certificate is from.
+/// A place whose clauses, behind whatever instances, accept a certificate has no failing run, wherever the certificate is from.
 pub fn accepted_places_do_not_fail()
-    ensures { (p : Prog) (set : ℕ → Bool) (t : Place) (f : Formula) (cert : CertOf) → IsTyped p → is_over_scalars true p ≡ true →
-        HasOwnClauses p t f → AtomsAgree cert.table → Accepts f set no_instance cert →
+    ensures { (p : Prog) (set : ℕ → Bool) (t : Place) (instances : List Instance) (f : Formula) (cert : CertOf) → IsTyped p → is_over_scalars true p ≡ true →
+        HasOwnClauses p t instances f → AtomsAgree cert.table → Accepts f set no_instance cert →
         (i : Interp) (s : State) (choices : List Choice) → Fails p set t i s choices → ⊥ }
 {
     typed_programs_have_typed_bodies();
     passive_blocks_fail_alike();
     arrivals_fit();
     equations_deny_failing_walks();
-    clauses_over_scalars_fail_alike();
+    programs_over_scalars_are_tabled();
+    implementations_over_scalars_have_scalars();
+    denied_passive_blocks_have_valuations();
     accepted_has_no_valuation();
     accepted_where_used();
     atoms_of_clauses()
 }
 
 /// An operation for which a place has no clauses lies on a way to the place: from the entry along some edges of the implementation's
-/// passive blocks comes a command with a relation in whose linear forms it leaves 128 bits, and this command or one behind it is the
-/// place's check.
+/// flat blocks, behind the instances, comes a command with a relation in whose linear forms it leaves 128 bits, and this command or one
+/// behind it is the place's check.
 pub fn operations_of_forms_lie_on_ways()
-    ensures { (p : Prog) (t : Place) (o : OutOfRange) (h : HasOutside p t o) →
-        LiesOnWay (sorts_in p t.implementation h.implementation h.procedure) (passives_in p t.implementation h.implementation h.procedure) t.spot o }
+    ensures { (p : Prog) (t : Place) (instances : List Instance) (o : OutOfRange) (h : HasOutside p t instances o) →
+        LiesOnWay (sorts_in p t.implementation h.implementation h.procedure) (behind_in p t.implementation h.implementation h.procedure instances) t.spot o }
 {}
 
-/// A place has one list of clauses, or an operation for which it has none.
+/// A place has one list of clauses behind instances, or an operation for which it has none.
 pub fn a_place_has_one_list_of_clauses()
-    ensures one { (p : Prog) (t : Place) (f g : Formula) → HasOwnClauses p t f → HasOwnClauses p t g → f ≡ g }
-    ensures none { (p : Prog) (t : Place) (f : Formula) (o : OutOfRange) → HasOwnClauses p t f → HasOutside p t o → ⊥ }
+    ensures one { (p : Prog) (t : Place) (instances : List Instance) (f g : Formula) → HasOwnClauses p t instances f → HasOwnClauses p t instances g → f ≡ g }
+    ensures none { (p : Prog) (t : Place) (instances : List Instance) (f : Formula) (o : OutOfRange) → HasOwnClauses p t instances f → HasOutside p t instances o → ⊥ }
 {
     slices_use_alike()
 }

@@ -1,12 +1,15 @@
 //! A place of a program over truth values and whole numbers as a task: what is made once of its implementation, what of that counts for
-//! the place, and its clauses, which a certificate shows to have no solution. Nothing here searches.
+//! the place, and its clauses behind instances, which a certificate shows to have no solution. Nothing here searches.
 #![tactic(auto)]
 
+mod behind;
 mod clauses;
 mod cut;
+mod flat;
 pub mod laws;
 mod prepared;
 mod question;
+mod term_sorts;
 
 pub use clauses::{Made, place_clauses};
 pub use cut::{Cut, cut_down};

@@ -1,5 +1,5 @@
 //! What is made once of each implementation.
-ghost use Rattle.std.specs.Prelude.{◌≡◌, ◌<◌, Some, length, slice_get, true, IfOk};
+ghost use Rattle.std.specs.Prelude.{◌≡◌, ◌<◌, [], Some, length, slice_get, true, IfOk};
 ghost use Rattle.bg_ast.specs.Resolved as r;
 ghost use Rattle.bg_ast.specs.Meaning.{meaning_of};
 ghost use Rattle.bg_ast.specs.Views.{program_of};
@@ -10,21 +10,33 @@ ghost use Rattle.bg_fits.specs.Scalars.{is_over_scalars};
 ghost use Rattle.bg_sorts.specs.Sorts.{decl_sorts};
 ghost use Rattle.bg_task.specs.Prepared.{IsPrepared, frame_declared};
 
+use crate::flat::made_flat;
+use crate::term_sorts::with_terms;
 use bg_ast::resolved::{Resolved, Variable};
 use bg_atoms::{Atoms, atoms};
 use bg_blocks::{Block, blocks};
-use bg_faithful::laws::{blocks_over_scalars_are_even, passive_blocks_have_sorts};
-use bg_incarnate::{Passive, passive};
+use bg_faithful::laws::blocks_over_scalars_are_even;
+use bg_flatten::Flat;
+use bg_incarnate::{Passive, PassiveBlock, passive};
 use bg_linear::Sort;
 use bg_sorts::{frame_sorts, sorts};
+use bg_term_table::Term;
+use bg_termed::laws::{
+    blocks_behind_instances_are_sorted, implementations_over_scalars_have_scalars,
+    implementations_without_functions_stay, programs_over_scalars_are_tabled,
+};
 use std::alloc::{AllocError, Global};
 
-/// The blocks of an implementation, the first new incarnation at each arrival where they are made passive, the sorts of the
-/// incarnations, the blocks of forms, and how many variables the frame has.
+/// The blocks of an implementation, the first new incarnation at each arrival where they are made passive, how many incarnations there
+/// are, its terms, where it has terms its flat blocks, the sorts of incarnations and terms, the blocks of forms behind no instance, and
+/// how many variables the frame has.
 #[derive(Drop)]
 pub struct Prepared<'p> {
     pub blocks: Vec<Block<'p>>,
     pub firsts: Vec<u32>,
+    pub count: u32,
+    pub terms: Vec<Term>,
+    pub flats: Vec<PassiveBlock>,
     pub sorts: Vec<Sort>,
     pub atoms: Atoms,
     pub frame: usize,
@@ -53,10 +65,20 @@ pub fn count_candidates(program: &Resolved) -> Result<u32, AllocError>
     }
 }
 
+/// The blocks where there are terms; else none are kept.
+fn kept(alloc: Global, terms: &[Term], blocks: Vec<PassiveBlock>) -> Vec<PassiveBlock>
+    ensures { (terms.now ≡ [] → ⊥) → result ≡ blocks }
+{
+    if terms.is_empty() {
+        return Vec::new(alloc);
+    }
+    blocks
+}
+
 /// Prepares the implementation with this number of a typed program over truth values and whole numbers, where these are what its
-/// procedures modify.
+/// procedures modify. In a program without functions no block is copied.
 ///
-/// Only want of memory is an error; 2^32 incarnations or atoms count as such.
+/// Only want of memory is an error; 2^32 incarnations and terms, or atoms, count as such.
 pub fn prepare<'p>(
     alloc: Global,
     program: &'p Resolved,
@@ -70,24 +92,36 @@ pub fn prepare<'p>(
     ensures { IfOk result (λ made. IsPrepared (program_of program.now) number made) }
 {
     blocks_over_scalars_are_even();
-    passive_blocks_have_sorts();
+    programs_over_scalars_are_tabled();
+    implementations_over_scalars_have_scalars();
+    implementations_without_functions_stay();
+    blocks_behind_instances_are_sorted();
     let blocks = blocks(alloc, program, callees, number)?;
     let frame = sorts_in(alloc, program, number)?;
     let passive = passive(alloc, program, frame.len(), &blocks)?;
-    let sorts = sorts(alloc, program, &frame, &blocks, &passive)?;
-    let candidates = count_candidates(program)?;
-    let Some(atoms) = atoms(alloc, &sorts, candidates, &passive.blocks)? else {
-        unreachable!()
-    };
+    let incarnations = sorts(alloc, program, &frame, &blocks, &passive)?;
     let Passive {
-        blocks: _,
+        blocks: passives,
         arrivals: _,
         firsts,
-        count: _,
+        count,
     } = passive;
+    let Flat {
+        terms,
+        blocks: flats,
+    } = made_flat(alloc, program, count, passives)?;
+    let sorts = with_terms(program, incarnations, &terms)?;
+    let candidates = count_candidates(program)?;
+    let Some(atoms) = atoms(alloc, &sorts, candidates, &flats)? else {
+        unreachable!()
+    };
+    let flats = kept(alloc, &terms, flats);
     Ok(Prepared {
         blocks,
         firsts,
+        count,
+        terms,
+        flats,
         sorts,
         atoms,
         frame: frame.len(),

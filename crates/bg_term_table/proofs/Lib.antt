@@ -1,6 +1,10 @@
 pub mod Means
-pub mod Parts
+pub mod Loops
+pub mod Copied
+pub mod Keyed
+pub mod Bare
+pub mod Found
+pub mod Linked
+pub mod Until
 pub mod Steps
 pub mod Forms
-pub mod Loops
-pub mod Linked

@@ -1,181 +1,194 @@
--- What is made flat, form by form, and how the table of terms grows.
-use Rattle.std.proofs.Common.{◌≡◌, ℕ, ◌+◌, true, List, [], ◌∷◌, ◌++◌, length, Some, refl, sym, ap, ◌∙◌, subst, arith, ⊎_elim}
-use Rattle.std.specs.Prelude.{slice_get}
-use Rattle.std.proofs.lemmas.List.{append-nil}
-use Rattle.bg_text.specs.declared.expr.PrefixSign.{PrefixSign}
+-- A chain's operands, one after the other.
+use Rattle.std.proofs.Common.{◌≡◌, ℕ, zero, suc, ◌+◌, ◌<◌, Bool, true, false, List, [], ◌∷◌, ◌++◌, length, get_or, drop, refl, sym, ap, ◌∙◌, subst, arith}
+use Rattle.std.specs.Prelude.{if◌then◌else◌, reverse}
+use Rattle.std.proofs.lemmas.List.{append-nil, append_assoc, map-append, reverse-append}
+use Rattle.bg_text.specs.declared.expr.InfixSign.{InfixSign}
+use Rattle.bg_text.specs.declared.expr.InfixSign.TheVariants as op
+use Rattle.bg_ast.specs.declared.resolved.Expr.{Expr}
 use Rattle.bg_ast.specs.declared.resolved.Link.{Link}
-use Rattle.bg_ast.specs.Values.{Ty}
-use Rattle.bg_ast.specs.Syntax.{Ex, Constant, Read, Var, Local, Global, Apply, Select, Update, Old, Fun}
-use Rattle.bg_ast.specs.Resolved as r
-use Rattle.bg_ast.specs.Meaning.{behind, exs_of, ex_of}
-use Rattle.bg_sense.specs.Typing.{HaveTypes}
-use Rattle.bg_sense.specs.Typed.{AreLinear}
-use Rattle.bg_terms.specs.Terms.{Applies, Term, are_below}
-use Rattle.bg_terms.specs.Flat.{IsTerm, IsFlat}
-use Rattle.bg_terms.specs.Typed.{HaveFlatTypes, HeadHasType, types_with, sig_with}
-use Rattle.bg_terms.proofs.Typed.{flat_typed}
-use Rattle.bg_terms.proofs.Linear.{flat_linear}
-use Rattle.bg_numbered.specs.Fair.{IsHandled, Fair, FairTerms, Grows}
-use Rattle.bg_numbered.specs.Put.{result_or}
-use Rattle.bg_numbered.proofs.Below.{inside, flats_below}
-use Rattle.bg_numbered.proofs.Growing.{stays, grows_on, lifted, fair_more}
-use Rattle.bg_term_table.specs.Views.{listed, operands, signs, head_ty, term_with}
-use Rattle.bg_term_table.specs.Chains.{chain_from, signed_by}
-use Rattle.bg_term_table.specs.Made.{EachFair, IsPut, MakesFlat, EachFlat, MakesAllFlat}
-use Rattle.bg_term_table.proofs.Parts.{fair_args, fair_chain, fair_signed, flat_chain, flat_signed, are_flat}
+use Rattle.bg_ast.specs.Syntax.{Ex, Fun}
+use Rattle.bg_terms.specs.Terms.{Term}
+use Rattle.bg_numbered.specs.Numbered.{behind, numbered}
+use Rattle.bg_term_table.specs.Views.{meaning, meanings}
+use Rattle.bg_term_table.specs.Chains.{is_implies}
+use Rattle.bg_term_table.specs.Linked.{is_explies, first_of, others_of, behind_turned, numbered_turned}
+use Rattle.bg_term_table.specs.Made.{turned_in, IsMade, IsTurned, AreTurned, IsBegun, behind_in, numbered_in, IsStep, AreLinked}
+use Rattle.bg_term_table.proofs.Until.{drop_item}
 
-put_grows : (n : ℕ) (old new : List Term) (t : Term) (j : ℕ) → IsPut n old new t j → Grows old new
-put_grows n old new t j is = ⊎_elim (λ e. ([], e ∙ sym (append-nil old))) (λ e. (t ∷ [], e)) is.grown
+pub last_first : (old new : List Expr) (x : Expr) → new ≡ old ++ x ∷ [] → reverse (meanings new) ≡ meaning x ∷ reverse (meanings old)
+last_first old new x e =
+    ap (λ l. reverse (meanings l)) e ∙ ap reverse (map-append meaning old (x ∷ [])) ∙ reverse-append (meanings old) (meaning x ∷ [])
 
-pub each_lifted : (n : ℕ) (old new : List Term) (es xs : List Ex) → Grows old new → EachFlat n old es xs → EachFlat n new es xs
-each_lifted n old new [] [] g h = tt
-each_lifted n old new [] (x ∷ xs) g h = absurd h
-each_lifted n old new (e ∷ es) [] g h = absurd h
-each_lifted n old new (e ∷ es) (x ∷ xs) g h =
-    (lifted n old new e x g h.0, each_lifted n old new es xs g h.1)
+-- a sign is one of both at most
+no_implies : (g : InfixSign) → is_explies g ≡ true → is_implies g ≡ false
+no_implies op.Iff h = refl
+no_implies op.Implies h = absurd (let bad : ⊥ = cc in bad)
+no_implies op.Explies h = refl
+no_implies op.And h = refl
+no_implies op.Or h = refl
+no_implies op.Equal h = refl
+no_implies op.Unequal h = refl
+no_implies op.Less h = refl
+no_implies op.AtMost h = refl
+no_implies op.Greater h = refl
+no_implies op.AtLeast h = refl
+no_implies op.Plus h = refl
+no_implies op.Minus h = refl
+no_implies op.Times h = refl
 
-its_term : (n : ℕ) (old new : List Term) (t : Term) (j : ℕ) → IsPut n old new t j → IsTerm n new t.head t.args (Read (Local j))
-its_term n old new t j is =
-    record {
-      number = is.number;
-      term = t;
-      is_there = is.there;
-      head = refl;
-      args = refl;
-      reads = ap (λ k. Read (Local k)) is.is;
-    }
-
-module _ (fs : List Fun) (incs : List Ty) where
-  put_fair : (old new : List Term) (t : Term) (j : ℕ) → IsPut (length incs) old new t j → FairTerms fs incs old → are_below (length incs + length old) t.args ≡ true → AreLinear t.args → HeadHasType fs (types_with incs old) t.head t.args t.ty → FairTerms fs incs new
-  put_fair old new t j is f b l h =
-      ⊎_elim (λ e. subst (λ ts. FairTerms fs incs ts) (sym e) f) (λ e. subst (λ ts. FairTerms fs incs ts) (sym e) (fair_more fs incs old t f b l h)) is.grown
-
-  args_typed : (cs : List Ty) (ts : List Term) → FairTerms fs incs ts → (es xs : List Ex) (tys : List Ty) → HaveTypes (listed es) (sig_with cs fs incs) tys → EachFlat (length incs) ts es xs → HaveFlatTypes (types_with incs ts) (listed xs) tys
-  args_typed cs ts f [] [] tys h k = h
-  args_typed cs ts f [] (x ∷ xs) tys h k = absurd k
-  args_typed cs ts f (e ∷ es) [] tys h k = absurd k
-  args_typed cs ts f (e ∷ es) (x ∷ xs) [] h k = absurd h
-  args_typed cs ts f (e ∷ es) (x ∷ xs) (t ∷ tys) h k =
-      (flat_typed fs incs (length incs) ts refl f.typed cs e x t h.0 k.0, args_typed cs ts f es xs tys h.1 k.1)
-
-args_linear : (n : ℕ) (ts : List Term) (es xs : List Ex) → AreLinear (listed es) → EachFlat n ts es xs → AreLinear (listed xs)
-args_linear n ts [] [] l k = tt
-args_linear n ts [] (x ∷ xs) l k = absurd k
-args_linear n ts (e ∷ es) [] l k = absurd k
-args_linear n ts (e ∷ es) (x ∷ xs) l k = (flat_linear n ts e x l.0 k.0, args_linear n ts es xs l.1 k.1)
+-- an item of a list is one alone, whatever stands in for what is past its end
+same_item : {A : Type 0} (xs : List A) (i : ℕ) (x y : A) → i < length xs → x ≡ get_or xs i x → y ≡ get_or xs i y → x ≡ y
+same_item [] i x y lt h k = absurd (omega (arith, lt))
+same_item (z ∷ xs) zero x y lt h k = h ∙ sym k
+same_item (z ∷ xs) (suc i) x y lt h k = same_item xs i x y (omega (arith, lt)) h k
 
 module _ (fs : List Fun) (n : ℕ) where
-  -- ---- the forms
+  -- ---- a chain that begins anew
 
-  reads : (ts : List Term) (v : Var) (incs : List Ty) → length incs ≡ n → Fair fs incs (Read v) → IsFlat n ts (Read v) (Read v)
-  reads ts (Local j) incs c f = let h = inside incs j f.ty f.typed in (refl, omega (arith, h, c))
-  reads ts (Global j) incs c f = absurd (none j f.ty f.typed)
+  module _ (i : ℕ) (links : List Link) (l : Link) (lt : i < length links) (is : l ≡ get_or links i l) (before : List Ex) (old : List Term) where
+    pub begun_none : is_implies l.sign ≡ false → IsBegun fs n i links before old before old
+    begun_none j m e =
+        let same : m ≡ l = same_item links i m l lt e is in
+        (λ k. absurd (let no : true ≡ false = sym k ∙ ap (λ y. is_implies y.sign) same ∙ j in let bad : ⊥ = cc in bad), λ k. (refl, refl))
+
+    pub begun_anew : (made : List Ex) (new : List Term) → is_implies l.sign ≡ true → AreTurned fs n (drop (i + 1) links) old made new → IsBegun fs n i links before old made new
+    begun_anew made new j all m e =
+        let same : m ≡ l = same_item links i m l lt e is in
+        (λ k. all, λ k. absurd (let no : false ≡ true = sym k ∙ ap (λ y. is_implies y.sign) same ∙ j in let bad : ⊥ = cc in bad))
+
+  -- ---- what stands behind `<==`
+
+  pub turn_none : (l : Link) (before : List Ex) (old : List Term) → is_explies l.sign ≡ false → IsTurned fs n l before old before old
+  turn_none l before old h = (
+    sym (ap (λ b. if b then numbered fs n (meaning l.operand) old ∷ before else before) h),
+    sym (ap (λ b. if b then behind fs n (meaning l.operand) old else old) h),
+  )
+
+  pub turn_one : (l : Link) (before made : List Ex) (old new : List Term) (x : Ex) → is_explies l.sign ≡ true → IsMade fs n (meaning l.operand) old x new → made ≡ x ∷ before → IsTurned fs n l before old made new
+  turn_one l before made old new x h w e = (
+    e
+        ∙ ap (λ y. y ∷ before) w.0
+        ∙ sym (ap (λ b. if b then numbered fs n (meaning l.operand) old ∷ before else before) h),
+    w.1 ∙ sym (ap (λ b. if b then behind fs n (meaning l.operand) old else old) h),
+  )
+
+  pub turned_none : (ls : List Link) (old now : List Term) (made : List Ex) → turned_in ls ≡ [] → made ≡ [] → now ≡ old → AreTurned fs n ls old made now
+  turned_none ls old now made none empty same =
+      (empty ∙ ap (λ es. numbered_turned fs n es old) (sym none), same ∙ ap (λ es. behind_turned fs n es old) (sym none))
+
+  pub turned_one : (l : Link) (ls rest : List Link) (old mid new : List Term) (before made : List Ex) → turned_in ls ≡ (if is_explies l.sign then meaning l.operand ∷ turned_in rest else turned_in rest) → AreTurned fs n rest old before mid → IsTurned fs n l before mid made new → AreTurned fs n ls old made new
+  turned_one l ls rest old mid new before made at all one =
+      (one.0 ∙ made_by (is_explies l.sign) ∙ ap (λ es. numbered_turned fs n es old) (sym at), one.1 ∙ behind_by (is_explies l.sign) ∙ ap (λ es. behind_turned fs n es old) (sym at))
     where
-      none : (j : ℕ) (t : Ty) → slice_get [] j ≡ Some t → ⊥
-      none j t e = cc
+      made_by : (b : Bool) → (if b then numbered fs n (meaning l.operand) mid ∷ before else before) ≡ numbered_turned fs n (if b then meaning l.operand ∷ turned_in rest else turned_in rest) old
+      made_by true = ap (λ ts. numbered fs n (meaning l.operand) ts ∷ before) all.1 ∙ ap (λ xs. numbered fs n (meaning l.operand) (behind_turned fs n (turned_in rest) old) ∷ xs) all.0
+      made_by false = all.0
 
-  pub made_read : (ts : List Term) (v : Var) → MakesFlat fs n ts ts (Read v) (Read v)
-  made_read ts v = record { grows = stays ts; flat = reads ts v; fair = λ incs c f h. h }
+      behind_by : (b : Bool) → (if b then behind fs n (meaning l.operand) mid else mid) ≡ behind_turned fs n (if b then meaning l.operand ∷ turned_in rest else turned_in rest) old
+      behind_by true = ap (behind fs n (meaning l.operand)) all.1
+      behind_by false = all.1
 
-  pub made_constant : (ts : List Term) (k : ℕ) (x : Ex) → MakesFlat fs n ts ts (Constant k) x
-  made_constant ts k x =
-      record { grows = stays ts; flat = λ incs c f. absurd f.handled; fair = λ incs c f h. h }
+  -- ---- one operand
 
-  result_is : (f : ℕ) (fn : Fun) → slice_get fs f ≡ Some fn → head_ty fs (Applies f) ≡ fn.result
-  result_is f fn e = ap result_or e
+  module _ (l : Link) (rest : List Link) (old : List Term) (before : List Ex) where
+    abbrev right : Ex
+    right = meaning l.operand
 
-  pub made_apply : (old mid new : List Term) (f j : ℕ) (es xs : List Ex) → MakesAllFlat fs n old mid es xs → IsPut n mid new (term_with fs (Applies f) xs) j → MakesFlat fs n old new (Apply f (listed es)) (Read (Local j))
-  made_apply old mid new f j es xs m is =
-      record {
-        grows = grows_on old mid new m.grows (put_grows n mid new _ j is);
-        flat =
-            λ incs c w.
-            let each = fair_args fs incs w.constants es w.typed.0.params w.typed.3 w.linear w.handled in
-            let k = each_lifted n mid new es xs (put_grows n mid new _ j is) (m.flat incs c each) in
-            (listed xs, (are_flat n new es xs k, its_term n mid new _ j is));
-        fair =
-            λ incs c w h.
-            let fn = w.typed.0 in
-            let each = fair_args fs incs w.constants es fn.params w.typed.3 w.linear w.handled in
-            let after = m.fair incs c each h in
-            let k = subst (λ q. EachFlat q mid es xs) (sym c) (m.flat incs c each) in
-            put_fair fs incs mid new (term_with fs (Applies f) xs) j (subst (λ q. IsPut q mid new (term_with fs (Applies f) xs) j) (sym c) is) after
-            (flats_below (length incs) mid (listed es) (listed xs) (are_flat (length incs) mid es xs k))
-            (args_linear (length incs) mid es xs w.linear k)
-            (fn, (w.typed.1, (result_is f fn w.typed.1, args_typed fs incs w.constants mid after es xs fn.params w.typed.3 k)));
-      }
+    abbrev made_anew : List Ex
+    made_anew =
+        numbered fs n right (behind_turned fs n (turned_in rest) old) ∷ numbered_in fs n rest (numbered_turned fs n (turned_in rest) old) (behind fs n right (behind_turned fs n (turned_in rest) old))
 
-  pub made_old : (old new : List Term) (e x : Ex) → MakesFlat fs n old new e x → MakesFlat fs n old new (Old e) x
-  made_old old new e x m =
-      record { grows = m.grows; flat = λ incs c f. m.flat incs c (inner incs f); fair = λ incs c f h. m.fair incs c (inner incs f) h }
-    where
-      inner : (incs : List Ty) → Fair fs incs (Old e) → Fair fs incs e
-      inner incs f = record { constants = f.constants; ty = f.ty; typed = f.typed; linear = f.linear; handled = f.handled }
+    abbrev made_turned : List Ex
+    made_turned = first_of before ∷ numbered_in fs n rest (others_of before) old
 
-  pub made_signed : (old new : List Term) (ss : List PrefixSign) (e x : Ex) → MakesFlat fs n old new e x → MakesFlat fs n old new (signed_by ss e) (signed_by ss x)
-  made_signed old new ss e x m =
-      record {
-        grows = m.grows;
-        flat = λ incs c f. flat_signed n new ss e x (m.flat incs c (fair_signed fs incs ss e f));
-        fair = λ incs c f h. m.fair incs c (fair_signed fs incs ss e f) h;
-      }
+    abbrev made_other : List Ex
+    made_other = numbered fs n right old ∷ numbered_in fs n rest before (behind fs n right old)
 
-  pub made_chain : (old mid new : List Term) (ls : List Link) (a x : Ex) (xs : List Ex) → MakesFlat fs n old mid a x → MakesAllFlat fs n mid new (operands ls) xs → MakesFlat fs n old new (chain_from a (signs ls) (operands ls)) (chain_from x (signs ls) xs)
-  made_chain old mid new ls a x xs m more =
-      record {
-        grows = grows_on old mid new m.grows more.grows;
-        flat =
-            λ incs c f.
-            let w = fair_chain fs incs ls a f in
-            flat_chain n new (signs ls) a x (operands ls) xs (lifted n mid new a x more.grows (m.flat incs c w.0)) (more.flat incs c w.1);
-        fair =
-            λ incs c f h.
-            let w = fair_chain fs incs ls a f in
-            more.fair incs c w.1 (m.fair incs c w.0 h);
-      }
+    made_if : (a b : Bool) → is_implies l.sign ≡ a → is_explies l.sign ≡ b → numbered_in fs n (l ∷ rest) before old ≡ (if a then made_anew else if b then made_turned else made_other)
+    made_if a b h k =
+        ap (λ c. if c then made_anew else if is_explies l.sign then made_turned else made_other) h
+        ∙ ap (λ c. if a then made_anew else if c then made_turned else made_other) k
 
-  -- a bracket leaves nothing that is handled
-  not_behind : (bs : r.Brackets) (e : Ex) → (IsHandled e → ⊥) → IsHandled (behind e bs) → ⊥
-  not_behind r.NoBracket e never h = never h
-  not_behind (r.Select p es bs) e never h = not_behind bs (Select e (exs_of es)) (λ k. k) h
-  not_behind (r.Update p es v bs) e never h = not_behind bs (Update e (exs_of es) (ex_of v)) (λ k. k) h
+    abbrev behind_anew : List Term
+    behind_anew = behind_in fs n rest (behind fs n right (behind_turned fs n (turned_in rest) old))
 
-  nothing : (old new : List Term) (e e' x : Ex) → (IsHandled e' → ⊥) → MakesFlat fs n old new e x → MakesFlat fs n old new e' x
-  nothing old new e e' x never m =
-      record { grows = m.grows; flat = λ incs c f. absurd (never f.handled); fair = λ incs c f h. absurd (never f.handled) }
+    abbrev behind_same : List Term
+    behind_same = behind_in fs n rest old
 
-  pub made_behind : (old new : List Term) (bs : r.Brackets) (e x : Ex) → MakesFlat fs n old new e x → MakesFlat fs n old new (behind e bs) x
-  made_behind old new r.NoBracket e x m = m
-  made_behind old new (r.Select p es bs) e x m =
-      nothing old new e _ x (not_behind bs (Select e (exs_of es)) (λ k. k)) m
-  made_behind old new (r.Update p es v bs) e x m =
-      nothing old new e _ x (not_behind bs (Update e (exs_of es) (ex_of v)) (λ k. k)) m
+    abbrev behind_other : List Term
+    behind_other = behind_in fs n rest (behind fs n right old)
 
-  -- ---- lists
+    behind_if : (a b : Bool) → is_implies l.sign ≡ a → is_explies l.sign ≡ b → behind_in fs n (l ∷ rest) old ≡ (if a then behind_anew else if b then behind_same else behind_other)
+    behind_if a b h k =
+        ap (λ c. if c then behind_anew else if is_explies l.sign then behind_same else behind_other) h
+        ∙ ap (λ c. if a then behind_anew else if c then behind_same else behind_other) k
 
-  pub made_none : (ts : List Term) → MakesAllFlat fs n ts ts [] []
-  made_none ts = record { grows = stays ts; flat = λ incs c f. tt; fair = λ incs c f h. h }
+    pub step_anew : (mid new : List Term) (x : Ex) (made : List Ex) → is_implies l.sign ≡ true → AreTurned fs n rest old made mid → IsMade fs n right mid x new → IsStep fs n (l ∷ rest) rest before old x made new
+    step_anew mid new x made i all one =
+        let at : new ≡ behind fs n right (behind_turned fs n (turned_in rest) old) = one.1 ∙ ap (behind fs n right) all.1 in (
+          made_if true (is_explies l.sign) i refl
+              ∙ ap (λ y. y ∷ numbered_in fs n rest (numbered_turned fs n (turned_in rest) old) (behind fs n right (behind_turned fs n (turned_in rest) old))) (sym (one.0 ∙ ap (numbered fs n right) all.1))
+              ∙ ap (λ ms. x ∷ numbered_in fs n rest ms (behind fs n right (behind_turned fs n (turned_in rest) old))) (sym all.0)
+              ∙ ap (λ ts. x ∷ numbered_in fs n rest made ts) (sym at),
+          behind_if true (is_explies l.sign) i refl ∙ ap (behind_in fs n rest) (sym at),
+        )
 
-  fair_both : (incs : List Ty) (es : List Ex) (e : Ex) → EachFair fs incs (es ++ e ∷ []) → EachFair fs incs es × Fair fs incs e
-  fair_both incs [] e h = (tt, h.0)
-  fair_both incs (d ∷ es) e h = let k = fair_both incs es e h.1 in ((h.0, k.0), k.1)
+    pub step_turned : (x : Ex) (made : List Ex) → is_implies l.sign ≡ false → is_explies l.sign ≡ true → x ≡ first_of before → made ≡ others_of before → IsStep fs n (l ∷ rest) rest before old x made old
+    step_turned x made i k first others = (
+      made_if false true i k
+          ∙ ap (λ y. y ∷ numbered_in fs n rest (others_of before) old) (sym first)
+          ∙ ap (λ ms. x ∷ numbered_in fs n rest ms old) (sym others),
+      behind_if false true i k,
+    )
 
-  flat_both : (ts : List Term) (es xs : List Ex) (e x : Ex) → EachFlat n ts es xs → IsFlat n ts e x → EachFlat n ts (es ++ e ∷ []) (xs ++ x ∷ [])
-  flat_both ts [] [] e x h k = (k, tt)
-  flat_both ts [] (y ∷ xs) e x h k = absurd h
-  flat_both ts (d ∷ es) [] e x h k = absurd h
-  flat_both ts (d ∷ es) (y ∷ xs) e x h k = (h.0, flat_both ts es xs e x h.1 k)
+    pub step_other : (new : List Term) (x : Ex) → is_implies l.sign ≡ false → is_explies l.sign ≡ false → IsMade fs n right old x new → IsStep fs n (l ∷ rest) rest before old x before new
+    step_other new x i k one = (
+      made_if false false i k
+          ∙ ap (λ y. y ∷ numbered_in fs n rest before (behind fs n right old)) (sym one.0)
+          ∙ ap (λ ts. x ∷ numbered_in fs n rest before ts) (sym one.1),
+      behind_if false false i k ∙ ap (behind_in fs n rest) (sym one.1),
+    )
 
-  pub made_more : (old mid new : List Term) (es xs : List Ex) (e x : Ex) → MakesAllFlat fs n old mid es xs → MakesFlat fs n mid new e x → MakesAllFlat fs n old new (es ++ e ∷ []) (xs ++ x ∷ [])
-  made_more old mid new es xs e x m more =
-      record {
-        grows = grows_on old mid new m.grows more.grows;
-        flat =
-            λ incs c f.
-            let w = fair_both incs es e f in
-            flat_both new es xs e x (each_lifted n mid new es xs more.grows (m.flat incs c w.0)) (more.flat incs c w.1);
-        fair =
-            λ incs c f h.
-            let w = fair_both incs es e f in
-            more.fair incs c w.1 (m.fair incs c w.0 h);
-      }
+  module _ (links : List Link) (i : ℕ) (l : Link) (lt : i < length links) (is : l ≡ get_or links i l) (before : List Ex) (old : List Term) where
+    abbrev rest : List Link
+    rest = drop (i + 1) links
+
+    at_place : (new : List Term) (x : Ex) (made : List Ex) → IsStep fs n (l ∷ rest) rest before old x made new → IsStep fs n (drop i links) rest before old x made new
+    at_place new x made h = subst (λ d. IsStep fs n d rest before old x made new) (sym (drop_item links i l lt is)) h
+
+    pub at_turned : (x : Ex) (made : List Ex) → is_explies l.sign ≡ true → x ≡ first_of before → made ≡ others_of before → IsStep fs n (drop i links) rest before old x made old
+    at_turned x made k first others = at_place old x made (step_turned l rest old before x made (no_implies l.sign k) k first others)
+
+    pub at_other : (mid new : List Term) (x : Ex) (made : List Ex) → is_explies l.sign ≡ false → IsBegun fs n i links before old made mid → IsMade fs n (meaning l.operand) mid x new → IsStep fs n (drop i links) rest before old x made new
+    at_other mid new x made k begun one = on (is_implies l.sign) refl
+      where
+        on : (b : Bool) → is_implies l.sign ≡ b → IsStep fs n (drop i links) rest before old x made new
+        on true j = at_place new x made (step_anew l rest old before mid new x made j ((begun l is).0 j) one)
+        on false j =
+            let same = (begun l is).1 j in
+            subst (λ ms. IsStep fs n (drop i links) rest before old x ms new) (sym same.0) (at_place new x before (step_other l rest old before new x j k (subst (λ ts. IsMade fs n (meaning l.operand) ts x new) same.1 one)))
+
+  -- ---- all operands
+
+  -- what is made of links so far, and what of the others
+  abbrev pub Linking : List Link → List Link → List Ex → List Term → List Ex → List Ex → List Term → Type 0
+  Linking ls rest first old xs before now =
+      (numbered_in fs n ls first old ≡ xs ++ numbered_in fs n rest before now) × (behind_in fs n ls old ≡ behind_in fs n rest now)
+
+  pub linking_start : (ls : List Link) (first : List Ex) (old : List Term) (xs : List Ex) → xs ≡ [] → Linking ls ls first old xs first old
+  linking_start ls first old xs e = (ap (λ l. l ++ numbered_in fs n ls first old) (sym e), refl)
+
+  pub linking_step : (ls links rest : List Link) (first : List Ex) (old : List Term) (xs ys before made : List Ex) (now new : List Term) (x : Ex) → ys ≡ xs ++ x ∷ [] → Linking ls links first old xs before now → IsStep fs n links rest before now x made new → Linking ls rest first old ys made new
+  linking_step ls links rest first old xs ys before made now new x e so one = (
+    so.0
+        ∙ ap (λ l. xs ++ l) one.0
+        ∙ sym (append_assoc xs (x ∷ []) (numbered_in fs n rest made new))
+        ∙ ap (λ l. l ++ numbered_in fs n rest made new) (sym e),
+    so.1 ∙ one.1,
+  )
+
+  pub linking_end : (ls links : List Link) (first : List Ex) (old : List Term) (xs before : List Ex) (now : List Term) → links ≡ [] → Linking ls links first old xs before now → AreLinked fs n ls first old xs now
+  linking_end ls links first old xs before now none so = (
+    sym (so.0 ∙ ap (λ l. xs ++ numbered_in fs n l before now) none ∙ append-nil xs),
+    sym (so.1 ∙ ap (λ l. behind_in fs n l now) none),
+  )

@@ -1,4 +1,7 @@
 pub mod Views
-pub mod Made
+pub mod Instances
+pub mod Keys
 pub mod Chains
 pub mod Linked
+pub mod Until
+pub mod Made

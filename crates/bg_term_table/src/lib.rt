@@ -1,11 +1,18 @@
-//! A table of terms, and expressions made flat over it.
+//! Tables of terms, and expressions made flat over them.
 #![tactic(auto)]
 
+mod copies;
 mod exprs;
-mod hash;
+mod instance;
 pub mod laws;
-mod same;
+mod leaf;
+mod leaves;
+mod signs;
 mod table;
+mod terms;
 
+pub use copies::copy;
 pub use exprs::{all_flat, flat};
-pub use table::{Head, Term, Terms};
+pub use instance::Instance;
+pub use table::{Head, Term};
+pub use terms::Terms;

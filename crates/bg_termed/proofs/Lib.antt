@@ -1,1 +1,4 @@
 pub mod Own
+pub mod Tabled
+pub mod Plain
+pub mod Firsts

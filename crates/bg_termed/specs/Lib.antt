@@ -1,1 +1,3 @@
 pub mod Termed
+pub mod Clauses
+pub mod There

@@ -1,14 +1,16 @@
 //! Laws of an implementation's blocks in terms.
-ghost use Rattle.std.specs.Prelude.{◌≡◌, ℕ, ◌<◌, Bool, true, false, List, Some, Ok, slice_get};
+ghost use Rattle.std.specs.Prelude.{◌≡◌, ◌++◌, ℕ, ℤ, ◌<◌, Bool, true, false, List, [], map, take, Some, Ok, slice_get};
 ghost use Rattle.bg_ast.specs.Values.{Val};
 ghost use Rattle.bg_ast.specs.Syntax.{Prog, Impl, Proc};
 ghost use Rattle.bg_ast.specs.Execution.{Interp, Spot};
 ghost use Rattle.bg_sense.specs.Eval.{value_at};
 ghost use Rattle.bg_sense.specs.Interps.{IsInterp};
 ghost use Rattle.bg_sense.specs.Types.{are_of};
+ghost use Rattle.bg_sense.specs.Typed.{IsTyped};
 ghost use Rattle.bg_sense.specs.Variables.{procedure_of};
 ghost use Rattle.bg_passive.specs.Incarnations.{passive_scope};
 ghost use Rattle.bg_passive.specs.Equations.{is_well, equations};
+ghost use Rattle.bg_fits.specs.Scalars.{is_over_scalars};
 ghost use Rattle.bg_block_types.specs.Typed.{incarnations_in, passives_in};
 ghost use Rattle.bg_formula.specs.Formulas.{Formula};
 ghost use Rattle.bg_formula.specs.Meaning.{Valuation, clauses_true};
@@ -18,22 +20,85 @@ ghost use Rattle.bg_clause.specs.Whole.{clauses_of};
 ghost use Rattle.bg_linear.specs.Sorts.{scalar_values};
 ghost use Rattle.bg_atoms.specs.Ranks.{rank};
 ghost use Rattle.bg_atoms.specs.Sorted.{blocks_sorted};
-ghost use Rattle.bg_faithful.specs.Encoded.{Encoding, Encodes};
+ghost use Rattle.bg_faithful.specs.Encoded.{Encoding};
+ghost use Rattle.bg_terms.specs.Terms.{IsModel};
 ghost use Rattle.bg_terms.specs.Instances.{Instance};
 ghost use Rattle.bg_terms.specs.Tables.{IsReadOff};
 ghost use Rattle.bg_flatten.specs.Flattens.{AreFlattened};
 ghost use Rattle.bg_flatten.specs.Mapless.{are_mapless};
+ghost use Rattle.bg_flatten.specs.Plain.{PlainBlocks};
 ghost use Rattle.bg_read_off.specs.Leaves.{are_scalar, AreCongruent, silent};
+ghost use Rattle.bg_sorts.specs.Sorts.{sort_of_type};
+ghost use Rattle.bg_terms.specs.Typed.{type_of};
 ghost use Rattle.bg_flat_clauses.specs.Linear.{LinearBlocks};
+ghost use Rattle.bg_flat_clauses.specs.Sorts.{flat_sorts};
 ghost use Rattle.bg_termed.specs.Termed.{IsTabled, count_in, terms_in, flats_in, types_in, sorts_in, behind_in};
+ghost use Rattle.bg_termed.specs.Clauses.{IsEncoding};
 
 use bg_block_types::laws::passive_blocks_are_typed;
 use bg_flat::laws::{denied_blocks_have_scalars, instances_are_linear_truths};
 use bg_flat_clauses::laws::{flat_blocks_are_sorted, flat_clauses_fail_alike};
 use bg_flatten::laws::{
-    numbered_blocks_are_flattened, terms_are_applications, typed_blocks_are_fine,
+    numbered_blocks_are_flattened, plain_blocks_stay, terms_are_applications, typed_blocks_are_fine,
 };
-use bg_read_off::laws::scalar_leaves_fail;
+use bg_read_off::laws::{applications_are_finished, scalar_leaves_fail};
+use bg_terms::laws::finished_leaves_give_models;
+
+/// A typed program over truth values and whole numbers has no constants, and its functions have tables alone.
+pub fn programs_over_scalars_are_tabled()
+    ensures { (p : Prog) → IsTyped p → is_over_scalars true p ≡ true → IsTabled p }
+{}
+
+/// Incarnations and terms of its implementations are truth values and whole numbers, so no incarnation is a map, and the sorts of the
+/// incarnations stand first; and its passive blocks are linear, and name candidates that are there.
+pub fn implementations_over_scalars_have_scalars()
+    ensures mapless { (p : Prog) (k : ℕ) (m : Impl) (q : Proc) → IsTyped p → is_over_scalars true p ≡ true → slice_get p.implementations k ≡ Some m →
+        procedure_of p m.procedure ≡ Some q → are_mapless (incarnations_in p k m q) ≡ true }
+    ensures scalar { (p : Prog) (k : ℕ) (m : Impl) (q : Proc) → IsTyped p → is_over_scalars true p ≡ true → slice_get p.implementations k ≡ Some m →
+        procedure_of p m.procedure ≡ Some q → are_scalar (types_in p k m q) ≡ true }
+    ensures sorts { (p : Prog) (k : ℕ) (m : Impl) (q : Proc) → IsTyped p → is_over_scalars true p ≡ true → slice_get p.implementations k ≡ Some m →
+        procedure_of p m.procedure ≡ Some q → sorts_in p k m q ≡ map sort_of_type (incarnations_in p k m q) ++ flat_sorts (map type_of (terms_in p k m q)) }
+    ensures linear { (p : Prog) (k : ℕ) (m : Impl) (q : Proc) → IsTyped p → is_over_scalars true p ≡ true → slice_get p.implementations k ≡ Some m →
+        procedure_of p m.procedure ≡ Some q → LinearBlocks p.candidates (passives_in p k m q) }
+{
+    passive_blocks_are_typed();
+    passive_blocks_have_terms();
+    terms_are_applications();
+    programs_over_scalars_are_tabled()
+}
+
+/// Without functions there are no terms, and passive blocks are flat as they are.
+pub fn implementations_without_functions_stay()
+    ensures plain { (p : Prog) (k : ℕ) (m : Impl) (q : Proc) → IsTyped p → p.functions ≡ [] → slice_get p.implementations k ≡ Some m →
+        procedure_of p m.procedure ≡ Some q → PlainBlocks (passives_in p k m q) }
+    ensures terms { (p : Prog) (k : ℕ) (m : Impl) (q : Proc) → IsTyped p → p.functions ≡ [] → slice_get p.implementations k ≡ Some m →
+        procedure_of p m.procedure ≡ Some q → terms_in p k m q ≡ [] }
+    ensures flat { (p : Prog) (k : ℕ) (m : Impl) (q : Proc) → IsTyped p → p.functions ≡ [] → slice_get p.implementations k ≡ Some m →
+        procedure_of p m.procedure ≡ Some q → flats_in p k m q ≡ passives_in p k m q }
+{
+    passive_blocks_are_typed();
+    plain_blocks_stay()
+}
+
+/// Flat blocks hold no application and no `old`.
+pub fn flat_blocks_of_programs_are_plain()
+    ensures { (p : Prog) (k : ℕ) (m : Impl) (q : Proc) → IsTyped p → is_over_scalars true p ≡ true → slice_get p.implementations k ≡ Some m →
+        procedure_of p m.procedure ≡ Some q → PlainBlocks (flats_in p k m q) }
+{
+    passive_blocks_have_terms();
+    programs_over_scalars_are_tabled();
+    implementations_over_scalars_have_scalars()
+}
+
+/// Any numbers and truth values are typed values of the incarnations and terms, and the first of them of the incarnations.
+pub fn scalar_values_are_typed()
+    ensures all { (p : Prog) (k : ℕ) (m : Impl) (q : Proc) → IsTyped p → is_over_scalars true p ≡ true → slice_get p.implementations k ≡ Some m →
+        procedure_of p m.procedure ≡ Some q → (numbers : ℕ → ℤ) (truths : ℕ → Bool) → are_of (types_in p k m q) (scalar_values numbers truths (sorts_in p k m q)) ≡ true }
+    ensures first { (p : Prog) (k : ℕ) (m : Impl) (q : Proc) → IsTyped p → is_over_scalars true p ≡ true → slice_get p.implementations k ≡ Some m →
+        procedure_of p m.procedure ≡ Some q → (numbers : ℕ → ℤ) (truths : ℕ → Bool) → are_of (incarnations_in p k m q) (take (count_in p k m q) (scalar_values numbers truths (sorts_in p k m q))) ≡ true }
+{
+    implementations_over_scalars_have_scalars()
+}
 
 /// Where functions have tables alone, the passive blocks of an implementation whose incarnations are no maps are made flat over fair terms.
 pub fn passive_blocks_have_terms()
@@ -63,7 +128,7 @@ pub fn blocks_behind_instances_are_sorted()
 pub fn denied_passive_blocks_have_valuations()
     ensures { (p : Prog) (k : ℕ) (m : Impl) (q : Proc) → IsTabled p → slice_get p.implementations k ≡ Some m → procedure_of p m.procedure ≡ Some q →
         are_mapless (incarnations_in p k m q) ≡ true →
-        (instances : List Instance) (a : Encoding) → Encodes (sorts_in p k m q) p.candidates (behind_in p k m q instances) a →
+        (instances : List Instance) (a : Encoding) → IsEncoding p k m q instances a →
         (target : Spot) (f : Formula) → clauses_of a.first a.named a.terms a.rows target a.blocks ≡ Ok f →
         (i : Interp) (values : List Val) (set : ℕ → Bool) → IsInterp p i → are_of (incarnations_in p k m q) values ≡ true →
         is_well (slice_get (equations set target (passive_scope p i values) (passives_in p k m q)) 0) ≡ false →
@@ -80,7 +145,7 @@ pub fn denied_passive_blocks_have_valuations()
 pub fn scalar_valuations_deny_passive_blocks()
     ensures { (p : Prog) (k : ℕ) (m : Impl) (q : Proc) → IsTabled p → slice_get p.implementations k ≡ Some m → procedure_of p m.procedure ≡ Some q →
         are_mapless (incarnations_in p k m q) ≡ true → are_scalar (types_in p k m q) ≡ true →
-        (instances : List Instance) (a : Encoding) → Encodes (sorts_in p k m q) p.candidates (behind_in p k m q instances) a →
+        (instances : List Instance) (a : Encoding) → IsEncoding p k m q instances a →
         (target : Spot) (f : Formula) → clauses_of a.first a.named a.terms a.rows target a.blocks ≡ Ok f →
         (v : Valuation) → clauses_true v f.atoms f.clauses ≡ true →
         (s : List Val) → s ≡ scalar_values v.numbers (λ j. v.truths (rank (sorts_in p k m q) j)) (sorts_in p k m q) →
@@ -93,4 +158,19 @@ pub fn scalar_valuations_deny_passive_blocks()
     flat_clauses_fail_alike();
     terms_are_applications();
     scalar_leaves_fail()
+}
+
+/// Scalars of incarnations and terms at which no congruence is false give each term the value that an interpretation makes of it which is
+/// read off them.
+pub fn congruent_scalars_are_models()
+    ensures { (p : Prog) (k : ℕ) (m : Impl) (q : Proc) → IsTyped p → is_over_scalars true p ≡ true → slice_get p.implementations k ≡ Some m →
+        procedure_of p m.procedure ≡ Some q → (i : Interp) (s : List Val) → are_of (types_in p k m q) s ≡ true → AreCongruent s (count_in p k m q) (terms_in p k m q) →
+        IsReadOff i (silent p.functions) s (count_in p k m q) (terms_in p k m q) → IsModel i s (count_in p k m q) (terms_in p k m q) }
+{
+    passive_blocks_have_terms();
+    terms_are_applications();
+    programs_over_scalars_are_tabled();
+    implementations_over_scalars_have_scalars();
+    applications_are_finished();
+    finished_leaves_give_models()
 }

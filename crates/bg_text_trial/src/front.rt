@@ -14,12 +14,12 @@ const LATER: [(&[u8], &[u8]); 8] = [
         b"error: 1:52 unsupported [\n",
     ),
     (
-        b"function f(x: bool): bool; const unique c: bool;",
-        b"error: 1:1 unsupported function\n",
+        b"function f(x: bool): bool; type T; function g(T): bool;",
+        b"error: 1:28 unsupported type\n",
     ),
     (
-        b"var g: bool; function f(x: bool): bool;",
-        b"error: 1:14 unsupported function\n",
+        b"var g: bool; function f(x: bool): [int]bool;",
+        b"error: 1:35 unsupported [\n",
     ),
     (b"type T;", b"error: 1:1 unsupported type\n"),
     (
@@ -27,8 +27,8 @@ const LATER: [(&[u8], &[u8]); 8] = [
         b"error: 1:16 unsupported [\n",
     ),
     (
-        b"axiom true; function f(): bool { true } function g(): int; function h(): int;",
-        b"error: 1:41 unsupported function\n",
+        b"axiom true; function f(): bool { true } function g(): int; function h([int]int): int;",
+        b"error: 1:71 unsupported [\n",
     ),
     (
         b"function f(m: [int]int): bool; axiom true;",
@@ -37,7 +37,7 @@ const LATER: [(&[u8], &[u8]); 8] = [
 ];
 
 /// Texts of which verdicts are given.
-const JUDGED: [&[u8]; 14] = [
+const JUDGED: [&[u8]; 17] = [
     b"const unique a, b: int; const unique c: bool; procedure P() { assert a != b; }",
     b"const {:existential true} b, c: bool; procedure P(a: bool); requires b ==> a ==> !a; ensures (c) ==> a;",
     b"procedure {:n 1} P(x: int) { }",
@@ -52,6 +52,9 @@ const JUDGED: [&[u8]; 14] = [
     b"const {:existential true} b: bool; const c: bool;",
     b"const {:existential false} b: bool; axiom b;",
     b"function f(x: int): int { x + 1 } const c: int; axiom f(c) == 1 && 0 < f(f(c));",
+    b"function f(x: bool): bool; const unique c: bool;",
+    b"var g: bool; function f(int, b: bool) returns (c: int); axiom f(0, true) == 1;",
+    b"axiom true; function f(): bool { true } function g(): int; function h(): int { g() }",
 ];
 
 #[test]

@@ -1,15 +1,15 @@
-use Rattle.std.proofs.Common.{◌≡◌, ◌≢◌, ℕ, List, [], ◌∷◌, ◌++◌, codes, flat_map, map, sym, ap, ◌∙◌, append_assoc, arith, refl}
+use Rattle.std.proofs.Common.{◌≡◌, ◌≢◌, ℕ, Bool, true, false, if◌then◌else◌, List, [], ◌∷◌, ◌++◌, codes, flat_map, map, sym, ap, ◌∙◌, append_assoc, arith, refl}
 use Rattle.std.proofs.lemmas.List.{append_cancel_left}
-use Rattle.bg_ast.specs.Values.{Val}
-use Rattle.bg_ast.specs.Execution.{Choice}
+use Rattle.bg_ast.specs.Values.{Val, Table}
+use Rattle.bg_ast.specs.Execution.{Interp, Choice}
 use Rattle.bg_places.specs.Placed.{Placed}
 use Rattle.bg_sound.specs.Told.{Why, Verdict, Proved, Refuted, Unknown, Judged}
 use Rattle.bg_told.specs.Kept.{why_text, kept_text}
-use Rattle.bg_told.specs.Lines.{texts, value_text}
+use Rattle.bg_told.specs.Lines.{texts, value_text, table_text}
 use Rattle.bg_lines.specs.Lines.{line}
-use Rattle.bg_told.specs.Places.{Names, constant_text, variable_text, chosen_text, choice_text, refuted_text, unknown_text, verdict_text, judged_text}
+use Rattle.bg_told.specs.Places.{Named, Names, constant_text, function_text, variable_text, chosen_text, choice_text, refuted_text, unknown_text, verdict_text, judged_text}
 use Rattle.bg_lines.specs.Places.{place_text}
-use Rattle.bg_told.proofs.Cuts.{IsFlat, append_is_flat, word_is_flat, cut, place_is_flat, value_is_flat, chosen_is_flat, why_is_flat, kept_is_flat}
+use Rattle.bg_told.proofs.Cuts.{IsFlat, append_is_flat, word_is_flat, cut, place_is_flat, value_is_flat, table_is_flat, chosen_is_flat, why_is_flat, kept_is_flat}
 
 abbrev pub first : List ℕ → ℕ
 first [] = 0
@@ -27,9 +27,14 @@ abbrev pub sixth : List ℕ → ℕ
 sixth (a ∷ b ∷ c ∷ d ∷ e ∷ f ∷ rest) = f
 sixth _ = 0
 
--- the text begins with no constant's line, no value's, and no choice's
+abbrev pub seventh : List ℕ → ℕ
+seventh (a ∷ b ∷ c ∷ d ∷ e ∷ f ∷ g ∷ rest) = g
+seventh _ = 0
+
+-- the text begins with no constant's line, no function's, no value's, and no choice's
 pub record IsPast (text : List ℕ) : Type 0 where
   pub no_constant : sixth text ≢ 111
+  pub no_function : seventh text ≢ 110
   pub no_value : fifth text ≢ 118
   pub no_choice : third text ≢ 32
 
@@ -74,6 +79,57 @@ constants_apart (n ∷ ns) (v ∷ vs) (w ∷ ws) x y hx hy h =
     constants_apart ns vs ws x y hx hy
     (constant_apart n v w _ _ (sym (append_assoc (constant_text n v) (texts constant_text ns vs) x) ∙ h ∙ append_assoc (constant_text n w) (texts constant_text ns ws) y))
 
+-- ---- functions
+
+function_cells : (a b x : List ℕ) → line (a ++ b) ++ x ≡ a ++ (b ++ (10 ∷ x))
+function_cells a b x = simp append_assoc
+
+function_apart : (f : Named) (t u : Table) (x y : List ℕ) → function_text f t ++ x ≡ function_text f u ++ y → x ≡ y
+function_apart f t u x y = by f.has_body
+  where
+    by : (b : Bool) → (if b then [] else line (codes "    function " ++ f.name ++ codes " = " ++ table_text t)) ++ x ≡ (if b then [] else line (codes "    function " ++ f.name ++ codes " = " ++ table_text u)) ++ y → x ≡ y
+    by true h = h
+    by false h =
+        cut (table_text t) (table_text u) x y (table_is_flat t) (table_is_flat u)
+        (append_cancel_left (codes "    function " ++ f.name ++ codes " = ") _ _ (sym (function_cells (codes "    function " ++ f.name ++ codes " = ") (table_text t) x) ∙ h ∙ function_cells (codes "    function " ++ f.name ++ codes " = ") (table_text u) y))
+
+-- a function without a body has a line
+function_first : (f : Named) (t : Table) (x y : List ℕ) → seventh y ≢ 110 → function_text f t ++ x ≡ y → x ≡ y
+function_first f t x y hy = by f.has_body
+  where
+    by : (b : Bool) → (if b then [] else line (codes "    function " ++ f.name ++ codes " = " ++ table_text t)) ++ x ≡ y → x ≡ y
+    by true h = h
+    by false h = absurd (hy (sym (ap seventh h)))
+
+functions_end : (fs : List Named) (ts : List Table) (x y : List ℕ) → seventh y ≢ 110 → texts function_text fs ts ++ x ≡ y → x ≡ y
+functions_end [] ts x y hy h = h
+functions_end (f ∷ fs) [] x y hy h = h
+functions_end (f ∷ fs) (t ∷ ts) x y hy h =
+    functions_end fs ts x y hy
+    (function_first f t (texts function_text fs ts ++ x) y hy (sym (append_assoc (function_text f t) (texts function_text fs ts) x) ∙ h))
+
+-- the tables of functions end where no function's line follows
+functions_apart : (fs : List Named) (ts us : List Table) (x y : List ℕ) → seventh x ≢ 110 → seventh y ≢ 110 → texts function_text fs ts ++ x ≡ texts function_text fs us ++ y → x ≡ y
+functions_apart [] ts us x y hx hy h = h
+functions_apart (f ∷ fs) [] [] x y hx hy h = h
+functions_apart (f ∷ fs) (t ∷ ts) [] x y hx hy h = functions_end (f ∷ fs) (t ∷ ts) x y hy h
+functions_apart (f ∷ fs) [] (u ∷ us) x y hx hy h = sym (functions_end (f ∷ fs) (u ∷ us) y x hx (sym h))
+functions_apart (f ∷ fs) (t ∷ ts) (u ∷ us) x y hx hy h =
+    functions_apart fs ts us x y hx hy
+    (function_apart f t u _ _ (sym (append_assoc (function_text f t) (texts function_text fs ts) x) ∙ h ∙ append_assoc (function_text f u) (texts function_text fs us) y))
+
+-- a function's line is no constant's
+no_constant_function : (fs : List Named) (ts : List Table) (z : List ℕ) → sixth z ≢ 111 → sixth (texts function_text fs ts ++ z) ≢ 111
+no_constant_function [] ts z h = h
+no_constant_function (f ∷ fs) [] z h = h
+no_constant_function (f ∷ fs) (t ∷ ts) z h = by (no_constant_function fs ts z h) f.has_body
+  where
+    by : sixth (texts function_text fs ts ++ z) ≢ 111 → (b : Bool) → sixth (((if b then [] else line (codes "    function " ++ f.name ++ codes " = " ++ table_text t)) ++ texts function_text fs ts) ++ z) ≢ 111
+    by more true = more
+    by more false = λ e. let g : 117 ≡ 111 = e in omega (arith, g)
+
+-- ---- choices
+
 choice_cells : (c : Choice) (x : List ℕ) → choice_text c ++ x ≡ codes "    choice " ++ (chosen_text c ++ (10 ∷ x))
 choice_cells c x = append_assoc (codes "    choice " ++ chosen_text c) (10 ∷ []) x
 
@@ -96,6 +152,14 @@ no_value_behind : (cs : List Choice) (x : List ℕ) → IsPast x → fifth (flat
 no_value_behind [] x h = h.no_value
 no_value_behind (c ∷ cs) x h = λ e. let f : 99 ≡ 118 = e in omega (arith, f)
 
+-- behind the functions' tables
+no_function_behind : (ns : List (List ℕ)) (vs : List Val) (cs : List Choice) (x : List ℕ) → IsPast x → seventh (texts variable_text ns vs ++ (flat_map choice_text cs ++ x)) ≢ 110
+no_function_behind [] vs [] x h = h.no_function
+no_function_behind [] vs (c ∷ cs) x h = λ e. let f : 111 ≡ 110 = e in omega (arith, f)
+no_function_behind (n ∷ ns) [] [] x h = h.no_function
+no_function_behind (n ∷ ns) [] (c ∷ cs) x h = λ e. let f : 111 ≡ 110 = e in omega (arith, f)
+no_function_behind (n ∷ ns) (v ∷ vs) cs x h = λ e. let f : 114 ≡ 110 = e in omega (arith, f)
+
 -- behind the constants' values
 no_constant_behind : (ns : List (List ℕ)) (vs : List Val) (cs : List Choice) (x : List ℕ) → IsPast x → sixth (texts variable_text ns vs ++ (flat_map choice_text cs ++ x)) ≢ 111
 no_constant_behind [] vs [] x h = h.no_constant
@@ -104,10 +168,10 @@ no_constant_behind (n ∷ ns) [] [] x h = h.no_constant
 no_constant_behind (n ∷ ns) [] (c ∷ cs) x h = λ e. let f : 104 ≡ 111 = e in omega (arith, f)
 no_constant_behind (n ∷ ns) (v ∷ vs) cs x h = λ e. let f : 97 ≡ 111 = e in omega (arith, f)
 
-refuted_cells : (a k t u x : List ℕ) → (line (codes "  refuted " ++ a) ++ (k ++ (t ++ u))) ++ x ≡ codes "  refuted " ++ (a ++ (10 ∷ (k ++ (t ++ (u ++ x)))))
-refuted_cells a k t u x = by (codes "  refuted ")
+refuted_cells : (a k f t u x : List ℕ) → (line (codes "  refuted " ++ a) ++ ((k ++ f) ++ (t ++ u))) ++ x ≡ codes "  refuted " ++ (a ++ (10 ∷ (k ++ (f ++ (t ++ (u ++ x))))))
+refuted_cells a k f t u x = by (codes "  refuted ")
   where
-    by : (c : List ℕ) → (line (c ++ a) ++ (k ++ (t ++ u))) ++ x ≡ c ++ (a ++ (10 ∷ (k ++ (t ++ (u ++ x)))))
+    by : (c : List ℕ) → (line (c ++ a) ++ ((k ++ f) ++ (t ++ u))) ++ x ≡ c ++ (a ++ (10 ∷ (k ++ (f ++ (t ++ (u ++ x))))))
     by c = simp append_assoc
 
 unknown_cells : (a w d x : List ℕ) → ((codes "  unknown " ++ a) ++ (line (codes " " ++ w) ++ line (codes "    kept " ++ d))) ++ x ≡ codes "  unknown " ++ ((a ++ (codes " " ++ w)) ++ (10 ∷ (codes "    kept " ++ (d ++ (10 ∷ x)))))
@@ -116,13 +180,14 @@ unknown_cells a w d x = two_lines (codes "  unknown ") a (codes " " ++ w) (codes
     two_lines : (c a m k d x : List ℕ) → ((c ++ a) ++ (line m ++ line (k ++ d))) ++ x ≡ c ++ ((a ++ m) ++ (10 ∷ (k ++ (d ++ (10 ∷ x)))))
     two_lines c a m k d x = simp append_assoc
 
-refuted_apart : (names : Names) (p q : Placed) (us xs vs ws : List Val) (cs ds : List Choice) (x y : List ℕ) → IsPast x → IsPast y → refuted_text names p us vs cs ++ x ≡ refuted_text names q xs ws ds ++ y → x ≡ y
-refuted_apart names p q us xs vs ws cs ds x y hx hy h =
+refuted_apart : (names : Names) (p q : Placed) (i j : Interp) (vs ws : List Val) (cs ds : List Choice) (x y : List ℕ) → IsPast x → IsPast y → refuted_text names p i vs cs ++ x ≡ refuted_text names q j ws ds ++ y → x ≡ y
+refuted_apart names p q i j vs ws cs ds x y hx hy h =
     choices_apart cs ds x y hx.no_choice hy.no_choice
     (values_apart names.variables vs ws (flat_map choice_text cs ++ x) (flat_map choice_text ds ++ y) (no_value_behind cs x hx) (no_value_behind ds y hy)
-    (constants_apart names.constants us xs _ _ (no_constant_behind names.variables vs cs x hx) (no_constant_behind names.variables ws ds y hy)
+    (functions_apart names.functions i.tables j.tables _ _ (no_function_behind names.variables vs cs x hx) (no_function_behind names.variables ws ds y hy)
+    (constants_apart names.constants i.constants j.constants _ _ (no_constant_function names.functions i.tables _ (no_constant_behind names.variables vs cs x hx)) (no_constant_function names.functions j.tables _ (no_constant_behind names.variables ws ds y hy))
     (cut (place_text p) (place_text q) _ _ (place_is_flat p) (place_is_flat q)
-    (append_cancel_left (codes "  refuted ") _ _ (sym (refuted_cells (place_text p) (texts constant_text names.constants us) (texts variable_text names.variables vs) (flat_map choice_text cs) x) ∙ h ∙ refuted_cells (place_text q) (texts constant_text names.constants xs) (texts variable_text names.variables ws) (flat_map choice_text ds) y)))))
+    (append_cancel_left (codes "  refuted ") _ _ (sym (refuted_cells (place_text p) (texts constant_text names.constants i.constants) (texts function_text names.functions i.tables) (texts variable_text names.variables vs) (flat_map choice_text cs) x) ∙ h ∙ refuted_cells (place_text q) (texts constant_text names.constants j.constants) (texts function_text names.functions j.tables) (texts variable_text names.variables ws) (flat_map choice_text ds) y))))))
 
 unknown_apart : (p q : Placed) (v w : Why) (x y : List ℕ) → unknown_text p v ++ x ≡ unknown_text q w ++ y → x ≡ y
 unknown_apart p q v w x y h =
@@ -139,17 +204,17 @@ unknown_apart p q v w x y h =
 -- a place's part of a report: nothing, or that of a refuted or an unknown place
 data Shape : Type 0 where
   Nothing : Shape
-  Shown : Placed → List Val → List Val → List Choice → Shape
+  Shown : Placed → Interp → List Val → List Choice → Shape
   Spent : Placed → Why → Shape
 
 abbrev shape_text : Names → Shape → List ℕ
 shape_text names Nothing = []
-shape_text names (Shown p us vs cs) = refuted_text names p us vs cs
+shape_text names (Shown p i vs cs) = refuted_text names p i vs cs
 shape_text names (Spent p ns) = unknown_text p ns
 
 abbrev shape_by : Placed → Verdict → Shape
 shape_by p Proved = Nothing
-shape_by p (Refuted i s choices) = Shown p i.constants (s.globals ++ s.frame) choices
+shape_by p (Refuted i s choices) = Shown p i (s.globals ++ s.frame) choices
 shape_by p (Unknown why) = Spent p why
 
 abbrev shape_of : Judged → Shape
@@ -172,39 +237,39 @@ all_shaped names (j ∷ js) =
 past_shapes : (names : Names) (ss : List Shape) (x : List ℕ) → IsPast x → IsPast (shapes_text names ss ++ x)
 past_shapes names [] x hx = hx
 past_shapes names (Nothing ∷ ss) x hx = past_shapes names ss x hx
-past_shapes names (Shown p us vs cs ∷ ss) x hx = record { no_constant = λ e. omega (arith, e); no_value = λ e. omega (arith, e); no_choice = λ e. omega (arith, e) }
-past_shapes names (Spent p ns ∷ ss) x hx = record { no_constant = λ e. omega (arith, e); no_value = λ e. omega (arith, e); no_choice = λ e. omega (arith, e) }
+past_shapes names (Shown p i vs cs ∷ ss) x hx = record { no_constant = λ e. omega (arith, e); no_function = λ e. omega (arith, e); no_value = λ e. omega (arith, e); no_choice = λ e. omega (arith, e) }
+past_shapes names (Spent p ns ∷ ss) x hx = record { no_constant = λ e. omega (arith, e); no_function = λ e. omega (arith, e); no_value = λ e. omega (arith, e); no_choice = λ e. omega (arith, e) }
 
 -- where no place is told, none is on the other side
 none_apart : (names : Names) (ss : List Shape) (x y : List ℕ) → IsHead x → x ≡ shapes_text names ss ++ y → x ≡ y
 none_apart names [] x y hx h = h
 none_apart names (Nothing ∷ ss) x y hx h = none_apart names ss x y hx h
-none_apart names (Shown p us vs cs ∷ ss) x y hx h = absurd (hx.no_place (ap first h))
+none_apart names (Shown p i vs cs ∷ ss) x y hx h = absurd (hx.no_place (ap first h))
 none_apart names (Spent p ns ∷ ss) x y hx h = absurd (hx.no_place (ap first h))
 
 -- a refuted place, and then a text t that is read in one way
-refuted_first : (names : Names) (q : Placed) (xs ws : List Val) (ds : List Choice) (ss : List Shape) (t x y : List ℕ) → IsPast t → IsHead y → ((rest : List Shape) → t ≡ shapes_text names rest ++ y → x ≡ y) → refuted_text names q xs ws ds ++ t ≡ shapes_text names ss ++ y → x ≡ y
-refuted_first names q xs ws ds [] t x y ht hy ih h = absurd (hy.no_place (sym (ap first h)))
-refuted_first names q xs ws ds (Nothing ∷ ss) t x y ht hy ih h = refuted_first names q xs ws ds ss t x y ht hy ih h
-refuted_first names q xs ws ds (Shown p us vs cs ∷ ss) t x y ht hy ih h =
-    ih ss (refuted_apart names q p xs us ws vs ds cs t _ ht (past_shapes names ss y hy.past) (h ∙ append_assoc (refuted_text names p us vs cs) (shapes_text names ss) y))
-refuted_first names q xs ws ds (Spent p ns ∷ ss) t x y ht hy ih h = let e : 114 ≡ 117 = ap third h in absurd (omega (arith, e))
+refuted_first : (names : Names) (q : Placed) (j : Interp) (ws : List Val) (ds : List Choice) (ss : List Shape) (t x y : List ℕ) → IsPast t → IsHead y → ((rest : List Shape) → t ≡ shapes_text names rest ++ y → x ≡ y) → refuted_text names q j ws ds ++ t ≡ shapes_text names ss ++ y → x ≡ y
+refuted_first names q j ws ds [] t x y ht hy ih h = absurd (hy.no_place (sym (ap first h)))
+refuted_first names q j ws ds (Nothing ∷ ss) t x y ht hy ih h = refuted_first names q j ws ds ss t x y ht hy ih h
+refuted_first names q j ws ds (Shown p i vs cs ∷ ss) t x y ht hy ih h =
+    ih ss (refuted_apart names q p j i ws vs ds cs t _ ht (past_shapes names ss y hy.past) (h ∙ append_assoc (refuted_text names p i vs cs) (shapes_text names ss) y))
+refuted_first names q j ws ds (Spent p ns ∷ ss) t x y ht hy ih h = let e : 114 ≡ 117 = ap third h in absurd (omega (arith, e))
 
 -- an unknown place, and then a text t that is read in one way
 unknown_first : (names : Names) (q : Placed) (ms : Why) (ss : List Shape) (t x y : List ℕ) → IsHead y → ((rest : List Shape) → t ≡ shapes_text names rest ++ y → x ≡ y) → unknown_text q ms ++ t ≡ shapes_text names ss ++ y → x ≡ y
 unknown_first names q ms [] t x y hy ih h = absurd (hy.no_place (sym (ap first h)))
 unknown_first names q ms (Nothing ∷ ss) t x y hy ih h = unknown_first names q ms ss t x y hy ih h
-unknown_first names q ms (Shown p us vs cs ∷ ss) t x y hy ih h = let e : 117 ≡ 114 = ap third h in absurd (omega (arith, e))
+unknown_first names q ms (Shown p i vs cs ∷ ss) t x y hy ih h = let e : 117 ≡ 114 = ap third h in absurd (omega (arith, e))
 unknown_first names q ms (Spent p ns ∷ ss) t x y hy ih h =
     ih ss (unknown_apart q p ms ns t _ (h ∙ append_assoc (unknown_text p ns) (shapes_text names ss) y))
 
 shapes_apart : (names : Names) (ss rs : List Shape) (x y : List ℕ) → IsHead x → IsHead y → shapes_text names ss ++ x ≡ shapes_text names rs ++ y → x ≡ y
 shapes_apart names [] rs x y hx hy h = none_apart names rs x y hx h
 shapes_apart names (Nothing ∷ ss) rs x y hx hy h = shapes_apart names ss rs x y hx hy h
-shapes_apart names (Shown p us vs cs ∷ ss) rs x y hx hy h =
-    refuted_first names p us vs cs rs (shapes_text names ss ++ x) x y (past_shapes names ss x hx.past) hy
+shapes_apart names (Shown p i vs cs ∷ ss) rs x y hx hy h =
+    refuted_first names p i vs cs rs (shapes_text names ss ++ x) x y (past_shapes names ss x hx.past) hy
     (λ (rest : List Shape). shapes_apart names ss rest x y hx hy)
-    (sym (append_assoc (refuted_text names p us vs cs) (shapes_text names ss) x) ∙ h)
+    (sym (append_assoc (refuted_text names p i vs cs) (shapes_text names ss) x) ∙ h)
 shapes_apart names (Spent p ns ∷ ss) rs x y hx hy h =
     unknown_first names p ns rs (shapes_text names ss ++ x) x y hy
     (λ (rest : List Shape). shapes_apart names ss rest x y hx hy)

@@ -1,16 +1,16 @@
-use Rattle.std.proofs.Common.{◌≡◌, ℕ, zero, suc, ◌+◌, ◌/◌, ◌%◌, ◌≤◌, ◌==◌, ◌&&◌, Bool, true, false, List, [], ◌∷◌, ◌++◌, Option, Some, None, if◌then◌else◌, nat_lt, nat_le, codes, ℤ, pos, negsuc, arith, refl}
+use Rattle.std.proofs.Common.{◌≡◌, ℕ, zero, suc, ◌+◌, ◌/◌, ◌%◌, ◌≤◌, ◌==◌, ◌&&◌, Bool, true, false, List, [], ◌∷◌, ◌++◌, Option, Some, None, if◌then◌else◌, nat_lt, nat_le, codes, flat_map, ℤ, pos, negsuc, arith, refl}
 use Rattle.std.proofs.lemmas.Bool.{and_parts, leb-true}
 use Rattle.std.specs.Fmt.{decimal, signed_decimal, digits, digits_onto, digit_glyph}
 use Rattle.bg_base.specs.declared.exact.Op.{Op}
 use Rattle.bg_base.specs.declared.exact.Op.TheVariants.{Plus, Minus, Times, Negate}
 use Rattle.bg_base.specs.declared.exact.OutOfRange.{OutOfRange}
 use Rattle.bg_base.specs.declared.pos.Pos.{Pos}
-use Rattle.bg_ast.specs.Values.{Val, Num, Truth, Element, Default, Entry}
+use Rattle.bg_ast.specs.Values.{Val, Num, Truth, Element, Default, Entry, Table}
 use Rattle.bg_ast.specs.Execution.{Spot, AtAssert, AtEntry, AfterTurn, AtCall, AtReturn, Choice, Branch, Chosen}
 use Rattle.bg_places.specs.Placed.{Placed}
 use Rattle.bg_sound.specs.Told.{Why, Nodes, Rows, Range}
 use Rattle.bg_told.specs.Kept.{operator_text, operation_text, why_text, kept_text}
-use Rattle.bg_told.specs.Lines.{value_text}
+use Rattle.bg_told.specs.Lines.{value_text, part_text, key_text, mapping_text, table_text}
 use Rattle.bg_lines.specs.Lines.{position_text}
 use Rattle.bg_told.specs.Places.{chosen_text}
 use Rattle.bg_lines.specs.Places.{kind_text, call_text, place_text}
@@ -108,6 +108,33 @@ chosen_is_flat (Chosen v) = value_is_flat v
 -- a word behind a text
 pub behind_is_flat : (a w : List ℕ) → IsFlat a → is_flat w ≡ true → IsFlat (a ++ w)
 behind_is_flat a w h e = append_is_flat a w h (word_is_flat w e)
+
+-- ---- tables
+
+each_is_flat : {A : Type 0} (f : A → List ℕ) → ((a : A) → IsFlat (f a)) → (xs : List A) → IsFlat (flat_map f xs)
+each_is_flat f h [] = no_byte
+each_is_flat f h (x ∷ xs) = append_is_flat (f x) (flat_map f xs) (h x) (each_is_flat f h xs)
+
+part_is_flat : (v : Val) → IsFlat (part_text v)
+part_is_flat v = append_is_flat (codes ",") (value_text v) (word_is_flat (codes ",") refl) (value_is_flat v)
+
+key_is_flat : (vs : List Val) → IsFlat (key_text vs)
+key_is_flat [] = no_byte
+key_is_flat (v ∷ vs) =
+    append_is_flat (value_text v) (flat_map part_text vs) (value_is_flat v) (each_is_flat part_text part_is_flat vs)
+
+mapping_is_flat : (e : List Val × Val) → IsFlat (mapping_text e)
+mapping_is_flat e =
+    behind_is_flat ((key_text e.0 ++ codes " := ") ++ value_text e.1) (codes ", ")
+    (append_is_flat (key_text e.0 ++ codes " := ") (value_text e.1) (behind_is_flat (key_text e.0) (codes " := ") (key_is_flat e.0) refl) (value_is_flat e.1)) refl
+
+pub table_is_flat : (t : Table) → IsFlat (table_text t)
+table_is_flat t =
+    let entries = flat_map mapping_text t.entries in
+    behind_is_flat (((codes "[" ++ entries) ++ codes "else ") ++ value_text t.default) (codes "]")
+    (append_is_flat ((codes "[" ++ entries) ++ codes "else ") (value_text t.default)
+    (behind_is_flat (codes "[" ++ entries) (codes "else ") (append_is_flat (codes "[") entries (word_is_flat (codes "[") refl) (each_is_flat mapping_text mapping_is_flat t.entries)) refl)
+    (value_is_flat t.default)) refl
 
 -- ---- causes, and what is kept
 

@@ -1,9 +1,9 @@
 use Rattle.std.proofs.Common.{◌≡◌, ◌≢◌, ℕ, zero, suc, Bool, true, false, cond, List, [], ◌∷◌, ◌++◌, flat_map, codes, length, slice_get, map, refl, sym, ap, ◌∙◌, append_assoc, arith}
 use Rattle.std.proofs.lemmas.List.{append_cancel_left}
 use Rattle.bg_text.specs.Trees.{Id}
-use Rattle.bg_ast.specs.Resolved.{Declared, Program}
+use Rattle.bg_ast.specs.Resolved.{Program}
 use Rattle.std.proofs.lemmas.List.{length-map}
-use Rattle.bg_told.specs.Sheets.{Head, head_of, sheet_of, names_of}
+use Rattle.bg_told.specs.Sheets.{Head, Outer, head_of, sheet_of, names_of}
 use Rattle.bg_sound.specs.Told.{Axioms, Consistent, Contradictory, Undecided, Fate, Retained, Unchecked, Dropped, DroppedFor, Judged, Outcome, is_kept_by, is_kept_at, retained, Word, AllProved, SomeRefuted, SomeUnknown, word_of}
 use Rattle.bg_told.specs.Kept.{why_text}
 use Rattle.bg_told.specs.Lines.{texts, word_text}
@@ -28,35 +28,35 @@ word_apart SomeUnknown SomeRefuted x y h = let e : 117 ≡ 114 = ap first h in a
 head_cells : (c n s p t w places rest x : List ℕ) → ((line (c ++ n ++ s ++ p ++ t ++ w) ++ places) ++ rest) ++ x ≡ (c ++ n ++ s ++ p ++ t) ++ (w ++ (10 ∷ (places ++ (rest ++ x))))
 head_cells c n s p t w places rest x = simp append_assoc
 
-abbrev places_of : List Declared → List Declared → Head → List Judged → List ℕ
-places_of ks gs r vs = flat_map (judged_text (names_of ks gs r)) vs
+abbrev places_of : Outer → Head → List Judged → List ℕ
+places_of s r vs = flat_map (judged_text (names_of s r)) vs
 
-implementation_cells : (ks gs : List Declared) (r : Head) (vs : List Judged) (rest x : List ℕ) → (implementation_text ks gs r vs ++ rest) ++ x ≡ (codes "implementation " ++ r.name.text ++ codes " " ++ position_text r.pos ++ codes " ") ++ (word_text (word_of vs) ++ (10 ∷ (places_of ks gs r vs ++ (rest ++ x))))
-implementation_cells ks gs r vs rest x = head_cells (codes "implementation ") r.name.text (codes " ") (position_text r.pos) (codes " ") (word_text (word_of vs)) (places_of ks gs r vs) rest x
+implementation_cells : (s : Outer) (r : Head) (vs : List Judged) (rest x : List ℕ) → (implementation_text s r vs ++ rest) ++ x ≡ (codes "implementation " ++ r.name.text ++ codes " " ++ position_text r.pos ++ codes " ") ++ (word_text (word_of vs) ++ (10 ∷ (places_of s r vs ++ (rest ++ x))))
+implementation_cells s r vs rest x = head_cells (codes "implementation ") r.name.text (codes " ") (position_text r.pos) (codes " ") (word_text (word_of vs)) (places_of s r vs) rest x
 
-head_is_head : (ks gs : List Declared) (rs : List Head) (os : List (List Judged)) (x : List ℕ) → IsHead x → IsHead (texts (implementation_text ks gs) rs os ++ x)
-head_is_head ks gs [] os x hx = hx
-head_is_head ks gs (r ∷ rs) [] x hx = hx
-head_is_head ks gs (r ∷ rs) (vs ∷ os) x hx = record { no_place = λ e. omega (arith, e); past = record { no_constant = λ e. omega (arith, e); no_value = λ e. omega (arith, e); no_choice = λ e. omega (arith, e) } }
+head_is_head : (s : Outer) (rs : List Head) (os : List (List Judged)) (x : List ℕ) → IsHead x → IsHead (texts (implementation_text s) rs os ++ x)
+head_is_head s [] os x hx = hx
+head_is_head s (r ∷ rs) [] x hx = hx
+head_is_head s (r ∷ rs) (vs ∷ os) x hx = record { no_place = λ e. omega (arith, e); past = record { no_constant = λ e. omega (arith, e); no_function = λ e. omega (arith, e); no_value = λ e. omega (arith, e); no_choice = λ e. omega (arith, e) } }
 
-implementations_apart : (ks gs : List Declared) (rs : List Head) (os ps : List (List Judged)) (x y : List ℕ) → IsHead x → IsHead y → length os ≡ length rs → length ps ≡ length rs → texts (implementation_text ks gs) rs os ++ x ≡ texts (implementation_text ks gs) rs ps ++ y → map word_of os ≡ map word_of ps
-implementations_apart ks gs [] [] [] x y hx hy lo lp h = refl
-implementations_apart ks gs [] [] (q ∷ ps) x y hx hy lo lp h = absurd (omega (arith, lp))
-implementations_apart ks gs [] (v ∷ os) ps x y hx hy lo lp h = absurd (omega (arith, lo))
-implementations_apart ks gs (r ∷ rs) [] ps x y hx hy lo lp h = absurd (omega (arith, lo))
-implementations_apart ks gs (r ∷ rs) (v ∷ os) [] x y hx hy lo lp h = absurd (omega (arith, lp))
-implementations_apart ks gs (r ∷ rs) (v ∷ os) (w ∷ ps) x y hx hy lo lp h =
-    let e : word_text (word_of v) ++ (10 ∷ (places_of ks gs r v ++ (texts (implementation_text ks gs) rs os ++ x))) ≡ word_text (word_of w) ++ (10 ∷ (places_of ks gs r w ++ (texts (implementation_text ks gs) rs ps ++ y)))
+implementations_apart : (s : Outer) (rs : List Head) (os ps : List (List Judged)) (x y : List ℕ) → IsHead x → IsHead y → length os ≡ length rs → length ps ≡ length rs → texts (implementation_text s) rs os ++ x ≡ texts (implementation_text s) rs ps ++ y → map word_of os ≡ map word_of ps
+implementations_apart s [] [] [] x y hx hy lo lp h = refl
+implementations_apart s [] [] (q ∷ ps) x y hx hy lo lp h = absurd (omega (arith, lp))
+implementations_apart s [] (v ∷ os) ps x y hx hy lo lp h = absurd (omega (arith, lo))
+implementations_apart s (r ∷ rs) [] ps x y hx hy lo lp h = absurd (omega (arith, lo))
+implementations_apart s (r ∷ rs) (v ∷ os) [] x y hx hy lo lp h = absurd (omega (arith, lp))
+implementations_apart s (r ∷ rs) (v ∷ os) (w ∷ ps) x y hx hy lo lp h =
+    let e : word_text (word_of v) ++ (10 ∷ (places_of s r v ++ (texts (implementation_text s) rs os ++ x))) ≡ word_text (word_of w) ++ (10 ∷ (places_of s r w ++ (texts (implementation_text s) rs ps ++ y)))
     = append_cancel_left (codes "implementation " ++ r.name.text ++ codes " " ++ position_text r.pos ++ codes " ") _ _
-    (sym (implementation_cells ks gs r v (texts (implementation_text ks gs) rs os) x) ∙ h ∙ implementation_cells ks gs r w (texts (implementation_text ks gs) rs ps) y) in
-    let both : (word_of v ≡ word_of w) × (places_of ks gs r v ++ (texts (implementation_text ks gs) rs os ++ x) ≡ places_of ks gs r w ++ (texts (implementation_text ks gs) rs ps ++ y)) = word_apart (word_of v) (word_of w) _ _ e in
-    let rest : texts (implementation_text ks gs) rs os ++ x ≡ texts (implementation_text ks gs) rs ps ++ y
-    = places_apart (names_of ks gs r) v w _ _ (head_is_head ks gs rs os x hx) (head_is_head ks gs rs ps y hy) both.1 in
-    let more : map word_of os ≡ map word_of ps = implementations_apart ks gs rs os ps x y hx hy (omega (arith, lo)) (omega (arith, lp)) rest in
+    (sym (implementation_cells s r v (texts (implementation_text s) rs os) x) ∙ h ∙ implementation_cells s r w (texts (implementation_text s) rs ps) y) in
+    let both : (word_of v ≡ word_of w) × (places_of s r v ++ (texts (implementation_text s) rs os ++ x) ≡ places_of s r w ++ (texts (implementation_text s) rs ps ++ y)) = word_apart (word_of v) (word_of w) _ _ e in
+    let rest : texts (implementation_text s) rs os ++ x ≡ texts (implementation_text s) rs ps ++ y
+    = places_apart (names_of s r) v w _ _ (head_is_head s rs os x hx) (head_is_head s rs ps y hy) both.1 in
+    let more : map word_of os ≡ map word_of ps = implementations_apart s rs os ps x y hx hy (omega (arith, lo)) (omega (arith, lp)) rest in
     ap (λ (a : Word). a ∷ map word_of os) both.0 ∙ ap (λ (l : List Word). word_of w ∷ l) more
 
 summary_is_head : (o : Outcome) → IsHead (summary_text o)
-summary_is_head o = record { no_place = λ e. omega (arith, e); past = record { no_constant = λ e. omega (arith, e); no_value = λ e. omega (arith, e); no_choice = λ e. omega (arith, e) } }
+summary_is_head o = record { no_place = λ e. omega (arith, e); past = record { no_constant = λ e. omega (arith, e); no_function = λ e. omega (arith, e); no_value = λ e. omega (arith, e); no_choice = λ e. omega (arith, e) } }
 
 -- ---- the lines before the implementations
 
@@ -100,10 +100,10 @@ cells k a c l s i x = simp append_assoc
 module _ (p : Program) (o q : Outcome) (h : result_text p o ≡ result_text p q) where
   -- what follows the first line, of either
   abbrev behind_axioms : Outcome → List ℕ
-  behind_axioms u = texts candidate_text p.candidates u.fates ++ (codes "retained set: " ++ (set_text u.is_greatest ++ (10 ∷ (texts (implementation_text (sheet_of p).constants p.globals) (sheet_of p).implementations u.implementations ++ summary_text u))))
+  behind_axioms u = texts candidate_text p.candidates u.fates ++ (codes "retained set: " ++ (set_text u.is_greatest ++ (10 ∷ (texts (implementation_text (sheet_of p).outer) (sheet_of p).implementations u.implementations ++ summary_text u))))
 
   whole : (u : Outcome) → result_text p u ≡ codes "axioms: " ++ (axioms_text u.axioms ++ (10 ∷ behind_axioms u))
-  whole u = cells (codes "axioms: ") (axioms_text u.axioms) (texts candidate_text p.candidates u.fates) (codes "retained set: ") (set_text u.is_greatest) (texts (implementation_text (sheet_of p).constants p.globals) (sheet_of p).implementations u.implementations) (summary_text u)
+  whole u = cells (codes "axioms: ") (axioms_text u.axioms) (texts candidate_text p.candidates u.fates) (codes "retained set: ") (set_text u.is_greatest) (texts (implementation_text (sheet_of p).outer) (sheet_of p).implementations u.implementations) (summary_text u)
 
   candidates_on : behind_axioms o ≡ behind_axioms q
   candidates_on =
@@ -111,7 +111,7 @@ module _ (p : Program) (o q : Outcome) (h : result_text p o ≡ result_text p q)
       (append_cancel_left (codes "axioms: ") _ _ (sym (whole o) ∙ h ∙ whole q))
 
   -- from the retained set on
-  set_on : set_text o.is_greatest ++ (10 ∷ (texts (implementation_text (sheet_of p).constants p.globals) (sheet_of p).implementations o.implementations ++ summary_text o)) ≡ set_text q.is_greatest ++ (10 ∷ (texts (implementation_text (sheet_of p).constants p.globals) (sheet_of p).implementations q.implementations ++ summary_text q))
+  set_on : set_text o.is_greatest ++ (10 ∷ (texts (implementation_text (sheet_of p).outer) (sheet_of p).implementations o.implementations ++ summary_text o)) ≡ set_text q.is_greatest ++ (10 ∷ (texts (implementation_text (sheet_of p).outer) (sheet_of p).implementations q.implementations ++ summary_text q))
   set_on =
       append_cancel_left (codes "retained set: ") _ _
       (candidates_apart p.candidates o.fates q.fates _ _ (λ e. omega (arith, e)) (λ e. omega (arith, e)) candidates_on)
@@ -119,7 +119,7 @@ module _ (p : Program) (o q : Outcome) (h : result_text p o ≡ result_text p q)
 pub text_decides : (p : Program) (o q : Outcome) → length o.implementations ≡ length p.implementations → length q.implementations ≡ length p.implementations → result_text p o ≡ result_text p q → map word_of o.implementations ≡ map word_of q.implementations
 text_decides p o q lo lq h =
     let many : length (map head_of p.implementations) ≡ length p.implementations = length-map p.implementations head_of in
-    implementations_apart (sheet_of p).constants p.globals (sheet_of p).implementations o.implementations q.implementations _ _ (summary_is_head o) (summary_is_head q) (lo ∙ sym many) (lq ∙ sym many)
+    implementations_apart (sheet_of p).outer (sheet_of p).implementations o.implementations q.implementations _ _ (summary_is_head o) (summary_is_head q) (lo ∙ sym many) (lq ∙ sym many)
     (cut (set_text o.is_greatest) (set_text q.is_greatest) _ _ (set_is_flat o.is_greatest) (set_is_flat q.is_greatest) (set_on p o q h))
 
 -- ---- the retained set

@@ -7,6 +7,7 @@ pub mod Settled
 pub mod Verified
 pub mod Marks
 pub mod Order
+pub mod Fitting
 pub mod Split
 pub mod Sheet
 pub mod Status

@@ -92,11 +92,11 @@ none_unknown (d ∷ ds) e =
     let h = and_parts (not d.unknown) (are_known ds) e in
     All-cons (λ (x : Removal Reason). x.unknown ≡ false) d ds (known d.unknown h.0) (none_unknown ds h.1)
 
-module _ (budget : Budget) (p : Prog) (words : Cause → t.Why) where
+module _ (budget : Budget) (p : Prog) (words : ℕ → Cause → t.Why) where
   -- what isn't left unknown is refuted
   reason_is : (set : ℕ → Bool) (at : Place) (u : Bool) (d : Reason) → u ≡ false → IsReason budget p set at u d → fate_for words d ≡ t.Dropped
   reason_is set at false (reason.Refuted cex) e h = refl
-  reason_is set at false (reason.Unknown cause) e h = absurd h
+  reason_is set at false (reason.Unknown rounds cause) e h = absurd h
   reason_is set at true d e h = absurd (let bad : true ≡ false = e in cc)
 
   abbrev IsRight : Removal Reason → Type 0
@@ -148,7 +148,7 @@ parts o h =
     let b = and_parts o.is_greatest (are_settled o.implementations) a.1 in
     record { axioms = a.0; greatest = b.0; places = b.1 }
 
-module _ (budget other : Budget) (p : r.Program) (o q : Outcome) (words : Cause → t.Why) where
+module _ (budget other : Budget) (p : r.Program) (o q : Outcome) (words : ℕ → Cause → t.Why) where
   abbrev P : Prog
   P = meaning_of p
 

@@ -5,12 +5,15 @@ use Rattle.bg_ast.specs.Resolved as r
 use Rattle.bg_ast.specs.declared.resolved.Implementation.{Implementation}
 use Rattle.bg_ast.specs.Views.{program_of, impl_of}
 use Rattle.bg_places.specs.Placed.{Placed, placed, placed_from}
-use Rattle.bg_opened.specs.Written.{global_for, claims, opened_in, opened_proc, opened_impl, opened_program}
+use Rattle.bg_opened.specs.Written.{global_for, bodiless, claims, opened_in, opened_proc, opened_impl, opened_program}
 use Rattle.bg_carried.proofs.Placing.{impl_placed}
 use Rattle.bg_expanded.specs.Chains.{most_bodies}
 use Rattle.bg_inference.specs.declared.outcome.Outcome.{Outcome}
-use Rattle.bg_told.specs.Sheets.{Head, Sheet, head_of, sheet_of}
-use Rattle.bg_told.specs.Entries.{sheet_told, sheet_in, IsOf}
+use Rattle.bg_inference.specs.Outcomes.{has_body}
+use Rattle.bg_told.specs.Places.{Named}
+use Rattle.bg_told.specs.Sheets.{Head, Sheet, head_of, named_of, sheet_of}
+use Rattle.bg_told.specs.declared.declared.Declarations.{Declarations}
+use Rattle.bg_told.specs.Entries.{all_named, outer_in, sheet_told, sheet_in, IsOf}
 use Rattle.bg_told.specs.History.{has_candidate, guarded}
 
 take_front : {A : Type 0} (xs ys : List A) → take (length xs) (xs ++ ys) ≡ xs
@@ -55,16 +58,25 @@ heads_same : (o : r.Ex → r.Ex) (axioms : List r.Ex) (ms : List r.Impl) → map
 heads_same o axioms [] = refl
 heads_same o axioms (m ∷ ms) = ap (λ (hs : List Head). head_of m ∷ hs) (heads_same o axioms ms)
 
-sheet_by : r.Program → List r.Declared → List r.Declared → List Head → Sheet
-sheet_by p ks gs hs = record { candidates = p.candidates; constants = ks; globals = gs; implementations = hs }
+-- opened functions have no body: which had one is told beside them
+named_same : (fs : List r.Fun) → all_named (map bodiless fs) (map has_body fs) ≡ map named_of fs
+named_same [] = refl
+named_same (f ∷ fs) = ap (λ (l : List Named). named_of f ∷ l) (named_same fs)
 
-sheets : (p : r.Program) → sheet_told (length p.globals) (opened_program most_bodies p) ≡ sheet_of p
+sheets : (p : r.Program) → sheet_told (length p.globals) (map has_body p.functions) (opened_program most_bodies p) ≡ sheet_of p
 sheets p =
-    rw (drop_front p.globals (map global_for p.constants), take_front p.globals (map global_for p.constants), heads_same (opened_in most_bodies p) (claims p) p.implementations) refl
+    rw (drop_front p.globals (map global_for p.constants), take_front p.globals (map global_for p.constants), named_same p.functions, heads_same (opened_in most_bodies p) (claims p) p.implementations) refl
 
 pub sheet_same : (p : r.Program) (o : Outcome) → IsOf p o → sheet_in o ≡ sheet_of p
 sheet_same p o h =
-    ap (λ (n : ℕ). sheet_told n (program_of o.opened)) h.1 ∙ ap (sheet_told (length p.globals)) h.0 ∙ sheets p
+    ap (λ (n : ℕ). sheet_told n o.bodies.items (program_of o.opened)) h.1
+    ∙ ap (λ (bs : List Bool). sheet_told (length p.globals) bs (program_of o.opened)) h.2
+    ∙ ap (sheet_told (length p.globals) (map has_body p.functions)) h.0
+    ∙ sheets p
+
+-- what all implementations see, part by part
+pub outer_same : (ds : Declarations) (s : Sheet) → (outer_in ds).constants ≡ s.outer.constants → (outer_in ds).functions ≡ s.outer.functions → (outer_in ds).globals ≡ s.outer.globals → outer_in ds ≡ s.outer
+outer_same ds s a b c = rw (a, b, c) refl
 
 module _ (p : r.Program) where
   from_same : (k : ℕ) (ms : List r.Impl) → placed_from (map (opened_proc (opened_in most_bodies p)) p.procedures) k (map (opened_impl (opened_in most_bodies p) (claims p)) ms) ≡ placed_from p.procedures k ms

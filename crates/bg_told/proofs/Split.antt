@@ -1,20 +1,23 @@
 -- What the code tells of the opened program's verdicts is what is told of the program's.
-use Rattle.std.proofs.Common.{◌≡◌, ℕ, ◌+◌, Bool, true, false, ◌||◌, List, [], ◌∷◌, ◌++◌, map, fold, codes, flat_map, count_by, cond, if◌then◌else◌, length, refl, sym, ap, ◌∙◌}
+use Rattle.std.proofs.Common.{◌≡◌, ℕ, ◌+◌, Bool, true, false, ◌||◌, List, [], ◌∷◌, ◌++◌, map, take, drop, fold, codes, flat_map, count_by, cond, if◌then◌else◌, length, refl, sym, ap, ◌∙◌}
 use Rattle.std.specs.List.{list_any}
 use Rattle.std.specs.Fmt.{decimal}
 use Rattle.bg_ast.specs.Syntax.{Prog}
-use Rattle.bg_ast.specs.Resolved.{Declared}
+use Rattle.bg_ast.specs.Execution.{Interp, State, Choice}
 use Rattle.bg_sound.specs.Told.{Verdict, Proved, Refuted, Unknown, Judged, Word, is_refuted, is_unknown, has_refuted, has_unknown, word_of, SomeRefuted, SomeUnknown, AllProved}
 use Rattle.bg_check.specs.declared.verdict.Judged as code
 use Rattle.bg_check.specs.Outcomes.{told}
+use Rattle.bg_opened.specs.Moments.{interp_in}
 use Rattle.bg_carried.specs.Carried.{carried_verdict, carried_one}
 use Rattle.bg_told.specs.Lines.{texts, word_text}
-use Rattle.bg_told.specs.Places.{Names, verdict_text, judged_text}
-use Rattle.bg_told.specs.Sheets.{Head, names_of}
+use Rattle.bg_lines.specs.Lines.{line}
+use Rattle.bg_told.specs.Places.{Names, constant_text, variable_text, choice_text, told_text, counterexample_text, verdict_text, judged_text}
+use Rattle.bg_told.specs.Sheets.{Head, Outer, names_of}
 use Rattle.bg_told.specs.Report.{is_word, count_text, implementation_text, head_text}
 use Rattle.bg_told.specs.History.{found_text, shown_text}
 use Rattle.bg_told.specs.Views.{why_of}
 use Rattle.bg_told.specs.Entries.{split_verdict, split_one, split_all}
+use Rattle.bg_told.proofs.Fitting.{Fits}
 
 -- ---- words
 
@@ -90,28 +93,46 @@ count_same w os ps h =
 
 -- ---- texts
 
-verdict_same : (names : Names) (p : Prog) (j : Judged) (v : Verdict) → verdict_text names j.placed (split_verdict (length p.globals) v) ≡ verdict_text names j.placed (carried_verdict p v)
-verdict_same names p j Proved = refl
-verdict_same names p j (Refuted i s cs) = refl
-verdict_same names p j (Unknown why) = refl
+-- a counterexample's
+module _ (s : Outer) (h : Head) (p : Prog) (fits : Fits s p) where
+  abbrev names : Names
+  names = names_of s h
 
-judged_same : (names : Names) (p : Prog) (js : List Judged) → flat_map (judged_text names) (map (split_one (length p.globals)) js) ≡ flat_map (judged_text names) (map (carried_one p) js)
-judged_same names p [] = refl
-judged_same names p (j ∷ js) =
-    ap (λ (x : List ℕ). x ++ flat_map (judged_text names) (map (split_one (length p.globals)) js)) (verdict_same names p j j.verdict)
-    ∙ ap (λ (x : List ℕ). judged_text names (carried_one p j) ++ x) (judged_same names p js)
+  abbrev n : ℕ
+  n = length p.globals
 
-implementation_same : (ks gs : List Declared) (p : Prog) (h : Head) (js : List Judged) → implementation_text ks gs h (map (split_one (length p.globals)) js) ≡ implementation_text ks gs h (map (carried_one p) js)
-implementation_same ks gs p h js =
-    ap (λ (w : Word). head_text h w ++ flat_map (judged_text (names_of ks gs h)) (map (split_one (length p.globals)) js)) (word_split (length p.globals) js ∙ sym (word_carried p js))
-    ∙ ap (λ (x : List ℕ). head_text h (word_of (map (carried_one p) js)) ++ x) (judged_same (names_of ks gs h) p js)
+  example_same : (i : Interp) (u : State) (cs : List Choice) → counterexample_text names (record { constants = drop n u.globals; tables = i.tables }) (take n u.globals ++ u.frame) cs ≡ counterexample_text names (interp_in p i u) (take n u.globals ++ u.frame) cs
+  example_same i u cs =
+      ap (λ (x : List ℕ). (texts constant_text names.constants (drop n u.globals) ++ x) ++ (texts variable_text names.variables (take n u.globals ++ u.frame) ++ flat_map choice_text cs)) (sym (fits i.tables))
 
-pub implementations_same : (ks gs : List Declared) (p : Prog) (hs : List Head) (os : List (List code.Judged)) → texts (implementation_text ks gs) hs (map (split_all (length p.globals)) os) ≡ texts (implementation_text ks gs) hs (map (map (carried_one p)) (map (told why_of) os))
-implementations_same ks gs p [] os = refl
-implementations_same ks gs p (h ∷ hs) [] = refl
-implementations_same ks gs p (h ∷ hs) (js ∷ os) =
-    ap (λ (x : List ℕ). x ++ texts (implementation_text ks gs) hs (map (split_all (length p.globals)) os)) (implementation_same ks gs p h (told why_of js))
-    ∙ ap (λ (x : List ℕ). implementation_text ks gs h (map (carried_one p) (told why_of js)) ++ x) (implementations_same ks gs p hs os)
+  verdict_same : (j : Judged) (v : Verdict) → verdict_text names j.placed (split_verdict n v) ≡ verdict_text names j.placed (carried_verdict p v)
+  verdict_same j Proved = refl
+  verdict_same j (Refuted i u cs) =
+      ap (λ (x : List ℕ). line (told_text SomeRefuted j.placed) ++ x) (example_same i u cs)
+  verdict_same j (Unknown why) = refl
+
+  judged_same : (js : List Judged) → flat_map (judged_text names) (map (split_one n) js) ≡ flat_map (judged_text names) (map (carried_one p) js)
+  judged_same [] = refl
+  judged_same (j ∷ js) =
+      ap (λ (x : List ℕ). x ++ flat_map (judged_text names) (map (split_one n) js)) (verdict_same j j.verdict)
+      ∙ ap (λ (x : List ℕ). judged_text names (carried_one p j) ++ x) (judged_same js)
+
+  implementation_same : (js : List Judged) → implementation_text s h (map (split_one n) js) ≡ implementation_text s h (map (carried_one p) js)
+  implementation_same js =
+      ap (λ (w : Word). head_text h w ++ flat_map (judged_text names) (map (split_one n) js)) (word_split n js ∙ sym (word_carried p js))
+      ∙ ap (λ (x : List ℕ). head_text h (word_of (map (carried_one p) js)) ++ x) (judged_same js)
+
+  pub shown_same : (v : Verdict) → shown_text names (split_verdict n v) ≡ shown_text names (carried_verdict p v)
+  shown_same Proved = refl
+  shown_same (Refuted i u cs) = example_same i u cs
+  shown_same (Unknown why) = refl
+
+pub implementations_same : (s : Outer) (p : Prog) → Fits s p → (hs : List Head) (os : List (List code.Judged)) → texts (implementation_text s) hs (map (split_all (length p.globals)) os) ≡ texts (implementation_text s) hs (map (map (carried_one p)) (map (told why_of) os))
+implementations_same s p fits [] os = refl
+implementations_same s p fits (h ∷ hs) [] = refl
+implementations_same s p fits (h ∷ hs) (js ∷ os) =
+    ap (λ (x : List ℕ). x ++ texts (implementation_text s) hs (map (split_all (length p.globals)) os)) (implementation_same s h p fits (told why_of js))
+    ∙ ap (λ (x : List ℕ). implementation_text s h (map (carried_one p) (told why_of js)) ++ x) (implementations_same s p fits hs os)
 
 -- ---- of a history
 
@@ -119,8 +140,3 @@ pub found_same : (p : Prog) (n : ℕ) (v : Verdict) → found_text (split_verdic
 found_same p n Proved = refl
 found_same p n (Refuted i s cs) = refl
 found_same p n (Unknown why) = refl
-
-pub shown_same : (names : Names) (p : Prog) (v : Verdict) → shown_text names (split_verdict (length p.globals) v) ≡ shown_text names (carried_verdict p v)
-shown_same names p Proved = refl
-shown_same names p (Refuted i s cs) = refl
-shown_same names p (Unknown why) = refl

@@ -23,9 +23,9 @@ status_by a r u =
     else 0
 
 by_axioms : (v : Verdict) (os : List (List Judged)) → status_in (with_axioms v (word_for os)) ≡ status_by (axioms_by (verdict_of why_of v)) (list_any t.has_refuted (map (told why_of) os)) (list_any t.has_unknown (map (told why_of) os))
-by_axioms (verdict.Proved cert) os = refl
+by_axioms (verdict.Proved instances cert) os = refl
 by_axioms (verdict.Refuted cex) os = places_told os
-by_axioms (verdict.Unknown cause) os = unknown_told cause os
+by_axioms (verdict.Unknown rounds cause) os = unknown_told rounds cause os
 
 pub status_told : (p : Prog) (o : Outcome) → status_in (with_axioms o.axioms (word_for (judged o.judged.verdicts.items))) ≡ t.status_of (outcome_of why_of p o)
 status_told p o =

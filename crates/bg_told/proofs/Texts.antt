@@ -67,3 +67,17 @@ pub drop_past : {A : Type 0} (xs ys : List A) (n : ℕ) → length xs ≤ n → 
 drop_past xs ys n h =
     let e : n ≡ length xs + (n - length xs) = omega (arith, h) in
     ap (λ (k : ℕ). drop k (xs ++ ys)) e ∙ drop-append-add xs ys (n - length xs)
+
+-- what is put behind a text, piece by piece
+pub four_in_front : (o a b c d z : List ℕ) → ((((o ++ a) ++ b) ++ c) ++ d) ++ z ≡ o ++ ((((a ++ b) ++ c) ++ d) ++ z)
+four_in_front o a b c d z = simp append_assoc
+
+-- the item with this number from the end, and those behind it
+pub one_back : {A : Type 0} (xs : List A) (i k : ℕ) (d : A) → i < length xs → d ≡ get_or xs k d → k ≡ length xs - (i + 1) → drop (length xs - (i + 1)) xs ≡ d ∷ drop (length xs - i) xs
+one_back xs i k d h e is =
+    let low : k < length xs = omega (arith, h, is) in
+    let next : suc k ≡ length xs - i = omega (arith, h, is) in
+    ap (λ (n : ℕ). drop n xs) (sym is)
+    ∙ drop-cons xs k d low
+    ∙ ap (λ x. x ∷ drop (suc k) xs) (sym e)
+    ∙ ap (λ (n : ℕ). d ∷ drop n xs) next

@@ -1,24 +1,30 @@
 -- How the code's entry values and places are read.
-use Rattle.std.specs.Prelude.{◌≡◌, ℕ, List, [], ◌++◌, map, take, drop, length, slice_get, if◌then◌else◌}
+use Rattle.std.specs.Prelude.{◌≡◌, ℕ, Bool, List, [], ◌∷◌, ◌++◌, map, take, drop, length, slice_get, if◌then◌else◌}
 use Rattle.bg_ast.specs.declared.resolved.Declared.{Declared}
 use Rattle.std.specs.Borrow.{Bor}
-use Rattle.bg_ast.specs.Resolved.{Program}
-use Rattle.bg_ast.specs.Views.{declared_of, program_of}
+use Rattle.bg_ast.specs.Execution.{Interp}
+use Rattle.bg_ast.specs.Values.{Val}
+use Rattle.bg_ast.specs.Resolved.{Fun, Program}
+use Rattle.bg_ast.specs.Views.{declared_of, fun_of, program_of}
 use Rattle.bg_rounds.specs.declared.keeper.Removal.{Removal}
 use Rattle.bg_houdini.specs.declared.reason.Reason.{Reason}
 use Rattle.bg_told.specs.History.{Gone, found_of}
 use Rattle.bg_places.specs.Placed.{Placed}
 use Rattle.bg_scalar.specs.declared.scalar.Scalar.{Scalar}
-use Rattle.bg_scalar.specs.Values.{val_of}
+use Rattle.bg_scalar.specs.Values.{val_of, table_of}
+use Rattle.bg_scalar.specs.Views.{table_in}
+use Rattle.bg_scalar.specs.declared.table.Table.{Table}
+use Rattle.bg_model.specs.Interps.{interp_of}
+use Rattle.bg_model.specs.declared.failure.Counterexample.{Counterexample}
 use Rattle.bg_check.specs.declared.verdict.Judged.{Judged}
 use Rattle.bg_check.specs.Outcomes.{told_one, told}
 use Rattle.bg_told.specs.declared.values.Values.{Values}
 use Rattle.bg_told.specs.declared.declared.Declarations.{Declarations}
 use Rattle.bg_inference.specs.declared.outcome.Outcome.{Outcome}
-use Rattle.bg_inference.specs.Outcomes.{judged_program}
+use Rattle.bg_inference.specs.Outcomes.{judged_program, has_body}
 use Rattle.bg_sound.specs.Told as t
-use Rattle.bg_told.specs.Places.{Names, constant_text, variable_text, judged_text}
-use Rattle.bg_told.specs.Sheets.{Head, Sheet, head_of, name_in, names_of}
+use Rattle.bg_told.specs.Places.{Named, Names, constant_text, function_text, variable_text, judged_text}
+use Rattle.bg_told.specs.Sheets.{Head, Outer, Sheet, head_of, name_in, names_of}
 use Rattle.bg_told.specs.Views.{why_of}
 use Rattle.bg_told.specs.Words.{is_ordinary}
 
@@ -37,15 +43,45 @@ entry_text name x = variable_text name (val_of x)
 abbrev pub constant_line : List ℕ → Scalar → List ℕ
 constant_line name x = constant_text name (val_of x)
 
+-- the line of a function with this table
+abbrev pub function_line : Named → Table → List ℕ
+function_line f t = function_text f (table_of (table_in t))
+
+-- a function that has a body, or none
+abbrev pub named_as : Fun → Bool → Named
+named_as f b = record { name = f.name.text; has_body = b }
+
+abbrev pub all_named : List Fun → List Bool → List Named
+all_named [] bs = []
+all_named (f ∷ fs) [] = []
+all_named (f ∷ fs) (b ∷ bs) = named_as f b ∷ all_named fs bs
+
+-- what all implementations see
+abbrev pub outer_in : Declarations → Outer
+outer_in ds =
+    record {
+      constants = map declared_of ds.constants.now;
+      functions = all_named (map fun_of ds.functions.now) ds.bodies.now;
+      globals = map declared_of ds.globals.now;
+    }
+
 -- the names of a counterexample
 abbrev pub names_for : Declarations → Head → Names
-names_for ds h = names_of (map declared_of ds.constants.now) (map declared_of ds.globals.now) h
+names_for ds h = names_of (outer_in ds) h
+
+-- its values of constants, which stand behind those of so many globals, and its tables
+abbrev pub interp_by : ℕ → Counterexample → Interp
+interp_by n cex = record { constants = drop n (map val_of cex.globals.items); tables = (interp_of cex).tables }
+
+-- and its entry values
+abbrev pub entry_by : ℕ → Counterexample → List Val
+entry_by n cex = take n (map val_of cex.globals.items) ++ map val_of cex.frame.items
 
 -- a verdict in which the values behind those of so many globals are the constants'
 abbrev pub split_verdict : ℕ → t.Verdict → t.Verdict
 split_verdict n t.Proved = t.Proved
 split_verdict n (t.Refuted i s choices) =
-    t.Refuted (record { constants = drop n s.globals; tables = [] }) (record { globals = take n s.globals; frame = s.frame }) choices
+    t.Refuted (record { constants = drop n s.globals; tables = i.tables }) (record { globals = take n s.globals; frame = s.frame }) choices
 split_verdict n (t.Unknown why) = t.Unknown why
 
 abbrev pub split_one : ℕ → t.Judged → t.Judged
@@ -61,22 +97,22 @@ shown_text names n j = if is_ordinary j.place then judged_text names (split_one 
 
 -- ---- by the opened program
 
--- what is said of the program whose globals are the first so many of the opened one's
-abbrev pub sheet_told : ℕ → Program → Sheet
-sheet_told n q =
+-- what is said of the program whose globals are the first so many of the opened one's, and of whose functions these have a body
+abbrev pub sheet_told : ℕ → List Bool → Program → Sheet
+sheet_told n bodies q =
     record {
       candidates = q.candidates;
-      constants = drop n q.globals;
-      globals = take n q.globals;
+      outer = record { constants = drop n q.globals; functions = all_named q.functions bodies; globals = take n q.globals };
       implementations = map head_of q.implementations;
     }
 
 abbrev pub sheet_in : Outcome → Sheet
-sheet_in o = sheet_told o.globals (program_of o.opened)
+sheet_in o = sheet_told o.globals o.bodies.items (program_of o.opened)
 
 -- the outcome is one of this program
 abbrev pub IsOf : Program → Outcome → Type 0
-IsOf p o = (program_of o.opened ≡ judged_program p) × (o.globals ≡ length p.globals)
+IsOf p o =
+    (program_of o.opened ≡ judged_program p) × (o.globals ≡ length p.globals) × (o.bodies.items ≡ map has_body p.functions)
 
 -- an entry by the places that have a candidate
 abbrev pub gone_by : List Placed → ℕ → Removal Reason → Gone

@@ -11,13 +11,13 @@ use Rattle.bg_houdini.specs.declared.reason.Reason.{Reason}
 use Rattle.bg_houdini.specs.Told.{is_candidate, earlier}
 use Rattle.bg_told.specs.declared.fates.Fate.{Fate}
 use Rattle.bg_told.specs.declared.fates.Fate.TheVariants.{Retained, Unchecked, Dropped, DroppedFor}
-use Rattle.bg_told.specs.Views.{why_of}
+use Rattle.bg_told.specs.Views.{told_kept}
 
 abbrev pub told_fate : Fate → t.Fate
 told_fate Retained = t.Retained
 told_fate Unchecked = t.Unchecked
 told_fate Dropped = t.Dropped
-told_fate (DroppedFor cause) = t.DroppedFor (why_of cause.now)
+told_fate (DroppedFor kept) = t.DroppedFor (told_kept kept)
 
 -- whether the place has the candidate
 abbrev pub is_of : ℕ → Place → Bool

@@ -3,7 +3,7 @@ use Rattle.std.specs.Prelude.{◌≡◌, ℕ, Bool, if◌then◌else◌, List, [
 use Rattle.std.specs.List.Sorted.{IsPermutation, IsNonDecreasingBy}
 use Rattle.std.specs.Fmt.{decimal}
 use Rattle.bg_text.specs.Trees.{Id}
-use Rattle.bg_ast.specs.Resolved.{Declared, Program}
+use Rattle.bg_ast.specs.Resolved.{Program}
 use Rattle.bg_ast.specs.Meaning.{meaning_of}
 use Rattle.bg_places.specs.Placed.{Placed, placed}
 use Rattle.bg_rounds.specs.declared.keeper.Removal.{Removal}
@@ -19,9 +19,9 @@ use Rattle.bg_carried.specs.Carried.{carried_verdict}
 use Rattle.bg_told.specs.Kept.{why_text, kept_line}
 use Rattle.bg_told.specs.Lines.{texts}
 use Rattle.bg_lines.specs.Lines.{line, position_text}
-use Rattle.bg_told.specs.Places.{Names, constant_text, counterexample_text}
+use Rattle.bg_told.specs.Places.{Names, interp_text, counterexample_text}
 use Rattle.bg_lines.specs.Places.{place_text}
-use Rattle.bg_told.specs.Sheets.{Head, Sheet, sheet_of, name_in, names_of}
+use Rattle.bg_told.specs.Sheets.{Head, Outer, Sheet, sheet_of, name_in, names_of}
 
 -- an entry as it is told: its number, the candidate that went, the place that isn't proved, the candidates that its check had, and what
 -- was found there
@@ -44,11 +44,11 @@ has_candidate a = is_some a.place.candidate
 abbrev pub guarded : Program → List Placed
 guarded p = filter has_candidate (placed p)
 
-abbrev pub found_of : (Cause → Why) → Reason → Verdict
+abbrev pub found_of : (ℕ → Cause → Why) → Reason → Verdict
 found_of words (reason.Refuted cex) = verdict_of words (verdict.Refuted cex)
-found_of words (reason.Unknown cause) = verdict_of words (verdict.Unknown cause)
+found_of words (reason.Unknown rounds cause) = verdict_of words (verdict.Unknown rounds cause)
 
-abbrev pub gone_of : (Cause → Why) → Program → Removal Reason → Gone
+abbrev pub gone_of : (ℕ → Cause → Why) → Program → Removal Reason → Gone
 gone_of words p d =
     record {
       number = d.number;
@@ -78,7 +78,7 @@ found_text (Unknown why) = codes "unknown " ++ why_text why
 -- how the place fails, or what is kept of the cause
 abbrev pub shown_text : Names → Verdict → List ℕ
 shown_text names Proved = []
-shown_text names (Refuted i s choices) = counterexample_text names i.constants (s.globals ++ s.frame) choices
+shown_text names (Refuted i s choices) = counterexample_text names i (s.globals ++ s.frame) choices
 shown_text names (Unknown why) = kept_line why
 
 -- the number of an entry, its candidate, and the implementation
@@ -96,7 +96,7 @@ snapshot_line names snapshot = line (codes "  snapshot" ++ texts member_text nam
 
 abbrev pub gone_in : Sheet → Gone → Placed → Option Head → List ℕ
 gone_in s g a None = []
-gone_in s g a (Some h) = gone_line s.candidates h a g.number g.candidate g.found ++ (snapshot_line s.candidates g.snapshot ++ shown_text (names_of s.constants s.globals h) g.found)
+gone_in s g a (Some h) = gone_line s.candidates h a g.number g.candidate g.found ++ (snapshot_line s.candidates g.snapshot ++ shown_text (names_of s.outer h) g.found)
 
 abbrev pub gone_at : Sheet → Gone → Option Placed → List ℕ
 gone_at s g None = []
@@ -107,22 +107,22 @@ gone_at s g (Some a) = gone_in s g a (slice_get s.implementations a.place.implem
 abbrev pub gone_text : Sheet → Gone → List ℕ
 gone_text s g = gone_at s g g.placed
 
--- the values of the constants under an interpretation that meets the axioms, where one was found
-abbrev pub interpretation_text : List Declared → Verdict → List ℕ
-interpretation_text constants Proved = []
-interpretation_text constants (Refuted i s choices) = line (codes "interpretation:") ++ texts constant_text (map name_in constants) i.constants
-interpretation_text constants (Unknown why) = []
+-- the interpretation that meets the axioms, where one was found
+abbrev pub interpretation_text : Outer → Verdict → List ℕ
+interpretation_text outer Proved = []
+interpretation_text outer (Refuted i s choices) = line (codes "interpretation:") ++ interp_text (map name_in outer.constants) outer.functions i
+interpretation_text outer (Unknown why) = []
 
 -- the entries, in this order, and behind them the interpretation by the verdict on the axioms' own program
 abbrev pub history_text : Sheet → Verdict → List Gone → List ℕ
-history_text s axioms gs = line (codes "history:") ++ (flat_map (gone_text s) gs ++ interpretation_text s.constants axioms)
+history_text s axioms gs = line (codes "history:") ++ (flat_map (gone_text s) gs ++ interpretation_text s.outer axioms)
 
 -- what is known of the axioms' own program
-abbrev pub axioms_found : (Cause → Why) → Program → Outcome → Verdict
+abbrev pub axioms_found : (ℕ → Cause → Why) → Program → Outcome → Verdict
 axioms_found words p o = carried_verdict (of_axioms (meaning_of p)) (verdict_of words o.axioms)
 
 -- the text is that of the removals of the outcome, each once, by number, and of the interpretation
-pub record IsHistory (words : Cause → Why) (p : Program) (o : Outcome) (text : List ℕ) : Type 0 where
+pub record IsHistory (words : ℕ → Cause → Why) (p : Program) (o : Outcome) (text : List ℕ) : Type 0 where
   pub entries : List Gone
   pub same : IsPermutation (map (gone_of words p) o.judged.inferred.removals.items) entries
   pub rising : IsNonDecreasingBy number_of entries

@@ -1,12 +1,12 @@
 -- What is told of a place.
-use Rattle.std.specs.Prelude.{ℕ, List, [], ◌++◌, codes, flat_map}
+use Rattle.std.specs.Prelude.{ℕ, Bool, if◌then◌else◌, List, [], ◌++◌, codes, flat_map}
 use Rattle.std.specs.Fmt.{decimal}
-use Rattle.bg_ast.specs.Values.{Val}
-use Rattle.bg_ast.specs.Execution.{Choice, Branch, Chosen}
+use Rattle.bg_ast.specs.Values.{Val, Table}
+use Rattle.bg_ast.specs.Execution.{Interp, Choice, Branch, Chosen}
 use Rattle.bg_places.specs.Placed.{Placed}
 use Rattle.bg_sound.specs.Told.{Why, Verdict, Proved, Refuted, Unknown, Judged, Word, SomeRefuted, SomeUnknown}
 use Rattle.bg_told.specs.Kept.{cause_text}
-use Rattle.bg_told.specs.Lines.{texts, value_text, word_text}
+use Rattle.bg_told.specs.Lines.{texts, value_text, table_text, word_text}
 use Rattle.bg_lines.specs.Lines.{line}
 use Rattle.bg_lines.specs.Places.{place_text}
 
@@ -17,6 +17,21 @@ told_text word a = codes "  " ++ word_text word ++ codes " " ++ place_text a
 -- the value of a constant
 abbrev pub constant_text : List ℕ → Val → List ℕ
 constant_text name value = line (codes "    const " ++ name ++ codes " = " ++ value_text value)
+
+-- a function by its name, and whether it has a body
+pub record Named : Type 0 where
+  pub name : List ℕ
+  pub has_body : Bool
+
+-- the table of a function; one with a body has none
+abbrev pub function_text : Named → Table → List ℕ
+function_text f t =
+    if f.has_body then [] else line (codes "    function " ++ f.name ++ codes " = " ++ table_text t)
+
+-- an interpretation: the values of the constants with these names, and the tables of these functions
+abbrev pub interp_text : List (List ℕ) → List Named → Interp → List ℕ
+interp_text constants functions i =
+    texts constant_text constants i.constants ++ texts function_text functions i.tables
 
 -- the entry value of a variable
 abbrev pub variable_text : List ℕ → Val → List ℕ
@@ -33,26 +48,27 @@ choice_text c = line (codes "    choice " ++ chosen_text c)
 -- the names of what has a value in a counterexample
 pub record Names : Type 0 where
   pub constants : List (List ℕ)
+  pub functions : List Named
   pub variables : List (List ℕ)
 
--- the values of the constants, the entry values of the variables, and the choices in order
-abbrev pub counterexample_text : Names → List Val → List Val → List Choice → List ℕ
-counterexample_text names constants values choices =
-    texts constant_text names.constants constants ++ (texts variable_text names.variables values ++ flat_map choice_text choices)
+-- the interpretation, the entry values of the variables, and the choices in order
+abbrev pub counterexample_text : Names → Interp → List Val → List Choice → List ℕ
+counterexample_text names i values choices =
+    interp_text names.constants names.functions i ++ (texts variable_text names.variables values ++ flat_map choice_text choices)
 
 -- a refuted place, and how it fails
-abbrev pub refuted_text : Names → Placed → List Val → List Val → List Choice → List ℕ
-refuted_text names a constants values choices = line (told_text SomeRefuted a) ++ counterexample_text names constants values choices
+abbrev pub refuted_text : Names → Placed → Interp → List Val → List Choice → List ℕ
+refuted_text names a i values choices = line (told_text SomeRefuted a) ++ counterexample_text names i values choices
 
 -- an unknown place, with its cause
 abbrev pub unknown_text : Placed → Why → List ℕ
 unknown_text a why = told_text SomeUnknown a ++ cause_text why
 
--- what is told of a place: nothing where it is proved; of a counterexample the values of the constants, those of the globals, then those
--- of the frame
+-- what is told of a place: nothing where it is proved; of a counterexample the values of the constants, the tables of the functions, the
+-- values of the globals, then those of the frame
 abbrev pub verdict_text : Names → Placed → Verdict → List ℕ
 verdict_text names a Proved = []
-verdict_text names a (Refuted i s choices) = refuted_text names a i.constants (s.globals ++ s.frame) choices
+verdict_text names a (Refuted i s choices) = refuted_text names a i (s.globals ++ s.frame) choices
 verdict_text names a (Unknown why) = unknown_text a why
 
 abbrev pub judged_text : Names → Judged → List ℕ

@@ -2,13 +2,13 @@
 use Rattle.std.specs.Prelude.{ℕ, Bool, true, false, not, List, ◌++◌, codes, count_by, flat_map, map}
 use Rattle.std.specs.Fmt.{decimal}
 use Rattle.bg_text.specs.Trees.{Id}
-use Rattle.bg_ast.specs.Resolved.{Declared, Program}
+use Rattle.bg_ast.specs.Resolved.{Program}
 use Rattle.bg_sound.specs.Told.{Axioms, Consistent, Contradictory, Undecided, Fate, Retained, Unchecked, Dropped, DroppedFor, Judged, Outcome, is_kept_by, Word, AllProved, SomeRefuted, SomeUnknown, word_of}
 use Rattle.bg_told.specs.Kept.{why_text}
 use Rattle.bg_told.specs.Lines.{texts, word_text}
 use Rattle.bg_lines.specs.Lines.{line, position_text}
 use Rattle.bg_told.specs.Places.{judged_text}
-use Rattle.bg_told.specs.Sheets.{Head, Sheet, sheet_of, names_of}
+use Rattle.bg_told.specs.Sheets.{Head, Outer, Sheet, sheet_of, names_of}
 
 abbrev pub axioms_text : Axioms → List ℕ
 axioms_text Consistent = codes "consistent"
@@ -41,8 +41,8 @@ abbrev pub head_text : Head → Word → List ℕ
 head_text h word = line (codes "implementation " ++ h.name.text ++ codes " " ++ position_text h.pos ++ codes " " ++ word_text word)
 
 -- an implementation, and its places that aren't proved
-abbrev pub implementation_text : List Declared → List Declared → Head → List Judged → List ℕ
-implementation_text constants globals h js = head_text h (word_of js) ++ flat_map (judged_text (names_of constants globals h)) js
+abbrev pub implementation_text : Outer → Head → List Judged → List ℕ
+implementation_text outer h js = head_text h (word_of js) ++ flat_map (judged_text (names_of outer h)) js
 
 -- ---- the whole
 
@@ -71,7 +71,7 @@ report_text s o =
     line (codes "axioms: " ++ axioms_text o.axioms)
     ++ texts candidate_text s.candidates o.fates
     ++ set_line o.is_greatest
-    ++ texts (implementation_text s.constants s.globals) s.implementations o.implementations
+    ++ texts (implementation_text s.outer) s.implementations o.implementations
     ++ summary_text o
 
 abbrev pub result_text : Program → Outcome → List ℕ

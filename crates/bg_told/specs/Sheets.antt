@@ -1,10 +1,10 @@
 -- What a report says of a program's declarations.
-use Rattle.std.specs.Prelude.{ℕ, List, ◌++◌, map}
+use Rattle.std.specs.Prelude.{ℕ, List, ◌++◌, map, is_some}
 use Rattle.bg_base.specs.declared.pos.Pos.{Pos}
 use Rattle.bg_text.specs.Trees.{Id}
-use Rattle.bg_ast.specs.Resolved.{Declared, Impl, Program}
+use Rattle.bg_ast.specs.Resolved.{Declared, Fun, Impl, Program}
 use Rattle.bg_opened.specs.Written.{global_for}
-use Rattle.bg_told.specs.Places.{Names}
+use Rattle.bg_told.specs.Places.{Named, Names}
 
 -- of an implementation: its name, where it stands, and its variables
 pub record Head : Type 0 where
@@ -17,21 +17,32 @@ pub record Head : Type 0 where
 abbrev pub head_of : Impl → Head
 head_of m = record { name = m.name; pos = m.pos; params = m.params; results = m.results; locals = m.locals }
 
--- of a program; its constants are declared as variables are
+abbrev pub named_of : Fun → Named
+named_of f = record { name = f.name.text; has_body = is_some f.body }
+
+-- of what all implementations see; constants are declared as variables are
+pub record Outer : Type 0 where
+  pub constants : List Declared
+  pub functions : List Named
+  pub globals : List Declared
+
+abbrev pub outer_of : Program → Outer
+outer_of p =
+    record {
+      constants = map global_for p.constants;
+      functions = map named_of p.functions;
+      globals = p.globals;
+    }
+
+-- of a program
 pub record Sheet : Type 0 where
   pub candidates : List Id
-  pub constants : List Declared
-  pub globals : List Declared
+  pub outer : Outer
   pub implementations : List Head
 
 abbrev pub sheet_of : Program → Sheet
 sheet_of p =
-    record {
-      candidates = p.candidates;
-      constants = map global_for p.constants;
-      globals = p.globals;
-      implementations = map head_of p.implementations;
-    }
+    record { candidates = p.candidates; outer = outer_of p; implementations = map head_of p.implementations }
 
 abbrev pub name_in : Declared → List ℕ
 name_in d = d.name.text
@@ -40,6 +51,7 @@ name_in d = d.name.text
 abbrev pub variables_of : List Declared → Head → List (List ℕ)
 variables_of globals h = map name_in globals ++ (map name_in h.params ++ (map name_in h.results ++ map name_in h.locals))
 
--- and those of the constants
-abbrev pub names_of : List Declared → List Declared → Head → Names
-names_of constants globals h = record { constants = map name_in constants; variables = variables_of globals h }
+-- and those of the constants and the functions
+abbrev pub names_of : Outer → Head → Names
+names_of o h =
+    record { constants = map name_in o.constants; functions = o.functions; variables = variables_of o.globals h }

@@ -8,9 +8,9 @@ ghost use Rattle.bg_houdini.specs.Told.{is_checked, earlier, first_of, fate_by, 
 ghost use Rattle.bg_told.specs.Fates.{told_fate, is_of, has_place, truth_at, removal_of, entry_at, with_earlier, is_asked, count_where};
 ghost use Rattle.bg_told.specs.Views.{why_of};
 
+use crate::kept::{Kept, kept_of};
 use bg_ast::resolved::Resolved;
 use bg_base::CandId;
-use bg_check::Cause;
 use bg_houdini::{Outcome, Reason};
 use bg_places::laws::placed_are_places;
 use bg_places::{Place, places};
@@ -19,12 +19,12 @@ use bg_words::CandSet;
 use std::alloc::{AllocError, Global};
 
 /// What became of a candidate. It is unchecked where it is retained and no place has it; its first removal was refuted, or has a cause.
-#[derive(Drop)]
-pub enum Fate<'a> {
+#[derive(Clone, Copy)]
+pub enum Fate {
     Retained,
     Unchecked,
     Dropped,
-    DroppedFor(&'a Cause),
+    DroppedFor(Kept),
 }
 
 /// Marks the candidate of a place.
@@ -111,20 +111,20 @@ fn is_in(set: &CandSet, b: usize) -> bool
 }
 
 /// What became of a candidate, by its first removal.
-fn dropped_by<'a>(first: Option<&'a Removal<Reason>>) -> Fate<'a>
+fn dropped_by(first: Option<&Removal<Reason>>) -> Fate
     ensures { told_fate result ≡ fate_by why_of (removal_of first.entry) }
 {
     match first {
         None => Fate::Dropped,
         Some(removal) => match &removal.told {
             Reason::Refuted(_) => Fate::Dropped,
-            Reason::Unknown(cause) => Fate::DroppedFor(cause),
+            Reason::Unknown(rounds, cause) => Fate::DroppedFor(kept_of(rounds, cause)),
         },
     }
 }
 
 /// What became of a candidate, by whether it is retained and checked, and by its first removal.
-fn fate_of<'a>(kept: bool, checked: bool, first: Option<&'a Removal<Reason>>) -> Fate<'a>
+fn fate_of(kept: bool, checked: bool, first: Option<&Removal<Reason>>) -> Fate
     ensures { told_fate result ≡ (if kept then (if checked then t.Retained else t.Unchecked) else fate_by why_of (removal_of first.entry)) }
 {
     if !kept {
@@ -138,11 +138,11 @@ fn fate_of<'a>(kept: bool, checked: bool, first: Option<&'a Removal<Reason>>) ->
 }
 
 /// What became of each candidate, by declaration.
-pub fn fates_of<'a>(
+pub fn fates_of(
     alloc: Global,
     program: &Resolved,
-    outcome: &'a Outcome,
-) -> Result<Vec<Fate<'a>>, AllocError>
+    outcome: &Outcome,
+) -> Result<Vec<Fate>, AllocError>
     ensures { IfOk result (λ made. map told_fate made.items ≡ (outcome_of why_of (meaning_of (program_of program.now)) outcome.now).fates) }
 {
     let count = program.candidates.len();
@@ -169,7 +169,7 @@ pub fn is_greatest(removals: &[Removal<Reason>]) -> bool
 }
 
 /// Whether the candidate is retained.
-fn is_kept(fate: &Fate<'_>) -> bool
+fn is_kept(fate: &Fate) -> bool
     ensures { result ≡ t.is_kept_by (told_fate fate.now) }
 {
     match fate {
@@ -181,14 +181,14 @@ fn is_kept(fate: &Fate<'_>) -> bool
 }
 
 /// Whether the candidate is retained, or where that isn't asked, whether it isn't.
-fn is_asked(fate: &Fate<'_>, kept: bool) -> bool
+fn is_asked(fate: &Fate, kept: bool) -> bool
     ensures { result ≡ is_asked kept (told_fate fate.now) }
 {
     if kept { is_kept(fate) } else { !is_kept(fate) }
 }
 
 /// How many of the candidates are retained, or how many aren't.
-pub fn count_where(fates: &[Fate<'_>], kept: bool) -> usize
+pub fn count_where(fates: &[Fate], kept: bool) -> usize
     ensures { result ≡ count_where kept (map told_fate fates.now) }
 {
     let mut count = 0;

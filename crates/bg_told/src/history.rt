@@ -3,24 +3,25 @@ ghost use Rattle.std.specs.Prelude.{◌≡◌, ◌++◌, ◌∷◌, [], List, So
 ghost use Rattle.std.specs.List.Sorted.{IsPermutation, IsNonDecreasingBy};
 ghost use Rattle.bg_text.specs.Views.{id_of};
 ghost use Rattle.bg_ast.specs.Resolved.{Program};
-ghost use Rattle.bg_ast.specs.Views.{declared_of, impl_of, program_of};
+ghost use Rattle.bg_ast.specs.Views.{impl_of, program_of};
 ghost use Rattle.bg_check.specs.Outcomes.{verdict_of};
 ghost use Rattle.bg_places.specs.Placed.{Placed};
 ghost use Rattle.bg_places.specs.Views.{placed_of, placed_in};
 ghost use Rattle.bg_told.specs.Lines.{texts};
 ghost use Rattle.bg_told.specs.Sheets.{head_of};
-ghost use Rattle.bg_told.specs.Views.{why_of};
-ghost use Rattle.bg_told.specs.Entries.{names_for, names_in, constant_line, split_verdict, gone_by, told_gone, sheet_in, IsOf};
+ghost use Rattle.bg_told.specs.Views.{why_of, told_kept};
+ghost use Rattle.bg_told.specs.Entries.{outer_in, names_for, split_verdict, gone_by, told_gone, sheet_in, IsOf};
 ghost use Rattle.bg_sound.specs.Told.{Unknown};
 ghost use Rattle.bg_told.specs.History.{has_candidate, guarded, found_of, gone_of, name_text, member_text, found_text, shown_text, front_text, gone_line, snapshot_line, gone_in, gone_at, gone_text, interpretation_text, IsHistory};
 
 use crate::declared::{Declarations, declared_in};
-use crate::kept::{put_cause_word, put_kept_line};
+use crate::functions::put_functions;
+use crate::kept::{Kept, kept_of, put_cause_word, put_kept_line};
 use crate::places::put_counterexample;
 use crate::values::put_constants;
 use bg_ast::resolved::{Implementation, Resolved};
 use bg_base::CandId;
-use bg_check::{Cause, Verdict};
+use bg_check::Verdict;
 use bg_houdini::Reason;
 use bg_inference::Outcome;
 use bg_lines::{put_number, put_place, put_position};
@@ -97,11 +98,11 @@ fn put_name(out: &mut Vec<u8>, names: &[Name], c: CandId) -> Result<(), AllocErr
     }
 }
 
-fn put_unknown(out: &mut Vec<u8>, cause: &Cause) -> Result<(), AllocError>
-    ensures { OnOk result (out.new.items ≡ out.old.items ++ found_text (Unknown (why_of cause.now))) }
+fn put_unknown(out: &mut Vec<u8>, kept: Kept) -> Result<(), AllocError>
+    ensures { OnOk result (out.new.items ≡ out.old.items ++ found_text (Unknown (told_kept kept))) }
 {
     out.extend_from_slice(b"unknown ")?;
-    put_cause_word(out, cause)
+    put_cause_word(out, kept)
 }
 
 /// What was found, in words.
@@ -110,7 +111,7 @@ fn put_found(out: &mut Vec<u8>, told: &Reason) -> Result<(), AllocError>
 {
     match told {
         Reason::Refuted(_) => out.extend_from_slice(b"refuted"),
-        Reason::Unknown(cause) => put_unknown(out, cause),
+        Reason::Unknown(rounds, cause) => put_unknown(out, kept_of(rounds, cause)),
     }
 }
 
@@ -125,7 +126,7 @@ fn put_shown(
 {
     match told {
         Reason::Refuted(cex) => put_counterexample(out, declared, implementation, cex),
-        Reason::Unknown(cause) => put_kept_line(out, cause),
+        Reason::Unknown(rounds, cause) => put_kept_line(out, kept_of(rounds, cause)),
     }
 }
 
@@ -207,7 +208,7 @@ fn put_gone_of(
     place: &Place,
     removal: &Removal<Reason>,
 ) -> Result<(), AllocError>
-    ensures { OnOk result ((guarded : List Placed) → out.new.items ≡ out.old.items ++ gone_in (sheet_in outcome.now) (gone_by guarded (length (sheet_in outcome.now).globals) removal.now) (placed_of place.now) (Some (head_of (impl_of implementation.now)))) }
+    ensures { OnOk result ((guarded : List Placed) → out.new.items ≡ out.old.items ++ gone_in (sheet_in outcome.now) (gone_by guarded (length (sheet_in outcome.now).outer.globals) removal.now) (placed_of place.now) (Some (head_of (impl_of implementation.now)))) }
 {
     let names = outcome.opened.candidates.as_slice();
     put_gone_line(out, names, implementation, place, removal)?;
@@ -222,7 +223,7 @@ fn put_gone_at(
     place: &Place,
     removal: &Removal<Reason>,
 ) -> Result<(), AllocError>
-    ensures { OnOk result ((guarded : List Placed) → out.new.items ≡ out.old.items ++ gone_at (sheet_in outcome.now) (gone_by guarded (length (sheet_in outcome.now).globals) removal.now) (Some (placed_of place.now))) }
+    ensures { OnOk result ((guarded : List Placed) → out.new.items ≡ out.old.items ++ gone_at (sheet_in outcome.now) (gone_by guarded (length (sheet_in outcome.now).outer.globals) removal.now) (Some (placed_of place.now))) }
 {
     match outcome.opened.implementations.get(place.implementation) {
         None => Ok(()),
@@ -237,7 +238,7 @@ fn put_gone(
     tasks: &[Place],
     removal: &Removal<Reason>,
 ) -> Result<(), AllocError>
-    ensures { OnOk result (out.new.items ≡ out.old.items ++ gone_text (sheet_in outcome.now) (gone_by (placed_in tasks.now) (length (sheet_in outcome.now).globals) removal.now)) }
+    ensures { OnOk result (out.new.items ≡ out.old.items ++ gone_text (sheet_in outcome.now) (gone_by (placed_in tasks.now) (length (sheet_in outcome.now).outer.globals) removal.now)) }
 {
     match tasks.get(removal.target.0 as usize) {
         None => Ok(()),
@@ -252,7 +253,7 @@ fn put_all_gone(
     tasks: &[Place],
     removals: &[&Removal<Reason>],
 ) -> Result<(), AllocError>
-    ensures { OnOk result (out.new.items ≡ out.old.items ++ flat_map (gone_text (sheet_in outcome.now)) (map (told_gone (placed_in tasks.now) (length (sheet_in outcome.now).globals)) removals.now)) }
+    ensures { OnOk result (out.new.items ≡ out.old.items ++ flat_map (gone_text (sheet_in outcome.now)) (map (told_gone (placed_in tasks.now) (length (sheet_in outcome.now).outer.globals)) removals.now)) }
 {
     for removal in removals {
         put_gone(out, outcome, tasks, removal)?;
@@ -260,18 +261,19 @@ fn put_all_gone(
     Ok(())
 }
 
-/// The values of the constants under the interpretation that meets the axioms, where one was found.
+/// The interpretation that meets the axioms, where one was found: the values of the constants, and the tables of the functions.
 fn put_interpretation(
     out: &mut Vec<u8>,
     declared: Declarations<'_>,
     axioms: &Verdict,
 ) -> Result<(), AllocError>
-    ensures { OnOk result (out.new.items ≡ out.old.items ++ interpretation_text (map declared_of declared.entry.constants.now) (split_verdict 0 (verdict_of why_of axioms.now))) }
+    ensures { OnOk result (out.new.items ≡ out.old.items ++ interpretation_text (outer_in declared.entry) (split_verdict 0 (verdict_of why_of axioms.now))) }
 {
     match axioms {
         Verdict::Refuted(cex) => {
             out.extend_from_slice(b"interpretation:\n")?;
-            put_constants(out, declared.constants, &cex.globals)
+            put_constants(out, declared.constants, &cex.globals)?;
+            put_functions(out, declared.functions, declared.bodies, &cex.tables)
         }
         _ => Ok(()),
     }
@@ -279,7 +281,7 @@ fn put_interpretation(
 
 /// The history of what an inference comes to: for each removal by number the candidate, the place, and what was found there; the
 /// candidates of its snapshot; and the values and choices with which the place fails, or what is kept of the cause; last the values of
-/// constants under an interpretation that meets the axioms, where one was found.
+/// constants and the tables of functions in an interpretation that meets the axioms, where one was found.
 ///
 /// Only want of memory is an error.
 pub fn history_text(alloc: Global, outcome: &Outcome) -> Result<Vec<u8>, AllocError>

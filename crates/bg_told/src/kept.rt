@@ -1,15 +1,23 @@
 //! What is kept of a place that is left unknown.
 ghost use Rattle.std.specs.Prelude.{◌≡◌, ◌++◌, OnOk, length};
 ghost use Rattle.bg_told.specs.Kept.{operator_text, operation_text, why_text, kept_text, kept_line, cause_text};
-ghost use Rattle.bg_told.specs.Views.{operation_of, end_of, why_of};
+ghost use Rattle.bg_told.specs.Views.{operation_of, end_of, why_of, told_kept};
 
 use crate::put::put_integer;
 use bg_base::{Op, OutOfRange};
-use bg_check::Cause;
+use bg_check::{Cause, Round};
 use bg_elim::Order;
 use bg_lines::put_number;
 use bg_tree::{Beyond, Why};
 use std::alloc::AllocError;
+
+/// What is told of a cause: a number of nodes or of rows, or an operation that leaves 128 bits.
+#[derive(Clone, Copy)]
+pub enum Kept {
+    Nodes(u128),
+    Rows(u128),
+    Range(OutOfRange),
+}
 
 fn put_operator(out: &mut Vec<u8>, op: Op) -> Result<(), AllocError>
     ensures { OnOk result (out.new.items ≡ out.old.items ++ operator_text op) }
@@ -50,65 +58,67 @@ fn count(order: &Order) -> usize
     order.reasons.len()
 }
 
-/// The word for where a search ends.
-fn put_end_word(out: &mut Vec<u8>, why: &Why) -> Result<(), AllocError>
-    ensures { OnOk result (out.new.items ≡ out.old.items ++ why_text (end_of why.now)) }
+/// Where a search ends behind so many rounds.
+fn end(rounds: usize, why: &Why) -> Kept
+    ensures { told_kept result ≡ end_of rounds why.now }
 {
     match why {
-        Why::Nodes(_, _) => out.extend_from_slice(b"nodes"),
-        Why::Rows(_, _) => out.extend_from_slice(b"rows"),
-        Why::Range(_, _) => out.extend_from_slice(b"range"),
+        Why::Nodes(_, budget) => Kept::Nodes(*budget as u128 + rounds as u128),
+        Why::Rows(_, order) => Kept::Rows(count(order) as u128),
+        Why::Range(_, beyond) => Kept::Range(operation_of(beyond)),
+    }
+}
+
+/// What is told of a cause behind these rounds, each of which counts as a node.
+pub fn kept_of(rounds: &[Round], cause: &Cause) -> Kept
+    ensures { told_kept result ≡ why_of (length rounds.now) cause.now }
+{
+    match cause {
+        Cause::Search(why) => end(rounds.len(), why),
+        Cause::Rounds => Kept::Nodes(rounds.len() as u128),
+        Cause::Form(operation) => Kept::Range(*operation),
+        Cause::Argument(_, operation) => Kept::Range(*operation),
+        Cause::Replay(_, operation) => Kept::Range(*operation),
     }
 }
 
 /// The cause's word.
-pub fn put_cause_word(out: &mut Vec<u8>, cause: &Cause) -> Result<(), AllocError>
-    ensures { OnOk result (out.new.items ≡ out.old.items ++ why_text (why_of cause.now)) }
+pub fn put_cause_word(out: &mut Vec<u8>, kept: Kept) -> Result<(), AllocError>
+    ensures { OnOk result (out.new.items ≡ out.old.items ++ why_text (told_kept kept)) }
 {
-    match cause {
-        Cause::Search(why) => put_end_word(out, why),
-        Cause::Form(_) => out.extend_from_slice(b"range"),
-        Cause::Replay(_, _) => out.extend_from_slice(b"range"),
-    }
-}
-
-/// What is kept of a search: its budget of nodes, how many rows it has, or the operation.
-fn put_end(out: &mut Vec<u8>, why: &Why) -> Result<(), AllocError>
-    ensures { OnOk result (out.new.items ≡ out.old.items ++ kept_text (end_of why.now)) }
-{
-    match why {
-        Why::Nodes(_, budget) => put_number(out, *budget as u128),
-        Why::Rows(_, order) => put_number(out, count(order) as u128),
-        Why::Range(_, beyond) => put_operation(out, operation_of(beyond)),
+    match kept {
+        Kept::Nodes(_) => out.extend_from_slice(b"nodes"),
+        Kept::Rows(_) => out.extend_from_slice(b"rows"),
+        Kept::Range(_) => out.extend_from_slice(b"range"),
     }
 }
 
 /// What is kept of a cause.
-fn put_kept(out: &mut Vec<u8>, cause: &Cause) -> Result<(), AllocError>
-    ensures { OnOk result (out.new.items ≡ out.old.items ++ kept_text (why_of cause.now)) }
+fn put_kept(out: &mut Vec<u8>, kept: Kept) -> Result<(), AllocError>
+    ensures { OnOk result (out.new.items ≡ out.old.items ++ kept_text (told_kept kept)) }
 {
-    match cause {
-        Cause::Search(why) => put_end(out, why),
-        Cause::Form(operation) => put_operation(out, *operation),
-        Cause::Replay(_, operation) => put_operation(out, *operation),
+    match kept {
+        Kept::Nodes(n) => put_number(out, n),
+        Kept::Rows(n) => put_number(out, n),
+        Kept::Range(operation) => put_operation(out, operation),
     }
 }
 
 /// The line of what is kept.
-pub fn put_kept_line(out: &mut Vec<u8>, cause: &Cause) -> Result<(), AllocError>
-    ensures { OnOk result (out.new.items ≡ out.old.items ++ kept_line (why_of cause.now)) }
+pub fn put_kept_line(out: &mut Vec<u8>, kept: Kept) -> Result<(), AllocError>
+    ensures { OnOk result (out.new.items ≡ out.old.items ++ kept_line (told_kept kept)) }
 {
     out.extend_from_slice(b"    kept ")?;
-    put_kept(out, cause)?;
+    put_kept(out, kept)?;
     out.extend_from_slice(b"\n")
 }
 
 /// The cause's word, and in the next line what is kept.
-pub fn put_cause(out: &mut Vec<u8>, cause: &Cause) -> Result<(), AllocError>
-    ensures { OnOk result (out.new.items ≡ out.old.items ++ cause_text (why_of cause.now)) }
+pub fn put_cause(out: &mut Vec<u8>, kept: Kept) -> Result<(), AllocError>
+    ensures { OnOk result (out.new.items ≡ out.old.items ++ cause_text (told_kept kept)) }
 {
     out.push(b' ')?;
-    put_cause_word(out, cause)?;
+    put_cause_word(out, kept)?;
     out.push(b'\n')?;
-    put_kept_line(out, cause)
+    put_kept_line(out, kept)
 }

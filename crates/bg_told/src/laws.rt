@@ -47,7 +47,7 @@ pub fn verified_is_each_verified()
 /// The reports of two true outcomes of one program, in neither of which anything is unknown, are the same but for the lines of
 /// counterexamples, whatever the budgets, workers and schedules were.
 pub fn settled_reports_agree()
-    ensures { (budget other : Budget) (p : Program) (o q : inference.Outcome) (words : Cause → Why) → IsOpenable most_bodies (meaning_of p) →
+    ensures { (budget other : Budget) (p : Program) (o q : inference.Outcome) (words : ℕ → Cause → Why) → IsOpenable most_bodies (meaning_of p) →
         IsTrueOutcome budget p o → IsTrueOutcome other p q → is_settled (outcome_of words (meaning_of p) o) ≡ true → is_settled (outcome_of words (meaning_of p) q) ≡ true →
         verdict_lines p (outcome_of words (meaning_of p) o) ≡ verdict_lines p (outcome_of words (meaning_of p) q) }
 {

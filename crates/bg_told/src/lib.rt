@@ -5,6 +5,7 @@ mod candidates;
 mod choices;
 mod declared;
 mod fates;
+mod functions;
 mod history;
 mod kept;
 mod laws;

@@ -1,38 +1,39 @@
 //! The ordinary places of an implementation that aren't proved.
-ghost use Rattle.std.specs.Prelude.{◌≡◌, ◌++◌, OnOk, map, take, drop, length, flat_map};
+ghost use Rattle.std.specs.Prelude.{◌≡◌, ◌++◌, OnOk, map, length, flat_map};
 ghost use Rattle.bg_ast.specs.Views.{impl_of};
 ghost use Rattle.bg_places.specs.Views.{placed_of};
 ghost use Rattle.bg_scalar.specs.Choices.{choice_of};
-ghost use Rattle.bg_scalar.specs.Values.{val_of};
 ghost use Rattle.bg_check.specs.Outcomes.{verdict_of};
 ghost use Rattle.bg_told.specs.Places.{counterexample_text, refuted_text, unknown_text, verdict_text};
-ghost use Rattle.bg_told.specs.Views.{why_of};
+ghost use Rattle.bg_told.specs.Views.{why_of, told_kept};
 ghost use Rattle.bg_told.specs.Sheets.{head_of};
-ghost use Rattle.bg_told.specs.Entries.{names_for, split_verdict, shown_text};
+ghost use Rattle.bg_told.specs.Entries.{names_for, interp_by, entry_by, split_verdict, shown_text};
 
 use crate::choices::put_choices;
 use crate::declared::Declarations;
-use crate::kept::put_cause;
+use crate::functions::put_functions;
+use crate::kept::{Kept, kept_of, put_cause};
 use crate::place::put_told;
 use crate::values::{Values, behind, front, put_constants, put_entry};
 use crate::word::{Word, is_ordinary};
 use bg_ast::resolved::Implementation;
-use bg_check::{Cause, Judged, Verdict};
+use bg_check::{Judged, Verdict};
 use bg_model::Counterexample;
 use bg_places::Place;
 use std::alloc::AllocError;
 
-/// The values of the constants, the entry values and the choices of a counterexample.
+/// The values of the constants, the tables of the functions, the entry values and the choices of a counterexample.
 pub fn put_counterexample(
     out: &mut Vec<u8>,
     declared: Declarations<'_>,
     implementation: &Implementation,
     cex: &Counterexample,
 ) -> Result<(), AllocError>
-    ensures { OnOk result (out.new.items ≡ out.old.items ++ counterexample_text (names_for declared.entry (head_of (impl_of implementation.now))) (drop (length declared.entry.globals.now) (map val_of cex.now.globals.items)) (take (length declared.entry.globals.now) (map val_of cex.now.globals.items) ++ map val_of cex.now.frame.items) (map choice_of cex.now.choices.items)) }
+    ensures { OnOk result (out.new.items ≡ out.old.items ++ counterexample_text (names_for declared.entry (head_of (impl_of implementation.now))) (interp_by (length declared.entry.globals.now) cex.now) (entry_by (length declared.entry.globals.now) cex.now) (map choice_of cex.now.choices.items)) }
 {
     let count = declared.globals.len();
     put_constants(out, declared.constants, behind(&cex.globals, count))?;
+    put_functions(out, declared.functions, declared.bodies, &cex.tables)?;
     let values = Values {
         globals: front(&cex.globals, count),
         frame: &cex.frame,
@@ -50,7 +51,7 @@ fn put_refuted(
     place: &Place,
     cex: &Counterexample,
 ) -> Result<(), AllocError>
-    ensures { OnOk result (out.new.items ≡ out.old.items ++ refuted_text (names_for declared.entry (head_of (impl_of implementation.now))) (placed_of place.now) (drop (length declared.entry.globals.now) (map val_of cex.now.globals.items)) (take (length declared.entry.globals.now) (map val_of cex.now.globals.items) ++ map val_of cex.now.frame.items) (map choice_of cex.now.choices.items)) }
+    ensures { OnOk result (out.new.items ≡ out.old.items ++ refuted_text (names_for declared.entry (head_of (impl_of implementation.now))) (placed_of place.now) (interp_by (length declared.entry.globals.now) cex.now) (entry_by (length declared.entry.globals.now) cex.now) (map choice_of cex.now.choices.items)) }
 {
     put_told(out, Word::Refuted, place)?;
     out.push(b'\n')?;
@@ -58,11 +59,11 @@ fn put_refuted(
 }
 
 /// An unknown place.
-fn put_unknown(out: &mut Vec<u8>, place: &Place, cause: &Cause) -> Result<(), AllocError>
-    ensures { OnOk result (out.new.items ≡ out.old.items ++ unknown_text (placed_of place.now) (why_of cause.now)) }
+fn put_unknown(out: &mut Vec<u8>, place: &Place, kept: Kept) -> Result<(), AllocError>
+    ensures { OnOk result (out.new.items ≡ out.old.items ++ unknown_text (placed_of place.now) (told_kept kept)) }
 {
     put_told(out, Word::Unknown, place)?;
-    put_cause(out, cause)
+    put_cause(out, kept)
 }
 
 fn put_verdict(
@@ -75,9 +76,9 @@ fn put_verdict(
     ensures { OnOk result (out.new.items ≡ out.old.items ++ verdict_text (names_for declared.entry (head_of (impl_of implementation.now))) (placed_of place.now) (split_verdict (length declared.entry.globals.now) (verdict_of why_of verdict.now))) }
 {
     match verdict {
-        Verdict::Proved(_) => Ok(()),
+        Verdict::Proved(_, _) => Ok(()),
         Verdict::Refuted(cex) => put_refuted(out, declared, implementation, place, cex),
-        Verdict::Unknown(cause) => put_unknown(out, place, cause),
+        Verdict::Unknown(rounds, cause) => put_unknown(out, place, kept_of(rounds, cause)),
     }
 }
 

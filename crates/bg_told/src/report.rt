@@ -2,29 +2,29 @@
 ghost use Rattle.std.specs.Prelude.{◌≡◌, ◌++◌, OnOk, IfOk, codes, length, map};
 ghost use Rattle.bg_ast.specs.Meaning.{meaning_of};
 ghost use Rattle.bg_ast.specs.Resolved.{Program};
-ghost use Rattle.bg_ast.specs.Views.{declared_of, impl_of};
+ghost use Rattle.bg_ast.specs.Views.{impl_of};
 ghost use Rattle.bg_carried.specs.Carried.{axioms_by};
 ghost use Rattle.bg_check.specs.Verdicts.{judged};
 ghost use Rattle.bg_check.specs.Outcomes.{verdict_of, told};
 ghost use Rattle.bg_inference.specs.Told.{outcome_of};
 ghost use Rattle.bg_lines.specs.Lines.{line};
 ghost use Rattle.bg_sound.specs.Told as t;
-ghost use Rattle.bg_told.specs.Entries.{split_all, IsOf};
+ghost use Rattle.bg_told.specs.Entries.{outer_in, split_all, IsOf};
 ghost use Rattle.bg_told.specs.Fates.{told_fate};
 ghost use Rattle.bg_told.specs.Lines.{texts};
 ghost use Rattle.bg_told.specs.Report.{axioms_text, head_text, implementation_text, count_text, summary_text, result_text, bench_line, bench_text};
 ghost use Rattle.bg_told.specs.Sheets.{head_of, sheet_of};
-ghost use Rattle.bg_told.specs.Views.{why_of, told_word};
+ghost use Rattle.bg_told.specs.Views.{why_of, told_kept, told_word};
 
 use crate::candidates::{put_candidates, put_fates_count, put_set};
 use crate::declared::{Declarations, declared_in};
 use crate::fates::{Fate, fates_of, is_greatest};
-use crate::kept::put_cause_word;
+use crate::kept::{Kept, kept_of, put_cause_word};
 use crate::places::put_places;
 use crate::put::put_word;
 use crate::word::{Word, count_of, implementation_word};
 use bg_ast::resolved::Implementation;
-use bg_check::{Cause, Judged, Verdict};
+use bg_check::{Judged, Verdict};
 use bg_inference::Outcome;
 use bg_lines::{put_number, put_position};
 use bg_opened::laws::{opened_programs_have_the_same_places, written_programs_are_opened};
@@ -54,7 +54,7 @@ fn put_implementation(
     implementation: &Implementation,
     judged: &[Judged],
 ) -> Result<(), AllocError>
-    ensures { OnOk result (out.new.items ≡ out.old.items ++ implementation_text (map declared_of declared.entry.constants.now) (map declared_of declared.entry.globals.now) (head_of (impl_of implementation.now)) (split_all (length declared.entry.globals.now) judged.now)) }
+    ensures { OnOk result (out.new.items ≡ out.old.items ++ implementation_text (outer_in declared.entry) (head_of (impl_of implementation.now)) (split_all (length declared.entry.globals.now) judged.now)) }
 {
     put_head(out, implementation, implementation_word(judged))?;
     put_places(out, declared, implementation, judged)?;
@@ -67,7 +67,7 @@ fn put_implementations(
     implementations: &[Implementation],
     outcome: &[Vec<Judged>],
 ) -> Result<(), AllocError>
-    ensures { OnOk result (out.new.items ≡ out.old.items ++ texts (implementation_text (map declared_of declared.entry.constants.now) (map declared_of declared.entry.globals.now)) (map head_of (map impl_of implementations.now)) (map (split_all (length declared.entry.globals.now)) (judged outcome.now))) }
+    ensures { OnOk result (out.new.items ≡ out.old.items ++ texts (implementation_text (outer_in declared.entry)) (map head_of (map impl_of implementations.now)) (map (split_all (length declared.entry.globals.now)) (judged outcome.now))) }
 {
     for (i, implementation) in implementations.iter().enumerate() {
         if i >= outcome.len() {
@@ -91,7 +91,7 @@ fn put_count(out: &mut Vec<u8>, outcome: &[Vec<Judged>], word: Word) -> Result<(
 /// The numbers of candidates that are retained and dropped, and of implementations of each word.
 fn put_summary(
     out: &mut Vec<u8>,
-    fates: &[Fate<'_>],
+    fates: &[Fate],
     verdicts: &[Vec<Judged>],
 ) -> Result<(), AllocError>
     ensures { OnOk result ((o : t.Outcome) → o.fates ≡ map told_fate fates.now → map t.word_of o.implementations ≡ map t.word_of (map (told why_of) (judged verdicts.now)) → out.new.items ≡ out.old.items ++ summary_text o) }
@@ -107,20 +107,20 @@ fn put_summary(
     Ok(())
 }
 
-fn put_undecided(out: &mut Vec<u8>, cause: &Cause) -> Result<(), AllocError>
-    ensures { OnOk result (out.new.items ≡ out.old.items ++ axioms_text (t.Undecided (why_of cause.now))) }
+fn put_undecided(out: &mut Vec<u8>, kept: Kept) -> Result<(), AllocError>
+    ensures { OnOk result (out.new.items ≡ out.old.items ++ axioms_text (t.Undecided (told_kept kept))) }
 {
     out.extend_from_slice(b"unknown ")?;
-    put_cause_word(out, cause)
+    put_cause_word(out, kept)
 }
 
 fn put_axioms(out: &mut Vec<u8>, axioms: &Verdict) -> Result<(), AllocError>
     ensures { OnOk result (out.new.items ≡ out.old.items ++ axioms_text (axioms_by (verdict_of why_of axioms.now))) }
 {
     match axioms {
-        Verdict::Proved(_) => out.extend_from_slice(b"contradictory"),
+        Verdict::Proved(_, _) => out.extend_from_slice(b"contradictory"),
         Verdict::Refuted(_) => out.extend_from_slice(b"consistent"),
-        Verdict::Unknown(cause) => put_undecided(out, cause),
+        Verdict::Unknown(rounds, cause) => put_undecided(out, kept_of(rounds, cause)),
     }
 }
 
@@ -135,7 +135,7 @@ fn put_axioms_line(out: &mut Vec<u8>, axioms: &Verdict) -> Result<(), AllocError
 
 /// The lines of the implementations.
 fn put_judged(out: &mut Vec<u8>, outcome: &Outcome) -> Result<(), AllocError>
-    ensures { OnOk result ((p : Program) → IsOf p outcome.now → out.new.items ≡ out.old.items ++ texts (implementation_text (sheet_of p).constants p.globals) (sheet_of p).implementations (outcome_of why_of (meaning_of p) outcome.now).implementations) }
+    ensures { OnOk result ((p : Program) → IsOf p outcome.now → out.new.items ≡ out.old.items ++ texts (implementation_text (sheet_of p).outer) (sheet_of p).implementations (outcome_of why_of (meaning_of p) outcome.now).implementations) }
 {
     let declared = declared_in(outcome);
     put_implementations(
@@ -147,7 +147,7 @@ fn put_judged(out: &mut Vec<u8>, outcome: &Outcome) -> Result<(), AllocError>
 }
 
 /// What became of each candidate.
-fn fates_in(alloc: Global, outcome: &Outcome) -> Result<Vec<Fate<'_>>, AllocError>
+fn fates_in(alloc: Global, outcome: &Outcome) -> Result<Vec<Fate>, AllocError>
     ensures { IfOk result (λ made. (p : Program) → IsOf p outcome.now → map told_fate made.items ≡ (outcome_of why_of (meaning_of p) outcome.now).fates) }
 {
     opened_programs_have_the_same_places();
@@ -157,8 +157,8 @@ fn fates_in(alloc: Global, outcome: &Outcome) -> Result<Vec<Fate<'_>>, AllocErro
 
 /// The report of what an inference comes to: whether the axioms are consistent; a line for each candidate by declaration, with what became
 /// of it; whether the retained set is the greatest inductive one; a line for each implementation, with the position of its keyword and its
-/// word, and below it its ordinary places that aren't proved, with the values of constants, the entry values and the choices with which one
-/// fails or the cause and what is kept of it; then how many candidates are retained and dropped, and how many implementations have each word.
+/// word, and below it its ordinary places that aren't proved, with the values of constants, the tables of functions, the entry values and the
+/// choices with which one fails or the cause and what is kept of it; then how many candidates are retained and dropped, and how many implementations have each word.
 ///
 /// Only want of memory is an error.
 pub fn result_text(alloc: Global, outcome: &Outcome) -> Result<Vec<u8>, AllocError>

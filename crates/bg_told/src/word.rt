@@ -32,9 +32,9 @@ fn word_in(verdict: &Verdict) -> Word
     ensures { result ≡ word_in verdict.now }
 {
     match verdict {
-        Verdict::Proved(_) => Word::Verified,
+        Verdict::Proved(_, _) => Word::Verified,
         Verdict::Refuted(_) => Word::Refuted,
-        Verdict::Unknown(_) => Word::Unknown,
+        Verdict::Unknown(_, _) => Word::Unknown,
     }
 }
 
@@ -101,9 +101,9 @@ fn with_axioms(axioms: &Verdict, word: Word) -> Word
     ensures { result ≡ with_axioms axioms.now word }
 {
     match axioms {
-        Verdict::Proved(_) => Word::Refuted,
+        Verdict::Proved(_, _) => Word::Refuted,
         Verdict::Refuted(_) => word,
-        Verdict::Unknown(_) => match word {
+        Verdict::Unknown(_, _) => match word {
             Word::Refuted => Word::Refuted,
             _ => Word::Unknown,
         },

@@ -59,10 +59,11 @@ abbrev pub AreSome : ℕ → Type 0
 AreSome workers = (0 < workers) × (workers ≤ 16)
 
 -- what is told of a program is accounted for: it is told of an outcome that is true of the program. There the axioms have a right verdict
--- of their own: values of the constants that meet them, a certificate that none do, or a cause within the budget; each dropped candidate
--- has an entry in an ordered history, with a run that fails under the entry's snapshot or a cause within the budget; each place of a
--- retained one a certificate under what is retained; and each ordinary place a right verdict under it: a certificate where it says proved,
--- a counterexample where it says refuted, and where it says unknown a cause within the budget, whose words it has
+-- of their own: values of the constants and tables of the functions without a body that meet them, a certificate that none do, or a
+-- cause within the budget; each dropped candidate has an entry in an ordered history, with a run that fails under the entry's snapshot or
+-- a cause within the budget; each place of a retained one a certificate under what is retained; and each ordinary place a right verdict
+-- under it: a certificate where it says proved, a counterexample where it says refuted, and where it says unknown a cause within the
+-- budget, whose words it has
 pub record IsAccounted (budget : Budget) (p : Program) (o : Outcome) : Type 0 where
   pub inferred : inference.Outcome
   pub right : IsTrueOutcome budget p inferred

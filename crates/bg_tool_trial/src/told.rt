@@ -1,20 +1,23 @@
 //! The reports of programs and outcomes made by hand.
-use bg_ast::resolved::{Clause, Declared, Expr, Implementation, Resolved, Stmt, WrittenType};
+use bg_ast::resolved::{
+    Clause, Declared, Expr, Function, Implementation, Resolved, Stmt, WrittenType,
+};
 use bg_base::{CandId, Op, OutOfRange, Pos, TargetId};
-use bg_cert::{Cert, bare};
-use bg_check::{Cause, Judged, Verdict};
+use bg_cert::bare;
+use bg_check::{Cause, Judged, Round, Verdict};
 use bg_elim::{Further, Order, Reason};
 use bg_inference::Outcome;
 use bg_model::Counterexample;
 use bg_places::{Place, Spot};
 use bg_point::Far;
 use bg_rounds::Removal;
-use bg_scalar::{Choice, Scalar};
+use bg_scalar::{Choice, Scalar, Table};
 use bg_text::Name;
 use bg_told::{Word, history_text, result_text, word_of};
-use bg_tree::{Beyond, Why};
+use bg_tree::{Beyond, Leaf, Why};
 use bg_words::CandSet;
 use std::alloc::{AllocError, Global};
+use std::collections::BTreeMap;
 use std::test::Fail;
 
 /// An implementation of a case: its name, the position of its keyword, its parameters, results and locals, and its places.
@@ -32,7 +35,7 @@ type Told<'a> = (Spot, Option<u32>, (u32, u32), Option<(u32, u32)>, Known<'a>);
 
 /// What is known of a place: of a refuted one the values of globals and frame, and the choices; of
 /// an unknown one a budget of nodes, the reasons of rows, an operation of the search and whether it
-/// makes a value, or one of a linear form, or of a replay.
+/// makes a value, or one of a linear form, or of a replay, or a number of rounds.
 #[derive(Clone, Copy)]
 enum Known<'a> {
     Proved,
@@ -42,6 +45,7 @@ enum Known<'a> {
     Beyond(OutOfRange, bool),
     Form(OutOfRange),
     Replay(OutOfRange),
+    Rounds(u32),
 }
 
 fn at(place: (u32, u32)) -> Pos {
@@ -98,34 +102,66 @@ fn beyond(alloc: Global, operation: OutOfRange, is_value: bool) -> Result<Beyond
 
 fn verdict(alloc: Global, known: Known) -> Result<Verdict, AllocError> {
     match known {
-        Known::Proved => Ok(Verdict::Proved(bare(alloc, Vec::new(alloc)))),
+        Known::Proved => Ok(Verdict::Proved(Vec::new(alloc), bare(alloc, Vec::new(alloc)))),
         Known::Refuted(globals, frame, choices) => Ok(Verdict::Refuted(Counterexample {
+            tables: Vec::new(alloc),
             globals: globals.to_vec(alloc)?,
             frame: frame.to_vec(alloc)?,
             choices: choices.to_vec(alloc)?,
         })),
-        Known::Unknown(budget) => Ok(Verdict::Unknown(Cause::Search(Why::Nodes(
-            Vec::new(alloc),
-            budget,
-        )))),
+        Known::Unknown(budget) => Ok(unknown(
+            alloc,
+            Cause::Search(Why::Nodes(Vec::new(alloc), budget)),
+        )),
         Known::Filled(reasons) => {
             let order = order(alloc, reasons)?;
-            Ok(Verdict::Unknown(Cause::Search(Why::Rows(Vec::new(alloc), order))))
+            Ok(unknown(alloc, Cause::Search(Why::Rows(Vec::new(alloc), order))))
         }
         Known::Beyond(operation, is_value) => {
             let beyond = beyond(alloc, operation, is_value)?;
-            Ok(Verdict::Unknown(Cause::Search(Why::Range(Vec::new(alloc), beyond))))
+            Ok(unknown(alloc, Cause::Search(Why::Range(Vec::new(alloc), beyond))))
         }
-        Known::Form(operation) => Ok(Verdict::Unknown(Cause::Form(operation))),
-        Known::Replay(operation) => Ok(Verdict::Unknown(Cause::Replay(
-            Counterexample {
-                globals: Vec::new(alloc),
-                frame: Vec::new(alloc),
-                choices: Vec::new(alloc),
-            },
-            operation,
-        ))),
+        Known::Form(operation) => Ok(unknown(alloc, Cause::Form(operation))),
+        Known::Replay(operation) => Ok(unknown(
+            alloc,
+            Cause::Replay(
+                Counterexample {
+                    tables: Vec::new(alloc),
+                    globals: Vec::new(alloc),
+                    frame: Vec::new(alloc),
+                    choices: Vec::new(alloc),
+                },
+                operation,
+            ),
+        )),
+        Known::Rounds(count) => rounds(alloc, count),
     }
+}
+
+/// A cause without rounds before it.
+fn unknown(alloc: Global, cause: Cause) -> Verdict {
+    Verdict::Unknown(Vec::new(alloc), cause)
+}
+
+/// A leaf without decisions.
+fn leaf(alloc: Global) -> Result<Leaf, AllocError> {
+    Ok(Leaf {
+        path: Vec::new(alloc),
+        order: order(alloc, &[])?,
+        spots: Vec::new(alloc),
+    })
+}
+
+/// So many rounds, and no node left.
+fn rounds(alloc: Global, count: u32) -> Result<Verdict, AllocError> {
+    let mut made = Vec::new(alloc);
+    for _ in 0..count {
+        made.push(Round {
+            leaf: leaf(alloc)?,
+            instances: Vec::new(alloc),
+        })?;
+    }
+    Ok(Verdict::Unknown(made, Cause::Rounds))
 }
 
 fn judged(alloc: Global, places: &[Told]) -> Result<Vec<Judged>, AllocError> {
@@ -174,7 +210,7 @@ fn history(
     alloc: Global,
     candidates: u32,
     gone: &[Gone],
-) -> Result<bg_rounds::Outcome<Cert, bg_houdini::Reason>, AllocError> {
+) -> Result<bg_rounds::Outcome<bg_houdini::Proof, bg_houdini::Reason>, AllocError> {
     let mut retained = CandSet::new(alloc, candidates, true)?;
     let mut removals = Vec::new(alloc);
     for (number, candidate, operation) in gone {
@@ -200,8 +236,9 @@ fn history(
 
 fn reason(alloc: Global, operation: Option<OutOfRange>) -> bg_houdini::Reason {
     match operation {
-        Some(operation) => bg_houdini::Reason::Unknown(Cause::Form(operation)),
+        Some(operation) => { bg_houdini::Reason::Unknown(Vec::new(alloc), Cause::Form(operation)) }
         None => bg_houdini::Reason::Refuted(Counterexample {
+            tables: Vec::new(alloc),
             globals: Vec::new(alloc),
             frame: Vec::new(alloc),
             choices: Vec::new(alloc),
@@ -220,6 +257,7 @@ fn outcome(
     Ok(Outcome {
         globals: opened.globals.len().saturating_sub(constants.len()),
         opened,
+        bodies: Vec::new(alloc),
         axioms: verdict(alloc, Known::Refuted(constants, &[], &[]))?,
         judged,
     })
@@ -357,6 +395,15 @@ const SPENT: Case<'static> = (
     &[(Spot::Entry(1), None, (3, 3), None, Known::Unknown(1))],
 );
 
+const TURNED: Case<'static> = (
+    "T",
+    (2, 1),
+    &[],
+    &[],
+    &[],
+    &[(Spot::Assert(1), None, (3, 3), None, Known::Rounds(3))],
+);
+
 const GUARDED: Case<'static> = (
     "R",
     (3, 1),
@@ -424,7 +471,7 @@ const MIXED: Case<'static> = (
 );
 
 /// Outcomes, their word, and the lines of their report below its first two.
-const REPORTS: [(&[Case<'static>], Word, &str); 8] = [
+const REPORTS: [(&[Case<'static>], Word, &str); 9] = [
     (
         &[],
         Word::Verified,
@@ -451,6 +498,14 @@ const REPORTS: [(&[Case<'static>], Word, &str); 8] = [
         "implementation Q 2:1 unknown\n\
          \x20 unknown invariant entry 3:3 nodes\n\
          \x20   kept 1\n\
+         summary: 0 retained, 0 dropped; 0 verified, 0 refuted, 1 unknown\n",
+    ),
+    (
+        &[TURNED],
+        Word::Unknown,
+        "implementation T 2:1 unknown\n\
+         \x20 unknown assert 3:3 nodes\n\
+         \x20   kept 3\n\
          summary: 0 retained, 0 dropped; 0 verified, 0 refuted, 1 unknown\n",
     ),
     (
@@ -610,5 +665,139 @@ fn the_first_removal_says_why_a_candidate_went(rt: HostRuntime) -> Result<(), Fa
             summary: 1 retained, 2 dropped; 0 verified, 0 refuted, 0 unknown\n"
                 .as_bytes()
     );
+    Ok(())
+}
+
+/// A function without a body as it stands in an opened program.
+fn function(alloc: Global, text: &str) -> Result<Function, AllocError> {
+    Ok(Function {
+        name: name(alloc, text)?,
+        params: Vec::new(alloc),
+        result: WrittenType::Int(at((1, 1))),
+        body: None,
+    })
+}
+
+/// A table with these entries and this default.
+fn table(
+    alloc: Global,
+    entries: &[(&[Scalar], Scalar)],
+    default: Scalar,
+) -> Result<Table, AllocError> {
+    let mut made = BTreeMap::new(alloc);
+    for (key, value) in entries {
+        let key = key.to_vec(alloc)?;
+        made.insert(key, *value)?;
+    }
+    Ok(Table {
+        entries: made,
+        default,
+    })
+}
+
+/// Tables of four functions.
+fn tables(alloc: Global) -> Result<Vec<Table>, AllocError> {
+    let mut made = Vec::new(alloc);
+    made.push(table(
+        alloc,
+        &[
+            (&[Scalar::Number(7)], T),
+            (&[Scalar::Number(LEAST)], T),
+            (&[Scalar::Number(-3)], T),
+        ],
+        F,
+    )?)?;
+    made.push(table(
+        alloc,
+        &[(&[Scalar::Number(1)], Scalar::Number(2))],
+        Scalar::Number(0),
+    )?)?;
+    made.push(table(alloc, &[], Scalar::Number(-5))?)?;
+    made.push(table(
+        alloc,
+        &[
+            (&[T, Scalar::Number(0)], Scalar::Number(1)),
+            (&[F, Scalar::Number(10)], Scalar::Number(3)),
+            (&[F, Scalar::Number(9)], Scalar::Number(2)),
+        ],
+        Scalar::Number(0),
+    )?)?;
+    Ok(made)
+}
+
+/// A program of `P` with functions `f`, `b`, `n`, `g`, of which the second has a body.
+fn with_functions(alloc: Global) -> Result<Resolved, AllocError> {
+    let mut made = guarded(alloc)?;
+    for text in &["f", "b", "n", "g"] {
+        made.functions.push(function(alloc, text)?)?;
+    }
+    Ok(made)
+}
+
+/// A run that fails, under the four tables.
+fn example(alloc: Global) -> Result<Counterexample, AllocError> {
+    Ok(Counterexample {
+        tables: tables(alloc)?,
+        globals: vec![in alloc; F, T]?,
+        frame: Vec::new(alloc),
+        choices: vec![in alloc; Choice::Branch(1)]?,
+    })
+}
+
+/// An outcome of that program, whose second global is a constant: its one ordinary place fails, and a candidate went.
+fn tabled(alloc: Global) -> Result<Outcome, AllocError> {
+    let mut inferred = history(alloc, 2, &[])?;
+    inferred.removals.push(Removal {
+        number: 0,
+        cand: CandId(0),
+        target: TargetId(0),
+        snapshot: CandSet::new(alloc, 2, true)?,
+        was_there: true,
+        unknown: false,
+        told: bg_houdini::Reason::Refuted(example(alloc)?),
+    })?;
+    let place = Place {
+        implementation: 0,
+        spot: Spot::Assert(1),
+        candidate: None,
+        pos: at((8, 9)),
+        call: None,
+    };
+    let mut row = Vec::new(alloc);
+    row.push(Judged {
+        place,
+        verdict: Verdict::Refuted(example(alloc)?),
+    })?;
+    let mut verdicts = Vec::new(alloc);
+    verdicts.push(row)?;
+    let judged = bg_houdini::Outcome { inferred, verdicts };
+    let opened = with_functions(alloc)?;
+    let mut made = outcome(alloc, opened, &[T], judged)?;
+    made.bodies = vec![in alloc; false, true, false, false]?;
+    if let Verdict::Refuted(cex) = &mut made.axioms {
+        cex.tables = tables(alloc)?;
+    }
+    Ok(made)
+}
+
+#[test]
+fn functions_without_a_body_have_their_tables(rt: HostRuntime) -> Result<(), Fail> {
+    let alloc = rt.alloc();
+    let outcome = tabled(alloc)?;
+    let lines = "\x20   const h = true\n\
+        \x20   function f = [-170141183460469231731687303715884105728 := true, -3 := true, 7 := true, else false]\n\
+        \x20   function n = [else -5]\n\
+        \x20   function g = [false,9 := 2, false,10 := 3, true,0 := 1, else 0]\n";
+    let values = "\x20   var g = false\n\x20   choice branch 1\n";
+    let report = format!(in alloc;
+        "axioms: consistent\ncandidate c retained\ncandidate d retained unchecked\nretained set: greatest\nimplementation P 1:1 refuted\n  refuted assert 8:9\n{lines}{values}summary: 2 retained, 0 dropped; 0 verified, 1 refuted, 0 unknown\n"
+    )?;
+    let text = result_text(alloc, &outcome)?;
+    assert!(rt; text.as_slice() == report.as_bytes());
+    let entries = format!(in alloc;
+        "history:\ndrop 0 c in P 1:1 at assert 7:9: refuted\n  snapshot c d\n{lines}{values}interpretation:\n{lines}"
+    )?;
+    let history = history_text(alloc, &outcome)?;
+    assert!(rt; history.as_slice() == entries.as_bytes());
     Ok(())
 }

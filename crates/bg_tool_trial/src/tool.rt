@@ -71,7 +71,7 @@ type Case = (
     &'static str,
 );
 
-const TEXTS: [Case; 30] = [
+const TEXTS: [Case; 34] = [
     (
         &["bg", "generate", "1", "2"],
         "",
@@ -130,6 +130,34 @@ const TEXTS: [Case; 30] = [
         "const unique a, b, c: bool;",
         Status::Refuted,
         "axioms: contradictory\nretained set: greatest\nsummary: 0 retained, 0 dropped; 0 verified, 0 refuted, 0 unknown\n",
+        "",
+    ),
+    (
+        VERIFY,
+        "function f(int): int; procedure P(x: int, y: int) { assert f(x) != f(y) ==> x != y; }",
+        Status::Verified,
+        "axioms: consistent\nretained set: greatest\nimplementation P 1:23 verified\nsummary: 0 retained, 0 dropped; 1 verified, 0 refuted, 0 unknown\n",
+        "",
+    ),
+    (
+        VERIFY,
+        "function f(int): int; procedure P() { assert f(3) != 5; }",
+        Status::Refuted,
+        "axioms: consistent\nretained set: greatest\nimplementation P 1:23 refuted\n  refuted assert 1:39\n    function f = [3 := 5, else 0]\nsummary: 0 retained, 0 dropped; 0 verified, 1 refuted, 0 unknown\n",
+        "",
+    ),
+    (
+        VERIFY,
+        "function f(int): bool; axiom f(1 + 1); axiom !f(2);",
+        Status::Refuted,
+        "axioms: contradictory\nretained set: greatest\nsummary: 0 retained, 0 dropped; 0 verified, 0 refuted, 0 unknown\n",
+        "",
+    ),
+    (
+        &["bg", "verify", "--history", "a.bpl"],
+        "const c: int; function g(x: int): int { x } function f(int): int; axiom f(g(c)) == 2;",
+        Status::Verified,
+        "axioms: consistent\nretained set: greatest\nsummary: 0 retained, 0 dropped; 0 verified, 0 refuted, 0 unknown\nhistory:\ninterpretation:\n    const c = 0\n    function f = [0 := 2, else 0]\n",
         "",
     ),
     (

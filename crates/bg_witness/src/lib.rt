@@ -4,5 +4,7 @@
 #[cfg(test)]
 mod tests;
 mod text;
+mod there;
 
 pub use text::judged_program;
+pub use there::are_there;

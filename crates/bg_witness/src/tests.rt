@@ -5,9 +5,10 @@ ghost use Rattle.bg_ast.specs.Views.{program_of};
 ghost use Rattle.bg_sense.specs.Typed.{IsTyped};
 ghost use Rattle.bg_sense.specs.Resolved.{IsResolved};
 ghost use Rattle.bg_fits.specs.Scalars.{is_over_scalars};
+ghost use Rattle.bg_blocks.specs.Callees.{IsModified};
 
-use crate::judged_program;
-use bg_ast::resolved::Resolved;
+use crate::{are_there, judged_program};
+use bg_ast::resolved::{Resolved, Variable};
 use bg_blocks::callees_of;
 use bg_cert::{Cert, accepts};
 use bg_check::{Cause, Judged, Verdict, judge_ordinary};
@@ -16,6 +17,7 @@ use bg_model::Counterexample;
 use bg_replay::{Choice, Code, Ending, Start, replay};
 use bg_rows::Refused;
 use bg_task::{Prepared, cut_down, prepare};
+use bg_term_table::Instance;
 use bg_tree::Budget;
 use std::alloc::{AllocError, Global};
 use std::test::Fail;
@@ -61,15 +63,40 @@ const FAR: &str =
 const LATER: &str =
     "procedure P(x: int) { assume x == 170141183460469231731687303715884105727; assert x - 1 < 0; assert x + 1 < 0; }";
 
-/// Whether the certificate of a place is accepted.
+const FUNCTIONS: &str =
+    "function f(int): int; procedure P(x: int, y: int) { assert f(x) != f(y) ==> x != y; assert f(x) == f(y); assert f(x) == f(x); }";
+
+const NESTED: &str =
+    "function f(int): int; function g(bool, int): bool; procedure P(a: bool, x: int) { assert g(a, f(x)) ==> g(a, f(x + 0)); assert g(a, x) == g(!a, x); }";
+
+const OPENED: &str =
+    "const c: int; function h(x: int): int { f(x) + c } function f(int): int; axiom f(c) == c; procedure P(x: int) { assert x == c ==> h(x) == c + c; assert h(x) > c; }";
+
+const ARGUMENT: &str =
+    "function f(int): int; procedure P(x: int) { assume x >= 170141183460469231731687303715884105727; assert f(x + 1) == 0; }";
+
+/// Whether the certificate of a place is accepted behind these instances.
 fn is_accepted(
     alloc: Global,
     program: &Resolved,
-    prepared: &Prepared<'_>,
+    callees: &[Vec<Variable>],
     judged: &Judged,
+    instances: &[Instance],
     cert: &Cert,
-) -> Result<bool, AllocError> {
-    let cut = cut_down(alloc, program, prepared, &judged.place)?;
+) -> Result<bool, AllocError>
+    requires typed { IsTyped (meaning_of (program_of program.now)) }
+    requires scalars { is_over_scalars true (meaning_of (program_of program.now)) ≡ true }
+    requires modified { IsModified (program_of program.now) callees.now }
+{
+    let number = judged.place.implementation;
+    if number >= program.implementations.len() {
+        return Ok(false);
+    }
+    let prepared = prepare(alloc, program, callees, number)?;
+    if !are_there(prepared.terms.len(), instances) {
+        return Ok(false);
+    }
+    let cut = cut_down(alloc, program, &prepared, &judged.place, instances)?;
     let atoms = &cut.atoms;
     let names = Names {
         first: atoms.first,
@@ -99,6 +126,7 @@ fn ending<'x>(
         set: &[],
     };
     let start = Start {
+        tables: &cex.tables,
         globals: &cex.globals,
         frame: &cex.frame,
         choices,
@@ -135,28 +163,35 @@ fn leaves(
 }
 
 /// `p` for a certificate that is accepted, `r` for a counterexample that replays, `o` for one that leaves the range, `f` for clauses
-/// that do, `x` for anything else.
+/// that do, `a` for arguments that do, `x` for anything else.
 fn letter(
     alloc: Global,
     program: &Resolved,
+    callees: &[Vec<Variable>],
     prepared: &Prepared<'_>,
     judged: &Judged,
-) -> Result<&'static str, AllocError> {
+) -> Result<&'static str, AllocError>
+    requires typed { IsTyped (meaning_of (program_of program.now)) }
+    requires scalars { is_over_scalars true (meaning_of (program_of program.now)) ≡ true }
+    requires modified { IsModified (program_of program.now) callees.now }
+{
     match &judged.verdict {
-        Verdict::Proved(cert) => {
-            let is_right = is_accepted(alloc, program, prepared, judged, cert)?;
+        Verdict::Proved(instances, cert) => {
+            let is_right = is_accepted(alloc, program, callees, judged, instances, cert)?;
             Ok(if is_right { "p" } else { "x" })
         }
         Verdict::Refuted(cex) => {
             let is_right = is_replayed(alloc, program, prepared, judged, cex)?;
             Ok(if is_right { "r" } else { "x" })
         }
-        Verdict::Unknown(Cause::Replay(cex, _)) => {
+        Verdict::Unknown(_, Cause::Replay(cex, _)) => {
             let is_right = leaves(alloc, program, prepared, judged, cex)?;
             Ok(if is_right { "o" } else { "x" })
         }
-        Verdict::Unknown(Cause::Form(_)) => Ok("f"),
-        Verdict::Unknown(Cause::Search(_)) => Ok("x"),
+        Verdict::Unknown(_, Cause::Form(_)) => Ok("f"),
+        Verdict::Unknown(_, Cause::Argument(_, _)) => Ok("a"),
+        Verdict::Unknown(_, Cause::Rounds) => Ok("x"),
+        Verdict::Unknown(_, Cause::Search(_)) => Ok("x"),
     }
 }
 
@@ -172,7 +207,7 @@ fn letters(alloc: Global, program: &Resolved) -> Result<String, Fail>
         let prepared = prepare(alloc, program, &callees, number)?;
         let made = judge_ordinary(alloc, program, &prepared, number, &[], BUDGET)?;
         for judged in &made {
-            found.push_str(letter(alloc, program, &prepared, judged)?)?;
+            found.push_str(letter(alloc, program, &callees, &prepared, judged)?)?;
         }
         found.push_str(";")?;
     }
@@ -182,7 +217,7 @@ fn letters(alloc: Global, program: &Resolved) -> Result<String, Fail>
 #[test]
 fn each_verdict_holds_when_it_is_looked_at_again(rt: HostRuntime) -> Result<(), Fail> {
     let alloc = rt.alloc();
-    let table: [(&str, &str); 12] = [
+    let table: [(&str, &str); 16] = [
         (LOOP, "prp;"),
         (LEFT, "ppr;"),
         (CALLS, "rpr;"),
@@ -195,6 +230,10 @@ fn each_verdict_holds_when_it_is_looked_at_again(rt: HostRuntime) -> Result<(), 
         (GUARDED, "rp;"),
         (FAR, "r;o;f;"),
         (LATER, "rp;"),
+        (FUNCTIONS, "prp;"),
+        (NESTED, "pr;"),
+        (OPENED, "pr;"),
+        (ARGUMENT, "a;"),
     ];
     for (text, want) in table {
         let Some(program) = judged_program(alloc, text) else {

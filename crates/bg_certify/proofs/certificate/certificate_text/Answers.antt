@@ -5,9 +5,9 @@ use Rattle.std.proofs.lemmas.Result.{IfOk-weaker}
 use Rattle.bg_text.specs.declared.expr.Name.{Name}
 use Rattle.bg_text.specs.Views.{id_of}
 use Rattle.bg_ast.specs.Resolved as r
-use Rattle.bg_ast.specs.Views.{program_of, declared_of}
+use Rattle.bg_ast.specs.Views.{program_of}
 use Rattle.bg_cert.specs.Walks.{no_instance}
-use Rattle.bg_certtext.specs.Views.{CertOf, given_of, section_of}
+use Rattle.bg_certtext.specs.Views.{CertOf, interp_of, section_of}
 use Rattle.bg_certtext.specs.Spellable.{is_spellable}
 use Rattle.bg_certtext.specs.Texts.{text_of}
 use Rattle.bg_certify.specs.Names.{names_in, HasOwnNames}
@@ -29,7 +29,7 @@ pub returns-then-is_spellable : goal.returns-then-is_spellable
 returns-then-is_spellable c =
     let o = c.args.outcome.now in
     let cert : CertOf = record {
-      interp = option_map (λ gs. map given_of gs.items) c.in_ok-interp_by.field-0;
+      interp = option_map interp_of c.in_ok-interp_by.field-0;
       retained = map (λ n. n.now) c.in_ok-retained_names.field-0.items;
       sections = map section_of c.in_ok-sections.field-0.items;
     } in
@@ -44,7 +44,7 @@ returns-then-is_spellable c =
       cert = cert;
       spellable = spells;
       written =
-          written placed_law inside_law above_law p o h once cert (map declared_of c.constants_of.result.now) c.constants_of.ensures c.in_ok-interp_by.ensures names c.in_ok-sections.ensures;
+          written placed_law inside_law above_law p o h once cert c.in_ok-interp_by.ensures names c.in_ok-sections.ensures;
       is = e;
     })
     c.write.ensures

@@ -11,41 +11,41 @@ unreachable-requires c =
     let p = program_of c.args.question.program.now in
     let t = (placed_of c.args.question.place.now).place in
     subst (Arm (meaning_of p) (has c.args.question.set.now) t c.args.cex) c.in-Ended.is
-    (arm_here c.replays_are_induction_runs.ensures c.blocks_are_typed.ensures p c.args.question.set.now t c.args.cex c.args.question.prepared.now c.requires.prepared c.deref.result.now c.deref-2.result.now c.deref-3.result.now c.deref-4.result.now c.in_ok-ending.ending c.requires.typed c.requires.scalars c.deref.ensures.value c.deref-2.ensures.value c.deref-3.ensures.value c.deref-4.ensures.value c.requires.fails c.in_ok-ending.ensures)
+    (arm_here c.replays_are_induction_runs.ensures c.blocks_are_typed.ensures p c.args.question.set.now t c.args.cex c.args.question.prepared.now c.requires.prepared c.deref.result.now c.deref-2.result.now c.deref-3.result.now c.deref-4.result.now c.deref-5.result.now c.in_ok-ending.ending c.requires.typed c.requires.scalars c.deref.ensures.value c.deref-2.ensures.value c.deref-3.ensures.value c.deref-4.ensures.value c.deref-5.ensures.value c.requires.fails c.in_ok-ending.ensures)
 
 pub unreachable-requires-in-Blocked : goal.unreachable-requires-in-Blocked
 unreachable-requires-in-Blocked c =
     let p = program_of c.args.question.program.now in
     let t = (placed_of c.args.question.place.now).place in
     subst (Arm (meaning_of p) (has c.args.question.set.now) t c.args.cex) c.in-Blocked.is
-    (arm_here c.replays_are_induction_runs.ensures c.blocks_are_typed.ensures p c.args.question.set.now t c.args.cex c.args.question.prepared.now c.requires.prepared c.deref.result.now c.deref-2.result.now c.deref-3.result.now c.deref-4.result.now c.in_ok-ending.ending c.requires.typed c.requires.scalars c.deref.ensures.value c.deref-2.ensures.value c.deref-3.ensures.value c.deref-4.ensures.value c.requires.fails c.in_ok-ending.ensures)
+    (arm_here c.replays_are_induction_runs.ensures c.blocks_are_typed.ensures p c.args.question.set.now t c.args.cex c.args.question.prepared.now c.requires.prepared c.deref.result.now c.deref-2.result.now c.deref-3.result.now c.deref-4.result.now c.deref-5.result.now c.in_ok-ending.ending c.requires.typed c.requires.scalars c.deref.ensures.value c.deref-2.ensures.value c.deref-3.ensures.value c.deref-4.ensures.value c.deref-5.ensures.value c.requires.fails c.in_ok-ending.ensures)
 
 pub unreachable-requires-in-BadChoice : goal.unreachable-requires-in-BadChoice
 unreachable-requires-in-BadChoice c =
     let p = program_of c.args.question.program.now in
     let t = (placed_of c.args.question.place.now).place in
     subst (Arm (meaning_of p) (has c.args.question.set.now) t c.args.cex) c.in-BadChoice.is
-    (arm_here c.replays_are_induction_runs.ensures c.blocks_are_typed.ensures p c.args.question.set.now t c.args.cex c.args.question.prepared.now c.requires.prepared c.deref.result.now c.deref-2.result.now c.deref-3.result.now c.deref-4.result.now c.in_ok-ending.ending c.requires.typed c.requires.scalars c.deref.ensures.value c.deref-2.ensures.value c.deref-3.ensures.value c.deref-4.ensures.value c.requires.fails c.in_ok-ending.ensures)
+    (arm_here c.replays_are_induction_runs.ensures c.blocks_are_typed.ensures p c.args.question.set.now t c.args.cex c.args.question.prepared.now c.requires.prepared c.deref.result.now c.deref-2.result.now c.deref-3.result.now c.deref-4.result.now c.deref-5.result.now c.in_ok-ending.ending c.requires.typed c.requires.scalars c.deref.ensures.value c.deref-2.ensures.value c.deref-3.ensures.value c.deref-4.ensures.value c.deref-5.ensures.value c.requires.fails c.in_ok-ending.ensures)
 
 pub unreachable-requires-in-NoScalars : goal.unreachable-requires-in-NoScalars
 unreachable-requires-in-NoScalars c =
     let p = program_of c.args.question.program.now in
     let t = (placed_of c.args.question.place.now).place in
     subst (Arm (meaning_of p) (has c.args.question.set.now) t c.args.cex) c.in-NoScalars.is
-    (arm_here c.replays_are_induction_runs.ensures c.blocks_are_typed.ensures p c.args.question.set.now t c.args.cex c.args.question.prepared.now c.requires.prepared c.deref.result.now c.deref-2.result.now c.deref-3.result.now c.deref-4.result.now c.in_ok-ending.ending c.requires.typed c.requires.scalars c.deref.ensures.value c.deref-2.ensures.value c.deref-3.ensures.value c.deref-4.ensures.value c.requires.fails c.in_ok-ending.ensures)
+    (arm_here c.replays_are_induction_runs.ensures c.blocks_are_typed.ensures p c.args.question.set.now t c.args.cex c.args.question.prepared.now c.requires.prepared c.deref.result.now c.deref-2.result.now c.deref-3.result.now c.deref-4.result.now c.deref-5.result.now c.in_ok-ending.ending c.requires.typed c.requires.scalars c.deref.ensures.value c.deref-2.ensures.value c.deref-3.ensures.value c.deref-4.ensures.value c.deref-5.ensures.value c.requires.fails c.in_ok-ending.ensures)
 
 pub returns-in-OutOfRange : goal.returns-in-OutOfRange
-returns-in-OutOfRange c budget =
+returns-in-OutOfRange c left instances leaf =
     let p = program_of c.args.question.program.now in
     let t = (placed_of c.args.question.place.now).place in
     let arm = subst (Arm (meaning_of p) (has c.args.question.set.now) t c.args.cex) c.in-OutOfRange.is
-    (arm_here c.replays_are_induction_runs.ensures c.blocks_are_typed.ensures p c.args.question.set.now t c.args.cex c.args.question.prepared.now c.requires.prepared c.deref.result.now c.deref-2.result.now c.deref-3.result.now c.deref-4.result.now c.in_ok-ending.ending c.requires.typed c.requires.scalars c.deref.ensures.value c.deref-2.ensures.value c.deref-3.ensures.value c.deref-4.ensures.value c.requires.fails c.in_ok-ending.ensures) in
-    (c.requires.leaf, (c.requires.fails, arm))
+    (arm_here c.replays_are_induction_runs.ensures c.blocks_are_typed.ensures p c.args.question.set.now t c.args.cex c.args.question.prepared.now c.requires.prepared c.deref.result.now c.deref-2.result.now c.deref-3.result.now c.deref-4.result.now c.deref-5.result.now c.in_ok-ending.ending c.requires.typed c.requires.scalars c.deref.ensures.value c.deref-2.ensures.value c.deref-3.ensures.value c.deref-4.ensures.value c.deref-5.ensures.value c.requires.fails c.in_ok-ending.ensures) in
+    (leaf, (c.requires.fails, arm))
 
 pub used_up-requires-clause-fails : goal.used_up-requires-clause-fails
 used_up-requires-clause-fails c =
     let p = program_of c.args.question.program.now in
     let t = (placed_of c.args.question.place.now).place in
     let arm = subst (Arm (meaning_of p) (has c.args.question.set.now) t c.args.cex) c.in-Failed.is
-    (arm_here c.replays_are_induction_runs.ensures c.blocks_are_typed.ensures p c.args.question.set.now t c.args.cex c.args.question.prepared.now c.requires.prepared c.deref.result.now c.deref-2.result.now c.deref-3.result.now c.deref-4.result.now c.in_ok-ending.ending c.requires.typed c.requires.scalars c.deref.ensures.value c.deref-2.ensures.value c.deref-3.ensures.value c.deref-4.ensures.value c.requires.fails c.in_ok-ending.ensures) in
+    (arm_here c.replays_are_induction_runs.ensures c.blocks_are_typed.ensures p c.args.question.set.now t c.args.cex c.args.question.prepared.now c.requires.prepared c.deref.result.now c.deref-2.result.now c.deref-3.result.now c.deref-4.result.now c.deref-5.result.now c.in_ok-ending.ending c.requires.typed c.requires.scalars c.deref.ensures.value c.deref-2.ensures.value c.deref-3.ensures.value c.deref-4.ensures.value c.deref-5.ensures.value c.requires.fails c.in_ok-ending.ensures) in
     (c.requires.fails, arm)

@@ -2,9 +2,10 @@ use Rattle.std.proofs.Common.{List, take, map}
 use Rattle.bg_ast.specs.Syntax.{Fun}
 use Rattle.bg_term_table.specs.Views.{terms_in}
 use Rattle.bg_incarnate.specs.Views.{edge_of}
-use Rattle.bg_flatten.specs.Makes.{MakesEdges}
+use Rattle.bg_flatten.specs.Numbered.{edge_behind, edge_numbered}
+use Rattle.bg_flatten.specs.Made.{AreMade}
 use Rattle.bg_flatten.proofs.blocks.edges.Given as goal
 
 abbrev pub invariant-loop-e : goal.invariant-loop-e
 invariant-loop-e l =
-    (fs : List Fun) → MakesEdges fs l.count (terms_in fs l.fn.terms.terms.items) (terms_in fs l.terms.terms.items) (map edge_of (take l.e-index l.es)) (map edge_of l.made.items)
+    (fs : List Fun) → AreMade (edge_behind fs l.count) (edge_numbered fs l.count) (map edge_of (take l.e-index l.es)) (terms_in fs l.fn.terms.terms.items) (map edge_of l.made.items) (terms_in fs l.terms.terms.items)

@@ -1,15 +1,22 @@
-use Rattle.std.proofs.Common.{map, subst}
+use Rattle.std.proofs.Common.{map, sym, ap, ◌∙◌}
 use Rattle.bg_incarnate.specs.Views.{passive_block_of}
 use Rattle.bg_term_table.specs.Views.{terms_in}
-use Rattle.bg_flatten.specs.Makes.{MakesBlocks}
-use Rattle.bg_flatten.proofs.Joined.{are_indexed, flattens}
+use Rattle.bg_flatten.specs.Numbered.{list_behind, list_numbered, block_behind, block_numbered}
 use Rattle.bg_flatten.proofs.whole.flattened.Goals as goal
 
-pub returns : goal.returns
-returns c =
+pub returns-clause-terms : goal.returns-clause-terms
+returns-clause-terms c =
+    let n = c.args.count in
+    let blocks = map passive_block_of c.args.blocks.now in
     λ fs.
-    let new = c.blocks_flat.new.terms.terms.items in
-    let source = map passive_block_of c.args.blocks.now in
-    let made = map passive_block_of c.in_ok-blocks.blocks.items in
-    flattens fs c.args.count (terms_in fs new) source made (are_indexed fs new)
-    (subst (λ ts. MakesBlocks fs c.args.count (terms_in fs ts) (terms_in fs new) source made) c.new-terms.ensures (c.in_ok-blocks.ensures fs))
+    ap (terms_in fs) c.into_terms.ensures
+    ∙ (c.in_ok-blocks.ensures fs).1
+    ∙ ap (λ ts. list_behind (block_behind fs n) blocks (terms_in fs ts)) c.new-terms.ensures
+
+pub returns-clause-blocks : goal.returns-clause-blocks
+returns-clause-blocks c =
+    let n = c.args.count in
+    let blocks = map passive_block_of c.args.blocks.now in
+    λ fs.
+    (c.in_ok-blocks.ensures fs).0
+    ∙ ap (λ ts. list_numbered (block_behind fs n) (block_numbered fs n) blocks (terms_in fs ts)) c.new-terms.ensures

@@ -2,14 +2,13 @@ use Rattle.std.proofs.Common.{rules, ◌≡◌, None, sym, subst}
 use Rattle.bg_text.specs.Tokens.{views}
 use Rattle.bg_ast.specs.Resolved.{Program}
 use Rattle.bg_ast.specs.Views.{program_of}
-use Rattle.bg_front.specs.Bodiless.{HaveBodies}
 use Rattle.bg_front.specs.Programs.{limit_of}
 use Rattle.bg_front.proofs.Large.{limit_is_refused}
 use Rattle.bg_front.proofs.text.counted.Goals as goal
 
 pub returns-in_err-program-clause-refused : goal.returns-in_err-program-clause-refused
 returns-in_err-program-clause-refused c =
-    let why = limit_is_refused c.args.guess c.args.bytes.now (views c.args.tokens.now) (program_of c.args.typed.program) c.in_err-program.field-0.0 c.requires.meant.0 c.requires.typed c.requires.judged (subst HaveBodies (sym c.requires.meant.1) c.requires.bodies) c.in_err-program.ensures.limit in
+    let why = limit_is_refused c.args.guess c.args.bytes.now (views c.args.tokens.now) (program_of c.args.typed.program) c.in_err-program.field-0.0 c.requires.meant.0 c.requires.typed c.requires.judged c.in_err-program.ensures.limit in
     search (rules, why)
 
 pub returns-clause-program : goal.returns-clause-program
@@ -20,7 +19,6 @@ returns-clause-program c = (
     spelled = c.requires.meant.0;
     typed = c.requires.typed;
     judged = c.requires.judged;
-    bodies = subst HaveBodies (sym c.requires.meant.1) c.requires.bodies;
     is = c.in_ok-program.ensures.made;
     within = subst (λ (p : Program). limit_of p ≡ None) (sym c.in_ok-program.ensures.made) c.in_ok-program.ensures.within;
   },

@@ -1,6 +1,8 @@
 use denote.Param.Send.{sendable}
+use Rattle.std.proofs.Common.{refl}
 use Rattle.bg_houdini.specs.Checkers.{meaning_in}
 use Rattle.bg_houdini.proofs.Shared.{judging_sync}
+use Rattle.bg_houdini.proofs.Blank.{blank_interp, blank_tables}
 use Rattle.bg_houdini.proofs.Whole.{true_outcome}
 use Rattle.bg_houdini.proofs.inference.infer.Goals as goal
 
@@ -10,5 +12,6 @@ infer-requires-sync-C g c κs within = search (judging_sync, sendable)
 pub returns : goal.returns
 returns g c =
     let h = c.in_ok-checker.ensures in
+    let q = meaning_in c.in_ok-checker.checker in
     true_outcome c.args.budget c.args.program.now c.in_ok-checker.checker (record { inferred = c.in_ok-inferred.inferred; verdicts = c.in_ok-verdicts.verdicts }) h.program h.budget
-    (c.no_interpretation_is_needed_for_scalars.ensures (meaning_in c.in_ok-checker.checker) h.stands.scalars) c.in_ok-inferred.ensures c.in_ok-verdicts.ensures
+    (blank_interp q) (c.tables_meet_programs_over_scalars.ensures q (blank_interp q) h.stands.scalars refl (blank_tables q.functions)) c.in_ok-inferred.ensures c.in_ok-verdicts.ensures

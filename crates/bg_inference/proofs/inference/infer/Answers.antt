@@ -1,14 +1,15 @@
-use Rattle.std.proofs.Common.{rules, ◌≡◌, true, sym, ap, ◌∙◌, subst}
+use Rattle.std.proofs.Common.{rules, ◌≡◌, true, map, sym, ap, ◌∙◌, subst}
 use Rattle.bg_ast.specs.Syntax.{Prog}
 use Rattle.bg_ast.specs.Resolved as r
 use Rattle.bg_ast.specs.Meaning.{meaning_of}
-use Rattle.bg_ast.specs.Views.{program_of, declared_of}
+use Rattle.bg_ast.specs.Views.{program_of, declared_of, fun_of}
 use Rattle.bg_sense.specs.Typed.{IsTyped}
 use Rattle.bg_sense.specs.Resolved.{IsResolved}
 use Rattle.bg_fits.specs.Scalars.{is_over_scalars}
 use Rattle.std.proofs.lemmas.List.{length-map}
 use Rattle.bg_houdini.specs.Outcomes as houdini
 use Rattle.bg_expanded.specs.Chains.{most_bodies}
+use Rattle.bg_inference.specs.Outcomes.{has_body}
 use Rattle.bg_inference.proofs.inference.infer.Goals as goal
 
 pub infer-requires-clause-typed : goal.infer-requires-clause-typed
@@ -32,6 +33,7 @@ returns g c =
     record {
       opened = c.in_ok-opened.ensures;
       globals = search (rules, c.len-globals.ensures, length-map c.args.program.globals.items declared_of);
+      bodies = c.in_ok-bodies.ensures ∙ ap (λ fs. map has_body (map fun_of fs)) c.deref.ensures.value;
       set = c.in_ok-axioms.ensures.0;
       axioms = c.in_ok-axioms.ensures.1;
       judged = subst (λ (q : r.Program). houdini.IsTrueOutcome c.args.budget q c.in_ok-judged.judged) c.in_ok-opened.ensures c.in_ok-judged.ensures;

@@ -1,4 +1,4 @@
-use Rattle.std.proofs.Common.{◌≡◌, map, length, true, sym, ap, ◌∙◌, rules}
+use Rattle.std.proofs.Common.{◌≡◌, map, length, true, refl, sym, ap, ◌∙◌, rules}
 use Rattle.std.specs.Prelude.{slice_get}
 use Rattle.std.proofs.lemmas.List.{length-map}
 use Rattle.bg_ast.specs.Meaning as m
@@ -11,6 +11,7 @@ use Rattle.bg_formed.specs.Views.{form_block_of}
 use Rattle.bg_places.specs.Views.{spot_of}
 use Rattle.bg_scalar.specs.Values.{val_of}
 use Rattle.bg_scalar.specs.Choices.{choice_of}
+use Rattle.bg_model.specs.Behind.{behind_front, stretch_of}
 use Rattle.bg_model.specs.Views.{set_of}
 use Rattle.bg_model.specs.Turns.{fails, turns, taken}
 use Rattle.bg_model.specs.Over.{walk_over}
@@ -20,8 +21,11 @@ use Rattle.bg_model.proofs.find.counterexample.Goals as goal
 
 pub returns-then-not-fails : goal.returns-then-not-fails
 returns-then-not-fails c =
-    denied_is (set_of c.args.set.now) (spot_of c.args.target) (bools_at c.args.valuation.truths.now) (map form_block_of c.args.routine.forms.now)
-    ∙ (ap (λ ts. fails (slice_get ts 0)) (sym c.in_ok-made.ensures) ∙ (sym c.fails.ensures ∙ c.if-not-fails.true))
+    let w = walk_over (set_of c.args.set.now) (spot_of c.args.target) (bools_at c.args.valuation.truths.now) in
+    let forms = behind_front c.args.routine.front (map form_block_of c.args.routine.forms.now) in
+    let walked : map stretch_of c.deref.result.now ≡ forms = ap (map stretch_of) c.deref.ensures.value ∙ c.in_ok-forms.ensures in
+    denied_is (set_of c.args.set.now) (spot_of c.args.target) (bools_at c.args.valuation.truths.now) forms
+    ∙ (ap (λ ts. fails (slice_get ts 0)) (sym (c.in_ok-made.ensures ∙ ap (turns w) walked)) ∙ (sym c.fails.ensures ∙ c.if-not-fails.true))
 
 pub returns : goal.returns
 returns c =
@@ -31,16 +35,22 @@ returns c =
     let vs = map val_of c.args.valuation.values.now in
     let p = program_of c.args.routine.program.now in
     let prog = meaning_of p in
-    let forms = map form_block_of c.args.routine.forms.now in
+    let forms = behind_front c.args.routine.front (map form_block_of c.args.routine.forms.now) in
     let firsts = c.args.routine.firsts.now in
     let w = walk_over set t truth in
     let bs = map (block_of p) c.args.routine.blocks.now in
     let on : c.fails.result ≡ true = search rules in
-    let fails_here : fails (slice_get (turns w forms) 0) ≡ true = ap (λ ts. fails (slice_get ts 0)) (sym c.in_ok-made.ensures) ∙ (sym c.fails.ensures ∙ on) in
-    let choices : map choice_of c.in_ok-choices.choices.items ≡ taken w vs bs forms firsts (turns w forms) 0 = c.in_ok-choices.ensures p ∙ ap (λ ts. taken w vs bs forms firsts ts 0) c.in_ok-made.ensures in
+    let walked : map stretch_of c.deref.result.now ≡ forms = ap (map stretch_of) c.deref.ensures.value ∙ c.in_ok-forms.ensures in
+    let again : map stretch_of c.deref-2.result.now ≡ forms = ap (map stretch_of) c.deref-2.ensures.value ∙ c.in_ok-forms.ensures in
+    let made : c.in_ok-made.made.items ≡ turns w forms = c.in_ok-made.ensures ∙ ap (turns w) walked in
+    let fails_here : fails (slice_get (turns w forms) 0) ≡ true = ap (λ ts. fails (slice_get ts 0)) (sym made) ∙ (sym c.fails.ensures ∙ on) in
+    let choices : map choice_of c.in_ok-choices.choices.items ≡ taken w vs bs forms firsts (turns w forms) 0 =
+    c.in_ok-choices.ensures p
+    ∙ (ap (λ fs. taken w vs bs fs firsts c.in_ok-made.made.items 0) again ∙ ap (λ ts. taken w vs bs forms firsts ts 0) made) in
     let many : c.count_globals-many.result ≡ length prog.globals = c.count_globals-many.ensures ∙ sym (length-map p.globals (m.decl_of (m.named_of p.types))) in (
       denied_is set t truth forms ∙ fails_here,
       record {
+        tables = refl;
         starts = λ k im pr s others later u. starts_at prog (frame_decls im pr) others s vs c.in_ok-globals.globals.items c.in_ok-frame.frame.items c.count_globals-many.result c.args.routine.frame u.values c.in_ok-globals.ensures c.in_ok-frame.ensures many u.frame_size;
         choices = choices;
         fails = λ i k im pr s others later u said none. fails_at set truth t vs prog i k im pr s others later bs c.args.routine.frame firsts forms (map choice_of c.in_ok-choices.choices.items) u said none choices fails_here;

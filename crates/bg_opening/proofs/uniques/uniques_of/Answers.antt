@@ -1,4 +1,4 @@
-use Rattle.std.proofs.Common.{◌≡◌, ℕ, suc, ◌+◌, Bool, false, ◌++◌, drop, map, Vec, Global, sym, ap, ◌∙◌, arith}
+use Rattle.std.proofs.Common.{◌≡◌, ℕ, suc, ◌+◌, false, ◌++◌, drop, map, Vec, Global, sym, ap, ◌∙◌, arith}
 use Rattle.bg_ast.specs.Meaning.{named_of, type_in}
 use Rattle.bg_ast.specs.Views.{type_of, type_name_of}
 use Rattle.bg_sense.specs.Types.{ty_eq}

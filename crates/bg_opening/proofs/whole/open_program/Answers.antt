@@ -22,4 +22,4 @@ returns c =
     ap (map declared_of) c.in_ok-append.ensures.items
     ∙ map-append declared_of q.globals.items c.in_ok-more.more.items
     ∙ ap (λ l. map declared_of q.globals.items ++ l) (c.in_ok-more.ensures ∙ ap (λ l. map w.global_for (map const_of l)) c.deref-5.ensures.value) in
-    whole_is c.args.depth c.in-Ok.globals p (map fun_of c.deref.result.now) (map ex_of c.deref-4.result.now) (map const_of c.new.result.items) (map declared_of c.append.new.self.items) (map fun_of c.new-2.result.items) (map ex_of c.new-3.result.items) (map proc_of c.open_procedures.new.qs.items) (map impl_of c.open_implementations.new.ms.items) many (ap (map fun_of) c.deref.ensures.value) told (ap (map const_of) c.new.ensures.items) (ap (map fun_of) c.new-2.ensures.items) (ap (map ex_of) c.new-3.ensures.items) globals c.in_ok-open_procedures.ensures c.in_ok-open_implementations.ensures
+    whole_is c.args.depth c.in-Ok.globals p (map fun_of c.deref.result.now) (map ex_of c.deref-4.result.now) (map const_of c.new.result.items) (map declared_of c.append.new.self.items) (map fun_of c.without_bodies.new.fs.items) (map ex_of c.new-2.result.items) (map proc_of c.open_procedures.new.qs.items) (map impl_of c.open_implementations.new.ms.items) many (ap (map fun_of) c.deref.ensures.value) told (ap (map const_of) c.new.ensures.items) c.without_bodies.ensures (ap (map ex_of) c.new-2.ensures.items) globals c.in_ok-open_procedures.ensures c.in_ok-open_implementations.ensures

@@ -4,9 +4,9 @@ use Rattle.bg_flow.specs.Core.{demands}
 use Rattle.bg_blocks.specs.Views.{clauses_in}
 use Rattle.bg_replay.specs.Said.{checks}
 use Rattle.bg_scalar.specs.Views.{seen_of}
-use Rattle.bg_replay.specs.Views.{set_of}
+use Rattle.bg_replay.specs.Views.{around_of}
 use Rattle.bg_replay.proofs.clauses.check.Given as goal
 
 abbrev pub invariant-loop-k : goal.invariant-loop-k
 invariant-loop-k l =
-    checks (set_of l.set) (seen_of l.sight) (demands (spot_in l.group) (clauses_in (drop l.k-index l.clauses))) ≡ checks (set_of l.set) (seen_of l.sight) (demands (spot_in l.group) (clauses_in l.clauses))
+    checks (around_of l.around).set (seen_of l.sight) (demands (spot_in l.group) (clauses_in (drop l.k-index l.clauses))) ≡ checks (around_of l.around).set (seen_of l.sight) (demands (spot_in l.group) (clauses_in l.clauses))

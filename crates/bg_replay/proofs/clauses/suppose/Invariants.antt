@@ -4,9 +4,9 @@ use Rattle.bg_blocks.specs.Views.{clauses_in}
 use Rattle.bg_replay.specs.Said.{supposes}
 use Rattle.bg_replay.specs.Kept.{which_of}
 use Rattle.bg_scalar.specs.Views.{seen_of}
-use Rattle.bg_replay.specs.Views.{set_of}
+use Rattle.bg_replay.specs.Views.{around_of}
 use Rattle.bg_replay.proofs.clauses.suppose.Given as goal
 
 abbrev pub invariant-loop-k : goal.invariant-loop-k
 invariant-loop-k l =
-    supposes (set_of l.set) (seen_of l.sight) (sayings (which_of l.which) (clauses_in (drop l.k-index l.clauses))) ≡ supposes (set_of l.set) (seen_of l.sight) (sayings (which_of l.which) (clauses_in l.clauses))
+    supposes (around_of l.around).set (seen_of l.sight) (sayings (which_of l.which) (clauses_in (drop l.k-index l.clauses))) ≡ supposes (around_of l.around).set (seen_of l.sight) (sayings (which_of l.which) (clauses_in l.clauses))

@@ -1,52 +1,77 @@
-use Rattle.std.proofs.Common.{◌≡◌, ◌<◌, true, false, length, map, sym, ap, ◌∙◌, arith}
+use Rattle.std.proofs.Common.{◌≡◌, ◌<◌, true, false, [], length, map, sym, ap, ◌∙◌, arith}
 use Rattle.std.specs.Prelude.{is_some}
 use Rattle.std.proofs.lemmas.List.{length-map}
 use Rattle.bg_ast.specs.Meaning.{meaning_of, named_of}
 use Rattle.bg_ast.specs.Meaning as mean
 use Rattle.bg_ast.specs.Views.{program_of, impl_of}
 use Rattle.bg_incarnate.specs.Views.{passive_block_of}
-use Rattle.bg_task.specs.Prepared.{encoding_over}
-use Rattle.bg_task.proofs.Prepares.{there, many, passives_made, sorted_here, encodes, made_here, encodes_some, exact_some, listed_some, own_here}
+use Rattle.bg_term_table.specs.Views as table
+use Rattle.bg_task.proofs.LawTypes.{sort_law}
+use Rattle.bg_task.proofs.Prepares.{there, many, impl_is, proc_is, passives_made, made_here, encodes_some, exact_some, listed_some, own_here, sorted_own}
+use Rattle.bg_task.proofs.Preparing.{terms_are, flats_are, plain_here, no_functions, sorts_all, behind_none}
 use Rattle.bg_task.proofs.prepared.prepare.Goals as goal
 
 pub unreachable-requires : goal.unreachable-requires
 unreachable-requires c =
     let p = program_of c.args.program.now in
+    let P = meaning_of p in
+    let n = c.args.number in
     let e = length-map c.args.program.now.implementations.items impl_of in
     let l = c.requires.there in
-    let lt : c.args.number < length p.implementations = omega (arith, e, l) in
-    let t = there p c.args.number lt c.requires.typed in
+    let lt : n < length p.implementations = omega (arith, e, l) in
+    let t = there p n lt c.requires.typed in
+    let m = mean.impl_of (named_of p.types) t.implementation in
+    let q = mean.proc_of (named_of p.types) t.procedure in
+    let im = impl_is p n t.implementation t.procedure t.impl_there t.proc_there in
+    let pr = proc_is p n t.implementation t.procedure t.impl_there t.proc_there in
     let evens = c.blocks_over_scalars_are_even.ensures in
     let many_are : c.len.result ≡ length c.in_ok-frame.frame.items = omega (arith, c.len.ensures, c.in_ok-frame.frame.ok) in
     let made = c.in_ok-blocks.ensures t.implementation t.procedure t.impl_there t.proc_there in
     let frame = c.in_ok-frame.ensures t.implementation t.procedure t.impl_there t.proc_there in
-    let x = made_here p c.args.number t.implementation t.procedure t.impl_there t.proc_there evens c.requires.typed c.requires.scalars c.in_ok-blocks.blocks.items made c.in_ok-frame.frame.items c.deref-2.result.now c.len.result c.deref.result.now c.deref-3.result.now c.in_ok-passive.passive c.in_ok-sorts.sorts.items frame c.deref-2.ensures.value many_are c.deref.ensures.value c.deref-3.ensures.value
-    (λ rs k. (c.in_ok-passive.ensures.arrivals rs k, (c.in_ok-passive.ensures.counted rs k, record { blocks = c.in_ok-passive.ensures.blocks rs k; firsts = c.in_ok-passive.ensures.firsts rs k }))) c.in_ok-sorts.ensures.sorts in
-    let passives = ap (map passive_block_of) c.deref-5.ensures.value ∙ passives_made p c.args.number t.implementation t.procedure t.impl_there t.proc_there evens c.requires.typed c.requires.scalars c.in_ok-blocks.blocks.items made c.in_ok-passive.passive x.0 in
-    let sorted = sorted_here p c.args.number t.implementation t.procedure t.impl_there t.proc_there evens c.requires.typed c.requires.scalars c.in_ok-blocks.blocks.items made c.passive_blocks_have_sorts.ensures c.deref-4.result.now c.in_ok-candidates.candidates (map passive_block_of c.deref-5.result.now) (c.deref-4.ensures.value ∙ x.1) c.in_ok-candidates.ensures passives in
+    let x = made_here p n t.implementation t.procedure t.impl_there t.proc_there evens c.requires.typed c.requires.scalars c.in_ok-blocks.blocks.items made c.in_ok-frame.frame.items c.deref-2.result.now c.len.result c.deref.result.now c.deref-3.result.now c.in_ok-passive.passive c.in_ok-incarnations.incarnations.items frame c.deref-2.ensures.value many_are c.deref.ensures.value c.deref-3.ensures.value
+    (λ rs k. (c.in_ok-passive.ensures.arrivals rs k, (c.in_ok-passive.ensures.counted rs k, record { blocks = c.in_ok-passive.ensures.blocks rs k; firsts = c.in_ok-passive.ensures.firsts rs k }))) c.in_ok-incarnations.ensures.sorts in
+    let ps = map passive_block_of c.in_ok-passive.passive.blocks.items in
+    let passives = passives_made p n t.implementation t.procedure t.impl_there t.proc_there evens c.requires.typed c.requires.scalars c.in_ok-blocks.blocks.items made c.in_ok-passive.passive x.0 in
+    let plain = λ (none : p.functions ≡ []). plain_here P n m q c.in_ok-passive.passive.count ps x.1.1 passives c.implementations_without_functions_stay.ensures.plain c.requires.typed im pr (no_functions p none) in
+    let terms = terms_are P n m q c.in_ok-passive.passive.count ps x.1.1 passives (table.terms_in P.functions c.in_ok-terms.field-0.terms.items) (c.in_ok-terms.ensures.terms plain P.functions) in
+    let flats = flats_are P n m q c.in_ok-passive.passive.count ps x.1.1 passives (map passive_block_of c.in_ok-terms.field-0.blocks.items) (c.in_ok-terms.ensures.blocks plain P.functions) in
+    let sorts = sorts_all c.implementations_over_scalars_have_scalars.ensures.sorts P n m q c.requires.typed c.requires.scalars im pr c.in_ok-incarnations.incarnations.items (table.terms_in P.functions c.deref-4.result.now) c.in_ok-sorts.sorts.items x.1.0 (ap (table.terms_in P.functions) c.deref-4.ensures.value ∙ terms) c.in_ok-sorts.ensures in
+    let blocks = behind_none P n m q (map passive_block_of c.deref-6.result.now) (ap (map passive_block_of) c.deref-6.ensures.value ∙ flats) in
+    let law = sort_law c.programs_over_scalars_are_tabled.ensures c.implementations_over_scalars_have_scalars.ensures.mapless c.implementations_over_scalars_have_scalars.ensures.linear c.blocks_behind_instances_are_sorted.ensures in
+    let sorted = sorted_own law P n m q [] c.requires.typed c.requires.scalars im pr c.deref-5.result.now c.in_ok-candidates.candidates (map passive_block_of c.deref-6.result.now) (c.deref-5.ensures.value ∙ sorts) c.in_ok-candidates.ensures blocks in
     let bad : false ≡ true = sym (ap is_some c.in_default.is) ∙ (c.in_ok-atoms.ensures.none ∙ sorted) in
     cc
 
 pub returns : goal.returns
 returns c =
     let p = program_of c.args.program.now in
+    let P = meaning_of p in
+    let n = c.args.number in
     let e = length-map c.args.program.now.implementations.items impl_of in
     let l = c.requires.there in
-    let lt : c.args.number < length p.implementations = omega (arith, e, l) in
-    let t = there p c.args.number lt c.requires.typed in
+    let lt : n < length p.implementations = omega (arith, e, l) in
+    let t = there p n lt c.requires.typed in
+    let m = mean.impl_of (named_of p.types) t.implementation in
+    let q = mean.proc_of (named_of p.types) t.procedure in
+    let im = impl_is p n t.implementation t.procedure t.impl_there t.proc_there in
+    let pr = proc_is p n t.implementation t.procedure t.impl_there t.proc_there in
     let evens = c.blocks_over_scalars_are_even.ensures in
     let many_are : c.len.result ≡ length c.in_ok-frame.frame.items = omega (arith, c.len.ensures, c.in_ok-frame.frame.ok) in
     let made = c.in_ok-blocks.ensures t.implementation t.procedure t.impl_there t.proc_there in
     let frame = c.in_ok-frame.ensures t.implementation t.procedure t.impl_there t.proc_there in
-    let x = made_here p c.args.number t.implementation t.procedure t.impl_there t.proc_there evens c.requires.typed c.requires.scalars c.in_ok-blocks.blocks.items made c.in_ok-frame.frame.items c.deref-2.result.now c.len.result c.deref.result.now c.deref-3.result.now c.in_ok-passive.passive c.in_ok-sorts.sorts.items frame c.deref-2.ensures.value many_are c.deref.ensures.value c.deref-3.ensures.value
-    (λ rs k. (c.in_ok-passive.ensures.arrivals rs k, (c.in_ok-passive.ensures.counted rs k, record { blocks = c.in_ok-passive.ensures.blocks rs k; firsts = c.in_ok-passive.ensures.firsts rs k }))) c.in_ok-sorts.ensures.sorts in
-    let passives = ap (map passive_block_of) c.deref-5.ensures.value ∙ passives_made p c.args.number t.implementation t.procedure t.impl_there t.proc_there evens c.requires.typed c.requires.scalars c.in_ok-blocks.blocks.items made c.in_ok-passive.passive x.0 in
-    let sorts = c.deref-4.ensures.value ∙ x.1 in
-    let whole = encodes_some c.deref-4.result.now c.in_ok-candidates.candidates (map passive_block_of c.deref-5.result.now) c.in_ok-atoms.field-0 c.in-Some.atoms c.in-Some.is c.in_ok-atoms.ensures.first c.in_ok-atoms.ensures.terms c.in_ok-atoms.ensures.said c.in_ok-atoms.ensures.below c.in_ok-atoms.ensures.rows c.in_ok-atoms.ensures.denials c.in_ok-atoms.ensures.inside in
-    let exact = exact_some c.deref-4.result.now (map passive_block_of c.deref-5.result.now) c.in_ok-atoms.field-0 c.in-Some.atoms c.in-Some.is c.in_ok-atoms.ensures.exact in
-    let listed = listed_some c.deref-4.result.now (map passive_block_of c.deref-5.result.now) c.in_ok-atoms.field-0 c.in-Some.atoms c.in-Some.is c.in_ok-atoms.ensures.listed in
-    let encoding = encodes p c.args.number t.implementation t.procedure t.impl_there t.proc_there evens c.requires.typed c.requires.scalars c.in_ok-blocks.blocks.items made c.deref-4.result.now c.in_ok-candidates.candidates (map passive_block_of c.deref-5.result.now) (encoding_over c.in_ok-candidates.candidates c.in-Some.atoms) sorts c.in_ok-candidates.ensures passives whole in
-    let declared = many p c.args.number t.implementation t.procedure t.impl_there t.proc_there c.in_ok-frame.frame.items frame in
+    let x = made_here p n t.implementation t.procedure t.impl_there t.proc_there evens c.requires.typed c.requires.scalars c.in_ok-blocks.blocks.items made c.in_ok-frame.frame.items c.deref-2.result.now c.len.result c.deref.result.now c.deref-3.result.now c.in_ok-passive.passive c.in_ok-incarnations.incarnations.items frame c.deref-2.ensures.value many_are c.deref.ensures.value c.deref-3.ensures.value
+    (λ rs k. (c.in_ok-passive.ensures.arrivals rs k, (c.in_ok-passive.ensures.counted rs k, record { blocks = c.in_ok-passive.ensures.blocks rs k; firsts = c.in_ok-passive.ensures.firsts rs k }))) c.in_ok-incarnations.ensures.sorts in
+    let ps = map passive_block_of c.in_ok-passive.passive.blocks.items in
+    let passives = passives_made p n t.implementation t.procedure t.impl_there t.proc_there evens c.requires.typed c.requires.scalars c.in_ok-blocks.blocks.items made c.in_ok-passive.passive x.0 in
+    let plain = λ (none : p.functions ≡ []). plain_here P n m q c.in_ok-passive.passive.count ps x.1.1 passives c.implementations_without_functions_stay.ensures.plain c.requires.typed im pr (no_functions p none) in
+    let terms = terms_are P n m q c.in_ok-passive.passive.count ps x.1.1 passives (table.terms_in P.functions c.in_ok-terms.field-0.terms.items) (c.in_ok-terms.ensures.terms plain P.functions) in
+    let flats = flats_are P n m q c.in_ok-passive.passive.count ps x.1.1 passives (map passive_block_of c.in_ok-terms.field-0.blocks.items) (c.in_ok-terms.ensures.blocks plain P.functions) in
+    let sorts = sorts_all c.implementations_over_scalars_have_scalars.ensures.sorts P n m q c.requires.typed c.requires.scalars im pr c.in_ok-incarnations.incarnations.items (table.terms_in P.functions c.deref-4.result.now) c.in_ok-sorts.sorts.items x.1.0 (ap (table.terms_in P.functions) c.deref-4.ensures.value ∙ terms) c.in_ok-sorts.ensures in
+    let blocks = behind_none P n m q (map passive_block_of c.deref-6.result.now) (ap (map passive_block_of) c.deref-6.ensures.value ∙ flats) in
+    let encoding = encodes_some c.deref-5.result.now c.in_ok-candidates.candidates (map passive_block_of c.deref-6.result.now) c.in_ok-atoms.field-0 c.in-Some.atoms c.in-Some.is c.in_ok-atoms.ensures.first c.in_ok-atoms.ensures.terms c.in_ok-atoms.ensures.said c.in_ok-atoms.ensures.below c.in_ok-atoms.ensures.rows c.in_ok-atoms.ensures.denials c.in_ok-atoms.ensures.inside in
+    let exact = exact_some c.deref-5.result.now (map passive_block_of c.deref-6.result.now) c.in_ok-atoms.field-0 c.in-Some.atoms c.in-Some.is c.in_ok-atoms.ensures.exact in
+    let listed = listed_some c.deref-5.result.now (map passive_block_of c.deref-6.result.now) c.in_ok-atoms.field-0 c.in-Some.atoms c.in-Some.is c.in_ok-atoms.ensures.listed in
+    let declared = many p n t.implementation t.procedure t.impl_there t.proc_there c.in_ok-frame.frame.items frame in
     record {
       implementation = t.implementation;
       procedure = t.procedure;
@@ -55,6 +80,9 @@ returns c =
       frame = omega (arith, c.len-2.ensures, c.in_ok-frame.frame.ok.0, declared);
       blocks = made;
       firsts = x.0.firsts;
-      sorts = x.1;
-      own = own_here (meaning_of p) c.args.number (mean.impl_of (named_of p.types) t.implementation) (mean.proc_of (named_of p.types) t.procedure) c.deref-4.result.now c.in_ok-candidates.candidates (map passive_block_of c.deref-5.result.now) c.in-Some.atoms sorts c.in_ok-candidates.ensures passives encoding exact listed;
+      count = x.1.1;
+      terms = terms;
+      flats = λ some. ap (λ v. map passive_block_of v.items) (c.kept-flats.ensures (λ none. some (sym c.deref-7.ensures.value ∙ none))) ∙ flats;
+      sorts = sorts;
+      own = own_here P n m q [] c.deref-5.result.now c.in_ok-candidates.candidates (map passive_block_of c.deref-6.result.now) c.in-Some.atoms (c.deref-5.ensures.value ∙ sorts) c.in_ok-candidates.ensures blocks encoding exact listed;
     }

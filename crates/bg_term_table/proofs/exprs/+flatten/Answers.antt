@@ -1,113 +1,245 @@
-use Rattle.std.proofs.Common.{sym, ap, subst, ◌∙◌, [], ◌∷◌, ◌++◌}
-use Rattle.std.proofs.lemmas.List.{take_all}
+use mir.Syntax.{w128}
+use Rattle.std.proofs.Common.{rules, SFits, to_z, of_z, to_z-of_z, ◌≡◌, ◌+◌, ◌-◌, ◌<◌, ◌≤◌, [], ◌∷◌, ◌++◌, length, take, drop, refl, sym, ap, ◌∙◌, subst, arith}
+use Rattle.std.specs.Prelude.{reverse}
+use Rattle.std.proofs.lemmas.Bool.Decides.{nat_tests}
+use Rattle.std.proofs.lemmas.List.{take_all, take_rest, drop_all}
 use Rattle.std.proofs.lemmas.Result.{IfOk-weaker}
+use Rattle.bg_ast.specs.Syntax.{Number, Read, Local}
+use Rattle.bg_ast.specs.Views.{ex_of}
 use Rattle.bg_ast.specs.declared.resolved.Expr.TheVariants as expr
 use Rattle.bg_term_table.specs.Views.{meaning, meanings, operand_meaning, operands, sign_in, signs, terms_in}
-use Rattle.bg_term_table.specs.Made.{MakesFlat, MakesAllFlat}
+use Rattle.bg_term_table.specs.Chains.{is_implies}
+use Rattle.bg_term_table.specs.Until.{until_implies}
+use Rattle.bg_term_table.specs.Made.{IsMade, AreMade, AreTurned, AreLinked}
 use Rattle.bg_term_table.proofs.Means.{meaning-Apply}
-use Rattle.bg_term_table.proofs.Steps.{made_old}
-use Rattle.bg_term_table.proofs.Forms.{prefix_made, chain_made, postfix_made}
-use Rattle.bg_term_table.proofs.Loops.{read_more, read_last, all_step}
+use Rattle.bg_term_table.proofs.Loops.{read_more, read_last}
+use Rattle.bg_term_table.proofs.Until.{turned_end, until_behind, turned_at}
+use Rattle.bg_term_table.proofs.Steps.{turned_none, turned_one, turn_none, turn_one, last_first, begun_none, begun_anew, at_turned, at_other, linking_start, linking_step, linking_end}
+use Rattle.bg_term_table.proofs.Forms.{postfix_bare, prefix_made, postfix_stays, chain_made, each_more, apply_made}
 use Rattle.bg_term_table.proofs.exprs.+flatten.Goals as goal
+
+pub turn-returns-then-not-is_explies : goal.turn-returns-then-not-is_explies
+turn-returns-then-not-is_explies t c =
+    λ fs.
+    turn_none fs c.args.count c.args.l.now (reverse (meanings c.args.made.now.items)) (terms_in fs c.args.terms.now.terms.items) (sym c.is_explies.ensures ∙ c.if-not-is_explies.true)
+
+pub turn-returns : goal.turn-returns
+turn-returns t c =
+    λ fs.
+    turn_one fs c.args.count c.args.l.now (reverse (meanings c.args.made.now.items)) (reverse (meanings c.push.new.self.items)) (terms_in fs c.args.terms.now.terms.items) (terms_in fs c.expr.new.terms.terms.items) (meaning c.in_ok-x.x) (sym c.is_explies.ensures ∙ c.if-not-is_explies.false) (c.in_ok-x.ensures fs) (last_first c.args.made.now.items c.push.new.self.items c.in_ok-x.x c.in_ok-push.ensures.items)
+
+pub turned-loop-i-init : goal.turned-loop-i-init
+turned-loop-i-init t c =
+    let links = c.args.links.now in
+    let from = c.args.from in
+    let u = c.until_implies.result in
+    let part = take_rest links from in
+    let last : u ≡ until_implies (drop from links) = c.until_implies.ensures.until ∙ ap until_implies part in (
+      omega arith,
+      omega (arith, last),
+      let h = until_behind links from c.requires in omega (arith, h, last),
+      λ fs. turned_none fs c.args.count (drop (from + u) links) (terms_in fs c.args.terms.now.terms.items) (terms_in fs c.args.terms.now.terms.items) (reverse (meanings c.new-made.result.items)) (turned_end links (take (length links - from) (drop from links)) from u part c.until_implies.ensures.until) (ap (λ l. reverse (meanings l)) c.new-made.ensures.items) refl,
+    )
+
+pub turned-loop-i-preserved : goal.turned-loop-i-preserved
+turned-loop-i-preserved t c =
+    let links = c.args.links.now in
+    let from = c.args.from in
+    let i = c.loop-i.i in
+    let l = c.index-links-i.result in
+    let more : from < i = c.loop-i-test.true in
+    let at : i - 1 + 1 ≡ i = omega (arith, more) in
+    let le : from ≤ i - 1 = omega (arith, more) in (
+      le,
+      omega (arith, c.loop-i.invariant.1),
+      omega (arith, c.loop-i.invariant.2),
+      λ fs. turned_one fs c.args.count l (drop (i - 1) links) (drop i links) (terms_in fs c.args.terms.now.terms.items) (terms_in fs c.loop-i.terms.terms.items) (terms_in fs c.turn.new.terms.terms.items) (reverse (meanings c.loop-i.made.items)) (reverse (meanings c.turn.new.made.items)) (turned_at links from (i - 1) i l c.requires at le c.loop-i.invariant.1 c.index-links-i.is) (c.loop-i.invariant.3 fs) (c.in_ok-turn.ensures fs),
+    )
+
+pub turned-returns : goal.turned-returns
+turned-returns t c =
+    let end : c.loop-i.i ≡ c.args.from = omega (arith, c.loop-i.invariant.0) in
+    λ fs.
+    subst (λ j. AreTurned fs c.args.count (drop j c.args.links.now) (terms_in fs c.args.terms.now.terms.items) (reverse (meanings c.loop-i.made.items)) (terms_in fs c.loop-i.terms.terms.items)) end (c.loop-i.invariant.3 fs)
+
+pub begin-returns-then-not-is_implies : goal.begin-returns-then-not-is_implies
+begin-returns-then-not-is_implies t c =
+    λ fs.
+    begun_none fs c.args.count c.args.i c.args.links.now c.index-links-i.result c.requires c.index-links-i.is (reverse (meanings c.args.made.now.items)) (terms_in fs c.args.terms.now.terms.items) (ap (λ y. is_implies y.sign) c.index-links-i.is ∙ sym c.is_implies.ensures ∙ c.if-not-is_implies.true)
+
+pub begin-returns : goal.begin-returns
+begin-returns t c =
+    λ fs.
+    begun_anew fs c.args.count c.args.i c.args.links.now c.index-links-i.result c.requires c.index-links-i.is (reverse (meanings c.args.made.now.items)) (terms_in fs c.args.terms.now.terms.items) _ (terms_in fs c.turned.new.terms.terms.items) (ap (λ y. is_implies y.sign) c.index-links-i.is ∙ sym c.is_implies.ensures ∙ c.if-not-is_implies.false) (c.in_ok-made.ensures fs)
+
+pub operand-returns-then-is_explies : goal.operand-returns-then-is_explies
+operand-returns-then-is_explies t c =
+    λ fs.
+    at_turned fs c.args.count c.args.links.now c.args.i c.index-links-i.result c.requires c.index-links-i.is (reverse (meanings c.args.made.now.items)) (terms_in fs c.args.terms.now.terms.items) (meaning c.last.result) (reverse (meanings c.last.new.made.items)) (sym c.is_explies.ensures ∙ c.if-is_explies.true) c.last.ensures.first c.last.ensures.others
+
+pub operand-returns : goal.operand-returns
+operand-returns t c =
+    IfOk-weaker c.expr.result _ _
+    (λ x m. λ fs.
+    at_other fs c.args.count c.args.links.now c.args.i c.index-links-i.result c.requires c.index-links-i.is (reverse (meanings c.args.made.now.items)) (terms_in fs c.args.terms.now.terms.items) (terms_in fs c.begin.new.terms.terms.items) (terms_in fs c.expr.new.terms.terms.items) (meaning x) (reverse (meanings c.begin.new.made.items)) (sym c.is_explies.ensures ∙ c.if-is_explies.false) (c.in_ok-begin.ensures fs) (m fs))
+    c.expr.ensures
+
+pub links_behind-loop-i-init : goal.links_behind-loop-i-init
+links_behind-loop-i-init t c = (
+  λ fs. linking_start fs c.args.count c.args.links.now (reverse (meanings c.args.before.items)) (terms_in fs c.args.terms.now.terms.items) (operands c.new-made.result.items) (ap operands c.new-made.ensures.items),
+  ap signs c.new-made.ensures.items,
+)
+
+pub links_behind-loop-i-preserved : goal.links_behind-loop-i-preserved
+links_behind-loop-i-preserved t c =
+    let links = c.args.links.now in
+    let i = c.loop-i.i in
+    let l = c.index-links-i.result in
+    let x = c.in_ok-operand.operand in (
+      λ fs.
+          linking_step fs c.args.count links (drop i links) (drop (i + 1) links) (reverse (meanings c.args.before.items)) (terms_in fs c.args.terms.now.terms.items) (operands c.loop-i.made.items) (operands c.push.new.self.items) (reverse (meanings c.loop-i.before.items)) (reverse (meanings c.operand.new.made.items)) (terms_in fs c.loop-i.terms.terms.items) (terms_in fs c.operand.new.terms.terms.items) (meaning x) (read_last operand_meaning c.push.new.self.items c.loop-i.made.items (record { pos = l.pos; sign = l.sign; operand = x }) c.in_ok-push.ensures.items) (c.loop-i.invariant.0 fs) (c.in_ok-operand.ensures fs),
+      read_last sign_in c.push.new.self.items c.loop-i.made.items (record { pos = l.pos; sign = l.sign; operand = x }) c.in_ok-push.ensures.items
+          ∙ ap (λ gs. gs ++ l.sign ∷ []) c.loop-i.invariant.1
+          ∙ sym (read_more sign_in links i l c.loop-i-test.true c.index-links-i.is),
+    )
+
+pub links_behind-returns-clause-operands : goal.links_behind-returns-clause-operands
+links_behind-returns-clause-operands t c =
+    let links = c.args.links.now in
+    λ fs.
+    linking_end fs c.args.count links (drop c.loop-i.i links) (reverse (meanings c.args.before.items)) (terms_in fs c.args.terms.now.terms.items) (operands c.loop-i.made.items) (reverse (meanings c.loop-i.before.items)) (terms_in fs c.loop-i.terms.terms.items) (drop_all c.loop-i.i links c.loop-i-test.false) (c.loop-i.invariant.0 fs)
+
+pub links_behind-returns-clause-signs : goal.links_behind-returns-clause-signs
+links_behind-returns-clause-signs t c = c.loop-i.invariant.1 ∙ ap signs (take_all c.loop-i.i c.args.links.now c.loop-i-test.false)
 
 pub expr-returns-in-Constant : goal.expr-returns-in-Constant
 expr-returns-in-Constant t c =
     λ fs.
     let old = terms_in fs c.args.terms.now.terms.items in
-    subst (λ e. MakesFlat fs c.args.count old old (meaning e) (meaning c.constant.result)) (sym c.in-Constant.is) (c.constant.ensures fs c.args.count old)
+    let d = c.in-Constant in
+    subst (λ e. IsMade fs c.args.count (meaning e) old (meaning (expr.Constant d.pos d.k)) old) (sym d.is) (refl, refl)
+
+pub expr-returns-in-Number : goal.expr-returns-in-Number
+expr-returns-in-Number t c =
+    λ fs.
+    let old = terms_in fs c.args.terms.now.terms.items in
+    let d = c.in-Number in
+    let fits : SFits w128 d.n = search rules in
+    subst (λ e. IsMade fs c.args.count (meaning e) old (Number (to_z w128 (of_z w128 d.n))) old) (sym d.is) (ap Number (to_z-of_z fits), refl)
+
+pub expr-returns-in-Truth : goal.expr-returns-in-Truth
+expr-returns-in-Truth t c =
+    λ fs.
+    let old = terms_in fs c.args.terms.now.terms.items in
+    let d = c.in-Truth in
+    subst (λ e. IsMade fs c.args.count (meaning e) old (meaning (expr.Truth d.pos d.b)) old) (sym d.is) (refl, refl)
 
 pub expr-returns-in-Read : goal.expr-returns-in-Read
 expr-returns-in-Read t c =
     λ fs.
     let old = terms_in fs c.args.terms.now.terms.items in
-    subst (λ e. MakesFlat fs c.args.count old old (meaning e) (meaning c.read.result)) (sym c.in-Read.is) (c.read.ensures fs c.args.count old)
+    let d = c.in-Read in
+    subst (λ e. IsMade fs c.args.count (meaning e) old (meaning (expr.Read d.pos d.x)) old) (sym d.is) (refl, refl)
 
-pub expr-returns-in_ok-args-in-Apply : goal.expr-returns-in_ok-args-in-Apply
-expr-returns-in_ok-args-in-Apply t c =
+pub expr-returns-in_ok-j-in-Apply : goal.expr-returns-in_ok-j-in-Apply
+expr-returns-in_ok-j-in-Apply t c =
     let d = c.in-Apply in
-    IfOk-weaker c.applied.result _ _
-    (λ x m. λ fs.
+    let j = c.in_ok-j-in-Apply.j in
+    let xs = meanings c.in_ok-args-in-Apply.args.items in
+    λ fs.
+    let n = c.args.count in
     let old = terms_in fs c.args.terms.now.terms.items in
     let mid = terms_in fs c.exprs.new.terms.terms.items in
-    let new = terms_in fs c.applied.new.terms.terms.items in
-    let all = subst (λ l. MakesAllFlat fs c.args.count old mid (meanings l) (meanings c.in_ok-args-in-Apply.args.items)) c.deref.ensures.value (c.in_ok-args-in-Apply.ensures fs) in
-    subst (λ e. MakesFlat fs c.args.count old new (meaning e) (meaning x)) (sym d.is) (subst (λ e. MakesFlat fs c.args.count old new e (meaning x)) (sym (meaning-Apply d.pos d.function d.args)) (m fs old (meanings d.args.items) all)))
-    c.applied.ensures
+    let new = terms_in fs c.applied.new.self.terms.items in
+    let all = subst (λ l. AreMade fs n (meanings l) old xs mid) c.deref.ensures.value (c.in_ok-args-in-Apply.ensures fs) in
+    subst (λ e. IsMade fs n (meaning e) old (Read (Local j)) new) (sym d.is) (subst (λ e. IsMade fs n e old (Read (Local j)) new) (sym (meaning-Apply d.pos d.function d.args)) (apply_made fs n old mid new d.function j (meanings d.args.items) xs all (c.in_ok-j-in-Apply.ensures.number fs) (c.in_ok-j-in-Apply.ensures.table fs)))
 
 pub expr-returns-in-Old : goal.expr-returns-in-Old
 expr-returns-in-Old t c =
     IfOk-weaker c.expr.result _ _
     (λ x m. λ fs.
+    let n = c.args.count in
     let old = terms_in fs c.args.terms.now.terms.items in
     let new = terms_in fs c.expr.new.terms.terms.items in
-    let inner = subst (λ e. MakesFlat fs c.args.count old new (meaning e) (meaning x)) c.deref-in-Old.ensures (m fs) in
-    subst (λ e. MakesFlat fs c.args.count old new (meaning e) (meaning x)) (sym c.in-Old.is) (made_old fs c.args.count old new (meaning c.in-Old.e.value) (meaning x) inner))
+    let inner = subst (λ e. IsMade fs n (meaning e) old (meaning x) new) c.deref-in-Old.ensures (m fs) in
+    subst (λ e. IsMade fs n (meaning e) old (meaning x) new) (sym c.in-Old.is) inner)
     c.expr.ensures
 
 pub expr-returns-in-Parens : goal.expr-returns-in-Parens
 expr-returns-in-Parens t c =
     IfOk-weaker c.expr-in-Parens.result _ _
     (λ x m. λ fs.
+    let n = c.args.count in
     let old = terms_in fs c.args.terms.now.terms.items in
     let new = terms_in fs c.expr-in-Parens.new.terms.terms.items in
-    let inner = subst (λ e. MakesFlat fs c.args.count old new (meaning e) (meaning x)) c.deref-in-Parens.ensures (m fs) in
-    subst (λ e. MakesFlat fs c.args.count old new (meaning e) (meaning x)) (sym c.in-Parens.is) inner)
+    let inner = subst (λ e. IsMade fs n (meaning e) old (meaning x) new) c.deref-in-Parens.ensures (m fs) in
+    subst (λ e. IsMade fs n (meaning e) old (meaning x) new) (sym c.in-Parens.is) inner)
     c.expr-in-Parens.ensures
 
 pub expr-returns-in_ok-new-in-Prefix : goal.expr-returns-in_ok-new-in-Prefix
 expr-returns-in_ok-new-in-Prefix t c =
     let d = c.in-Prefix in
     λ fs.
+    let n = c.args.count in
     let old = terms_in fs c.args.terms.now.terms.items in
     let new = terms_in fs c.expr-in-Prefix.new.terms.terms.items in
     let box = c.in_ok-new-in-Prefix.field-0 in
-    let inner = subst (λ e. MakesFlat fs c.args.count old new (meaning e) (meaning c.in_ok-made-in-Prefix.made)) c.deref-in-Prefix-2.ensures (c.in_ok-made-in-Prefix.ensures fs) in
-    let boxed = subst (λ x. MakesFlat fs c.args.count old new (meaning d.e.value) (meaning x)) (sym c.in_ok-new-in-Prefix.ensures.ok) inner in
-    subst (λ e. MakesFlat fs c.args.count old new (meaning e) (meaning (expr.Prefix c.in_ok-signs-in-Prefix.signs box))) (sym d.is) (prefix_made fs c.args.count old new d.signs d.e c.in_ok-signs-in-Prefix.signs box (c.in_ok-signs-in-Prefix.ensures ∙ c.deref-in-Prefix.ensures.value) boxed)
+    let inner = subst (λ e. IsMade fs n (meaning e) old (meaning c.in_ok-made-in-Prefix.made) new) c.deref-in-Prefix-2.ensures (c.in_ok-made-in-Prefix.ensures fs) in
+    let boxed = subst (λ x. IsMade fs n (meaning d.e.value) old (meaning x) new) (sym c.in_ok-new-in-Prefix.ensures.ok) inner in
+    subst (λ e. IsMade fs n (meaning e) old (meaning (expr.Prefix c.in_ok-signs-in-Prefix.signs box)) new) (sym d.is) (prefix_made fs n old new d.signs d.e c.in_ok-signs-in-Prefix.signs box (c.in_ok-signs-in-Prefix.ensures ∙ c.deref-in-Prefix.ensures.value) boxed)
 
-pub expr-returns-in-Postfix : goal.expr-returns-in-Postfix
-expr-returns-in-Postfix t c =
-    IfOk-weaker c.expr-in-Postfix.result _ _
+pub expr-returns-then-is_empty : goal.expr-returns-then-is_empty
+expr-returns-then-is_empty t c =
+    let d = c.in-Postfix in
+    let empty : length d.brackets.items ≡ 0 = let h = c.is_empty.ensures in let k = c.if-is_empty.true in grind (arith, nat_tests, h, k) in
+    IfOk-weaker c.expr-then-is_empty.result _ _
     (λ x m. λ fs.
+    let n = c.args.count in
     let old = terms_in fs c.args.terms.now.terms.items in
-    let new = terms_in fs c.expr-in-Postfix.new.terms.terms.items in
-    let inner = subst (λ e. MakesFlat fs c.args.count old new (meaning e) (meaning x)) c.deref-in-Postfix.ensures (m fs) in
-    subst (λ e. MakesFlat fs c.args.count old new (meaning e) (meaning x)) (sym c.in-Postfix.is) (postfix_made fs c.args.count old new c.in-Postfix.e c.in-Postfix.field-1 (meaning x) inner))
-    c.expr-in-Postfix.ensures
+    let new = terms_in fs c.expr-then-is_empty.new.terms.terms.items in
+    let inner = subst (λ e. IsMade fs n (meaning e) old (meaning x) new) c.deref-then-is_empty.ensures (m fs) in
+    subst (λ e. IsMade fs n (meaning e) old (meaning x) new) (sym d.is) (subst (λ e. IsMade fs n e old (meaning x) new) (sym (postfix_bare d.inner d.brackets empty)) inner))
+    c.expr-then-is_empty.ensures
+
+pub expr-returns-else-is_empty : goal.expr-returns-else-is_empty
+expr-returns-else-is_empty t c =
+    let d = c.in-Postfix in
+    let some : 0 < length d.brackets.items = let h = c.is_empty.ensures in let k = c.if-is_empty.false in grind (arith, nat_tests, h, k) in
+    IfOk-weaker c.copy.result _ _
+    (λ x same. λ fs.
+    let n = c.args.count in
+    let old = terms_in fs c.args.terms.now.terms.items in
+    subst (λ e. IsMade fs n (meaning e) old (meaning x) old) (sym d.is) (postfix_stays fs n old d.inner d.brackets x some (same ∙ ap ex_of d.is)))
+    c.copy.ensures
 
 pub expr-returns-in_ok-new-in-Chain : goal.expr-returns-in_ok-new-in-Chain
 expr-returns-in_ok-new-in-Chain t c =
     let d = c.in-Chain in
     λ fs.
+    let n = c.args.count in
     let old = terms_in fs c.args.terms.now.terms.items in
-    let mid = terms_in fs c.expr-in-Chain.new.terms.terms.items in
+    let one = terms_in fs c.turned.new.terms.terms.items in
+    let two = terms_in fs c.expr-in-Chain.new.terms.terms.items in
     let new = terms_in fs c.links_behind.new.terms.terms.items in
     let box = c.in_ok-new-in-Chain.field-0 in
+    let before = reverse (meanings c.in_ok-before-in-Chain.before.items) in
     let made = c.in_ok-behind-in-Chain.behind in
-    let inner = subst (λ e. MakesFlat fs c.args.count old mid (meaning e) (meaning c.in_ok-made-in-Chain.made)) c.deref-in-Chain.ensures (c.in_ok-made-in-Chain.ensures fs) in
-    let boxed = subst (λ x. MakesFlat fs c.args.count old mid (meaning d.e.value) (meaning x)) (sym c.in_ok-new-in-Chain.ensures.ok) inner in
-    let links = subst (λ l. MakesAllFlat fs c.args.count mid new (operands l) (operands made.items)) c.deref-in-Chain-2.ensures.value (c.in_ok-behind-in-Chain.ensures.operands fs) in
-    subst (λ e. MakesFlat fs c.args.count old new (meaning e) (meaning (expr.Chain box made))) (sym d.is)
-    (chain_made fs c.args.count old mid new d.e d.links box made boxed links (c.in_ok-behind-in-Chain.ensures.signs ∙ ap signs c.deref-in-Chain-2.ensures.value))
+    let all = subst (λ l. AreTurned fs n l old before one) c.deref-in-Chain.ensures.value (c.in_ok-before-in-Chain.ensures fs) in
+    let inner = subst (λ e. IsMade fs n (meaning e) one (meaning c.in_ok-made-in-Chain.made) two) c.deref-in-Chain-2.ensures (c.in_ok-made-in-Chain.ensures fs) in
+    let boxed = subst (λ x. IsMade fs n (meaning d.e.value) one (meaning x) two) (sym c.in_ok-new-in-Chain.ensures.ok) inner in
+    let links = subst (λ l. AreLinked fs n l before two (operands made.items) new) c.deref-in-Chain-3.ensures.value (c.in_ok-behind-in-Chain.ensures.operands fs) in
+    subst (λ e. IsMade fs n (meaning e) old (meaning (expr.Chain box made)) new) (sym d.is)
+    (chain_made fs n old one two new before d.e d.links box made all boxed links (c.in_ok-behind-in-Chain.ensures.signs ∙ ap signs c.deref-in-Chain-3.ensures.value))
 
 pub exprs-loop-e-preserved : goal.exprs-loop-e-preserved
 exprs-loop-e-preserved t c =
+    let es = c.args.es.now in
+    let i = c.loop-e.e-index in
+    let e = c.e-item.result in
     λ fs.
-    all_step meaning meaning fs c.args.count (terms_in fs c.args.terms.now.terms.items) (terms_in fs c.loop-e.terms.terms.items) (terms_in fs c.expr.new.terms.terms.items) c.args.es.now c.loop-e.e-index c.e-item.result c.loop-e.made.items c.push.new.self.items c.in_ok-e.e c.loop-e-test.true c.e-item.is c.in_ok-push.ensures.items (c.loop-e.invariant fs) (c.in_ok-e.ensures fs)
+    each_more fs c.args.count (terms_in fs c.args.terms.now.terms.items) (terms_in fs c.loop-e.terms.terms.items) (terms_in fs c.expr.new.terms.terms.items) (meanings (take i es)) (meanings (take (i + 1) es)) (meanings c.loop-e.made.items) (meanings c.push.new.self.items) (meaning e) (meaning c.in_ok-e.e) (read_more meaning es i e c.loop-e-test.true c.e-item.is) (read_last meaning c.push.new.self.items c.loop-e.made.items c.in_ok-e.e c.in_ok-push.ensures.items) (c.loop-e.invariant fs) (c.in_ok-e.ensures fs)
 
 pub exprs-returns : goal.exprs-returns
 exprs-returns t c =
     λ fs.
-    subst (λ l. MakesAllFlat fs c.args.count (terms_in fs c.args.terms.now.terms.items) (terms_in fs c.loop-e.terms.terms.items) (meanings l) (meanings c.loop-e.made.items)) (take_all c.loop-e.e-index c.args.es.now c.loop-e-test.false) (c.loop-e.invariant fs)
-
-pub links_behind-loop-l-preserved : goal.links_behind-loop-l-preserved
-links_behind-loop-l-preserved t c = (
-  λ fs.
-      all_step operand_meaning operand_meaning fs c.args.count (terms_in fs c.args.terms.now.terms.items) (terms_in fs c.loop-l.terms.terms.items) (terms_in fs c.expr.new.terms.terms.items) c.args.links.now c.loop-l.l-index c.l-item.result c.loop-l.made.items c.push.new.self.items _ c.loop-l-test.true c.l-item.is c.in_ok-push.ensures.items (c.loop-l.invariant.0 fs) (c.in_ok-operand.ensures fs),
-  read_last sign_in c.push.new.self.items c.loop-l.made.items _ c.in_ok-push.ensures.items ∙ ap (λ l. l ++ c.l-item.result.sign ∷ []) c.loop-l.invariant.1 ∙ sym (read_more sign_in c.args.links.now c.loop-l.l-index c.l-item.result c.loop-l-test.true c.l-item.is),
-)
-
-pub links_behind-returns-clause-operands : goal.links_behind-returns-clause-operands
-links_behind-returns-clause-operands t c =
-    λ fs.
-    subst (λ l. MakesAllFlat fs c.args.count (terms_in fs c.args.terms.now.terms.items) (terms_in fs c.loop-l.terms.terms.items) (operands l) (operands c.loop-l.made.items)) (take_all c.loop-l.l-index c.args.links.now c.loop-l-test.false) (c.loop-l.invariant.0 fs)
+    subst (λ l. AreMade fs c.args.count (meanings l) (terms_in fs c.args.terms.now.terms.items) (meanings c.loop-e.made.items) (terms_in fs c.loop-e.terms.terms.items)) (take_all c.loop-e.e-index c.args.es.now c.loop-e-test.false) (c.loop-e.invariant fs)

@@ -1,4 +1,4 @@
-use Rattle.std.proofs.Common.{◌≡◌, ◌++◌, length, Option, Some, map, sym, ap, ◌∙◌}
+use Rattle.std.proofs.Common.{◌++◌, length, Option, map, sym, ap, ◌∙◌}
 use Rattle.std.proofs.lemmas.Result.{on_ok_weaker}
 use Rattle.bg_places.specs.Views.{placed_of}
 use Rattle.std.specs.Prelude.{slice_get}
@@ -14,5 +14,5 @@ returns-in-Some c =
     let o = c.args.outcome.now in
     let there = at_heads c.deref.result.now c.args.place.now.implementation c.in-Some.implementation.now c.in-Some.ensures.lookup.3.0 c.in-Some.ensures.lookup.1 in
     on_ok_weaker c.put_gone_of.result (λ put guarded.
-    put guarded ∙ ap (λ (h : Option Head). c.args.out.now.items ++ gone_in (sheet_in o) (gone_by guarded (length (sheet_in o).globals) c.args.removal.now) (placed_of c.args.place.now) h) (sym (ap (λ ms. slice_get (map head_of (map impl_of ms)) c.args.place.now.implementation) (sym c.deref.ensures.value) ∙ there)))
+    put guarded ∙ ap (λ (h : Option Head). c.args.out.now.items ++ gone_in (sheet_in o) (gone_by guarded (length (sheet_in o).outer.globals) c.args.removal.now) (placed_of c.args.place.now) h) (sym (ap (λ ms. slice_get (map head_of (map impl_of ms)) c.args.place.now.implementation) (sym c.deref.ensures.value) ∙ there)))
     c.put_gone_of.ensures

@@ -1,4 +1,4 @@
-use Rattle.std.proofs.Common.{◌≡◌, ◌++◌, List, ℕ, flat_map, map, length, sym, ap, ◌∙◌, append_assoc}
+use Rattle.std.proofs.Common.{◌≡◌, ◌++◌, List, ℕ, flat_map, length, sym, ap, ◌∙◌, append_assoc}
 use Rattle.bg_ast.specs.Views.{impl_of}
 use Rattle.bg_sound.specs.Told.{Word}
 use Rattle.bg_check.specs.Outcomes.{told}

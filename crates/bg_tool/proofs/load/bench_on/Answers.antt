@@ -12,6 +12,6 @@ returns-in-Ok-clause-lines g c =
       inferred = c.in_ok-outcome.outcome;
       right = on.right;
       sound = on.sound;
-      is = c.in-Ok.ensures p (on.right.opened, on.right.globals);
+      is = c.in-Ok.ensures p (on.right.opened, on.right.globals, on.right.bodies);
       gives = c.status_of.ensures.gives ∙ c.word_of.ensures (meaning_of p);
     }

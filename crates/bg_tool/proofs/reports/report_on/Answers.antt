@@ -11,7 +11,7 @@ returns-in-Ok-clause-report g c =
     let p = on.program in
     let found = c.in_ok-outcome.outcome in
     let told = outcome_of why_of (meaning_of p) found in
-    let text = c.in-Ok.ensures p (on.right.opened, on.right.globals) in
+    let text = c.in-Ok.ensures p (on.right.opened, on.right.globals, on.right.bodies) in
     record {
       sound = record {
         front = result_text p told;

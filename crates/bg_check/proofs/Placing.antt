@@ -1,0 +1,118 @@
+-- The clauses of a place that is asked.
+use Rattle.std.proofs.Common.{◌≡◌, ℕ, ◌+◌, pos, Bool, true, false, List, length, map, replicate, Result, Ok, Err, sym, ap, ◌∙◌, subst, arith}
+use Rattle.std.specs.Prelude.{IfOk, slice_get, unwrap_or}
+use Rattle.std.specs.declared.alloc.AllocError.{AllocError}
+use Rattle.std.proofs.lemmas.List.{length-map}
+use Rattle.bg_ast.specs.Resolved as r
+use Rattle.bg_ast.specs.Meaning.{meaning_of}
+use Rattle.bg_ast.specs.Syntax as s
+use Rattle.bg_ast.specs.Execution.{Place}
+use Rattle.bg_tree.specs.declared.outcome.Budget.{Budget}
+use Rattle.bg_terms.specs.Instances.{Instance}
+use Rattle.bg_term_table.specs.Views as table
+use Rattle.bg_term_table.specs.Views.{term_of}
+use Rattle.bg_term_table.specs.declared.table.Term as code
+use Rattle.bg_termed.specs.Termed.{count_in, terms_in, types_in, sorts_in}
+use Rattle.bg_termed.specs.There.{AreThere}
+use Rattle.bg_task.specs.declared.prepared.Prepared.{Prepared}
+use Rattle.bg_task.specs.Prepared.{IsPrepared}
+use Rattle.bg_ast.specs.Values.{Val, Ty}
+use Rattle.bg_sense.specs.Types.{are_of}
+use Rattle.bg_sense.specs.Typed.{IsTyped}
+use Rattle.bg_fits.specs.Scalars.{is_over_scalars}
+use Rattle.bg_block_types.specs.Typed.{incarnations_in}
+use Rattle.bg_formula.specs.Formulas.{Formula}
+use Rattle.bg_cert.specs.declared.cert.Decision.{Decision}
+use Rattle.bg_point.specs.declared.spot.Spot as spots
+use Rattle.bg_point.specs.Points.{value_of}
+use Rattle.bg_tree.specs.declared.outcome.Leaf.{Leaf}
+use Rattle.bg_forms.specs.Worth.{bools_at}
+use Rattle.bg_linear.specs.declared.scalar.Sort.{Sort}
+use Rattle.bg_linear.specs.Sorts.{scalar_values}
+use Rattle.bg_atoms.specs.Ranks.{rank}
+use Rattle.bg_scalar.specs.Values.{val_of}
+use Rattle.bg_scalar.specs.declared.scalar.Scalar.{Scalar}
+use Rattle.bg_terms.specs.Terms.{Term}
+use Rattle.bg_finish.specs.Finished.{default_of, IsScalarLeaf, IsFinish}
+use Rattle.bg_finish.specs.declared.kind.Finish.{Finish}
+use Rattle.bg_check.specs.Leaves.{marked, numbered, scalars_from}
+use Rattle.bg_check.specs.LeafRuns.{leaf_bools, vals_in}
+use Rattle.bg_check.proofs.LawTypes.{ScalarLaw, ValueLaw, TermLaw}
+use Rattle.bg_check.proofs.Leaves.{leaf_number, scalars_are}
+use Rattle.bg_task.proofs.LawTypes.{TabledLaw, MaplessLaw}
+use Rattle.bg_task.proofs.Prepares.{impl, proc, impl_at, proc_at}
+use Rattle.bg_check.specs.declared.found.Found.{Found}
+use Rattle.bg_check.specs.Found.{IsFound}
+
+-- as many terms as were prepared
+pub terms_many : (p : r.Program) (n : ℕ) (w : Prepared) (h : IsPrepared p n w) → length w.terms.items ≡ length (terms_in (meaning_of p) n (impl p n w h) (proc p n w h))
+terms_many p n w h = sym (length-map w.terms.items (term_of (meaning_of p).functions)) ∙ ap (λ ts. length ts) h.terms
+
+pub there_here : (p : r.Program) (n : ℕ) (w : Prepared) (h : IsPrepared p n w) (es : List Instance) → AreThere (length w.terms.items) es → AreThere (length (terms_in (meaning_of p) n (impl p n w h) (proc p n w h))) es
+there_here p n w h es = subst (λ k. AreThere k es) (terms_many p n w h)
+
+-- what holds for each budget holds for this one
+pub at_left : (left : Budget) (p : s.Prog) (set : ℕ → Bool) (t : Place) (es : List Instance) (o : Result Found AllocError) → IfOk o (λ v. (n : Budget) → IsFound n p set t es v) → IfOk o (λ v. IsFound left p set t es v)
+at_left left p set t es (Ok v) h = h left
+at_left left p set t es (Err e) h = h
+
+-- ---- the values at a leaf
+
+module _ (p : r.Program) (n : ℕ) (w : Prepared) (h : IsPrepared p n w) (f : Formula) (leaf : Leaf) where
+  abbrev P : s.Prog
+  P = meaning_of p
+
+  abbrev M : s.Impl
+  M = impl p n w h
+
+  abbrev Q : s.Proc
+  Q = proc p n w h
+
+  abbrev T : ℕ → Bool
+  T = bools_at (leaf_bools f leaf)
+
+  values_are : map val_of (scalars_from (leaf_bools f leaf) (numbered leaf.spots.items (replicate (length w.sorts.items) (pos 0))) 0 0 w.sorts.items) ≡ vals_in P n M Q f leaf
+  values_are =
+      scalars_are (leaf_bools f leaf) (numbered leaf.spots.items (replicate (length w.sorts.items) (pos 0))) (value_of leaf.spots.items) (λ j. T (rank w.sorts.items j)) 0 0 w.sorts.items
+      (λ i l. ap (λ k. unwrap_or (slice_get (numbered leaf.spots.items (replicate (length w.sorts.items) (pos 0))) k) (pos 0)) (zero_plus i) ∙ leaf_number leaf.spots.items (length w.sorts.items) i l)
+      (λ i l. ap T (zero_plus (rank w.sorts.items i)))
+      ∙ ap (λ ss. scalar_values (value_of leaf.spots.items) (λ j. T (rank ss j)) ss) h.sorts
+    where
+      zero_plus : (i : ℕ) → 0 + i ≡ i
+      zero_plus i = omega arith
+
+  -- the values that are made
+  pub values_from : (ss : List Sort) (ts : List Bool) (sp : List spots.Spot) → ss ≡ w.sorts.items → ts ≡ leaf_bools f leaf → sp ≡ leaf.spots.items → map val_of (scalars_from ts (numbered sp (replicate (length ss) (pos 0))) 0 0 ss) ≡ vals_in P n M Q f leaf
+  values_from ss ts sp a b c =
+      ap (λ x. map val_of (scalars_from ts (numbered sp (replicate (length x) (pos 0))) 0 0 x)) a
+      ∙ (ap (λ x. map val_of (scalars_from x (numbered sp (replicate (length w.sorts.items) (pos 0))) 0 0 w.sorts.items)) b
+      ∙ (ap (λ x. map val_of (scalars_from (leaf_bools f leaf) (numbered x (replicate (length w.sorts.items) (pos 0))) 0 0 w.sorts.items)) c ∙ values_are))
+
+  -- the leaf is one over scalars
+  pub scalar_leaf : ScalarLaw → ValueLaw → TabledLaw → MaplessLaw → TermLaw → IsTyped P → is_over_scalars true P ≡ true → (vs defaults : List Val) (ts : List Term) → vs ≡ vals_in P n M Q f leaf → ts ≡ terms_in P n M Q → defaults ≡ map default_of P.functions → IsScalarLeaf P.functions (incarnations_in P n M Q) ts vs defaults
+  scalar_leaf scalar values tabled mapless terms t o vs defaults ts e g d =
+      let im = impl_at p n w h in
+      let pr = proc_at p n w h in
+      let its = tabled P t o in
+      let flattened = terms P n M Q its im pr (mapless P n M Q t o im pr) in
+      subst (λ us. IsScalarLeaf P.functions (incarnations_in P n M Q) us vs defaults) (sym g)
+      (record {
+        bodiless = its.bodies;
+        terms = flattened.terms.typed;
+        scalar = scalar P n M Q t o im pr;
+        values =
+            ap (are_of (types_in P n M Q)) e ∙ values P n M Q t o im pr (value_of leaf.spots.items) (λ j. T (rank (sorts_in P n M Q) j));
+        defaults = d;
+      })
+
+  -- what the leaf comes to
+  pub finish_here : ScalarLaw → ValueLaw → TabledLaw → MaplessLaw → TermLaw → IsTyped P → is_over_scalars true P ≡ true → (ds vs : List Scalar) (ts : List code.Term) (made : Finish) → map val_of ds ≡ map default_of P.functions → map val_of vs ≡ vals_in P n M Q f leaf → ts ≡ w.terms.items → ((fs : List s.Fun) (incs : List Ty) → length incs ≡ w.count → IsScalarLeaf fs incs (table.terms_in fs ts) (map val_of vs) (map val_of ds) → IsFinish fs w.count (table.terms_in fs ts) vs made) → IsFinish P.functions (count_in P n M Q) (terms_in P n M Q) vs made
+  finish_here scalar values tabled mapless terms t o ds vs ts made d v g e =
+      let its : table.terms_in P.functions ts ≡ terms_in P n M Q = ap (table.terms_in P.functions) g ∙ h.terms in
+      let got = e P.functions (incarnations_in P n M Q) (sym h.count) (scalar_leaf scalar values tabled mapless terms t o (map val_of vs) (map val_of ds) (table.terms_in P.functions ts) v its d) in
+      subst (λ us. IsFinish P.functions (count_in P n M Q) us vs made) its
+      (subst (λ k. IsFinish P.functions k (table.terms_in P.functions ts) vs made) h.count got)
+
+-- the truth values that are made
+pub truths_from : (f : Formula) (leaf : Leaf) (ds : List Decision) (k : ℕ) → ds ≡ leaf.path.items → k ≡ length f.atoms → marked ds (replicate k false) ≡ leaf_bools f leaf
+truths_from f leaf ds k a b = ap (λ x. marked x (replicate k false)) a ∙ ap (λ x. marked leaf.path.items (replicate x false)) b

@@ -1,0 +1,111 @@
+use Rattle.std.proofs.Common.{◌≡◌, Option, length, take, map, sym, ap, ◌∙◌, subst}
+use Rattle.std.proofs.lemmas.List.{length-map, take-map}
+use Rattle.bg_text.specs.Views.{option_of}
+use Rattle.bg_ast.specs.Meaning.{meaning_of}
+use Rattle.bg_ast.specs.Views.{program_of, candidate_of}
+use Rattle.bg_places.specs.Views.{spot_of}
+use Rattle.bg_formula.specs.Formulas.{formula_of}
+use Rattle.bg_formed.specs.Views.{form_block_of}
+use Rattle.bg_scalar.specs.Values.{val_of, tables_of}
+use Rattle.bg_scalar.specs.Views.{tables_in}
+use Rattle.bg_term_table.specs.Instances.{instance_of, instances_of}
+use Rattle.bg_finish.specs.Finished.{AreReadOff}
+use Rattle.bg_termed.specs.Termed.{count_in, terms_in}
+use Rattle.bg_model.specs.Behind.{behind_front}
+use Rattle.bg_model.specs.declared.failure.Counterexample.{Counterexample}
+use Rattle.bg_task.specs.Slices.{encoding_in}
+use Rattle.bg_task.proofs.Prepares.{impl, proc}
+use Rattle.bg_check.proofs.Refutes.{LeafLaws, IsRun, refutes}
+use Rattle.bg_check.proofs.failing.failing.Goals as goal
+
+pub unreachable-requires : goal.unreachable-requires
+unreachable-requires c =
+    let p = program_of c.args.question.program.now in
+    let P = meaning_of p in
+    let place = c.args.question.place.now in
+    let n = place.implementation in
+    let w = c.args.question.prepared.now in
+    let h = c.requires.prepared in
+    let es = instances_of c.args.instances.now in
+    let f = formula_of c.args.met.clauses.now in
+    let leaf = c.args.met.leaf.now in
+    let laws : LeafLaws = record {
+      bodies = c.typed_programs_have_typed_bodies.ensures.implementations;
+      fits = c.arrivals_fit.ensures;
+      whole = c.clauses_of_encodings_are_whole.ensures;
+      values = c.scalar_values_are_typed.ensures.all;
+      first = c.scalar_values_are_typed.ensures.first;
+      starts = c.typed_values_begin_with_a_state.ensures;
+      meets = c.tables_meet_programs_over_scalars.ensures;
+      holds = c.scalar_values_hold.ensures;
+      denies = c.clauses_fail_alike.ensures.denied;
+      within = c.clauses_fail_alike.ensures.inside;
+      rows = c.atoms_of_clauses.ensures.rows;
+      units_own = c.atoms_of_clauses.ensures.units;
+      units_named = c.atoms_of_clauses.ensures.named;
+      leaves = c.leaves_are_met.ensures.clauses;
+      units = c.leaves_are_met.ensures.units;
+      signs = c.leaves_are_met.ensures.atoms;
+      own_spots = c.places_have_spots_of_their_own.ensures.candidate;
+      checks = c.checks_of_passive_blocks_are_places.ensures;
+      tabled = c.programs_over_scalars_are_tabled.ensures;
+      mapless = c.implementations_over_scalars_have_scalars.ensures.mapless;
+      terms = c.passive_blocks_have_terms.ensures;
+      flat = c.flat_expressions_say_the_same.ensures;
+      models = c.congruent_scalars_are_models.ensures;
+    } in
+    let X = c.requires.values h in
+    let off = subst (λ vs. AreReadOff P.functions (count_in P n (impl p n w h) (proc p n w h)) (terms_in P n (impl p n w h) (proc p n w h)) vs (tables_of (tables_in c.args.tables.items))) X (c.requires.read_off h) in
+    let front : length c.args.instances.now ≡ length es = sym (length-map c.args.instances.now instance_of) in
+    let forms : behind_front (length c.args.instances.now) (map form_block_of c.deref-3.result.now) ≡ behind_front (length es) (encoding_in c.args.cut.now).blocks = ap (λ k. behind_front k (map form_block_of c.deref-3.result.now)) front ∙ ap (λ l. behind_front (length es) (map form_block_of l)) c.deref-3.ensures.value in
+    let first : map val_of c.first.result.now ≡ take (count_in P n (impl p n w h) (proc p n w h)) (map val_of c.args.met.values.now) = ap (map val_of) c.first.ensures ∙ (sym (take-map val_of w.count c.args.met.values.now) ∙ ap (λ k. take k (map val_of c.args.met.values.now)) h.count) in
+    let vals = first ∙ ap (take (count_in P n (impl p n w h) (proc p n w h))) X in
+    let R : Option Counterexample → Type 0 = IsRun laws p n w h c.requires.typed c.requires.scalars es (spot_of place.spot) (option_of candidate_of place.candidate) c.args.cut.now c.requires.slice f c.args.question.set.now leaf c.requires.clauses c.requires.leaf c.requires.asked in
+    subst R c.in-None.is
+    (refutes laws p n w h c.requires.typed c.requires.scalars es (spot_of place.spot) (option_of candidate_of place.candidate) c.args.cut.now c.requires.slice f c.args.question.set.now leaf c.requires.clauses c.requires.leaf c.requires.asked (tables_in c.args.tables.items) off c.deref.result.now c.deref-2.result.now (behind_front (length c.args.instances.now) (map form_block_of c.deref-3.result.now)) c.args.met.truths.now (map val_of c.first.result.now) c.in_ok-cex.field-0 c.deref.ensures.value c.deref-2.ensures.value forms c.requires.truths vals c.in_ok-cex.ensures)
+
+pub returns : goal.returns
+returns c =
+    let p = program_of c.args.question.program.now in
+    let P = meaning_of p in
+    let place = c.args.question.place.now in
+    let n = place.implementation in
+    let w = c.args.question.prepared.now in
+    let h = c.requires.prepared in
+    let es = instances_of c.args.instances.now in
+    let f = formula_of c.args.met.clauses.now in
+    let leaf = c.args.met.leaf.now in
+    let laws : LeafLaws = record {
+      bodies = c.typed_programs_have_typed_bodies.ensures.implementations;
+      fits = c.arrivals_fit.ensures;
+      whole = c.clauses_of_encodings_are_whole.ensures;
+      values = c.scalar_values_are_typed.ensures.all;
+      first = c.scalar_values_are_typed.ensures.first;
+      starts = c.typed_values_begin_with_a_state.ensures;
+      meets = c.tables_meet_programs_over_scalars.ensures;
+      holds = c.scalar_values_hold.ensures;
+      denies = c.clauses_fail_alike.ensures.denied;
+      within = c.clauses_fail_alike.ensures.inside;
+      rows = c.atoms_of_clauses.ensures.rows;
+      units_own = c.atoms_of_clauses.ensures.units;
+      units_named = c.atoms_of_clauses.ensures.named;
+      leaves = c.leaves_are_met.ensures.clauses;
+      units = c.leaves_are_met.ensures.units;
+      signs = c.leaves_are_met.ensures.atoms;
+      own_spots = c.places_have_spots_of_their_own.ensures.candidate;
+      checks = c.checks_of_passive_blocks_are_places.ensures;
+      tabled = c.programs_over_scalars_are_tabled.ensures;
+      mapless = c.implementations_over_scalars_have_scalars.ensures.mapless;
+      terms = c.passive_blocks_have_terms.ensures;
+      flat = c.flat_expressions_say_the_same.ensures;
+      models = c.congruent_scalars_are_models.ensures;
+    } in
+    let X = c.requires.values h in
+    let off = subst (λ vs. AreReadOff P.functions (count_in P n (impl p n w h) (proc p n w h)) (terms_in P n (impl p n w h) (proc p n w h)) vs (tables_of (tables_in c.args.tables.items))) X (c.requires.read_off h) in
+    let front : length c.args.instances.now ≡ length es = sym (length-map c.args.instances.now instance_of) in
+    let forms : behind_front (length c.args.instances.now) (map form_block_of c.deref-3.result.now) ≡ behind_front (length es) (encoding_in c.args.cut.now).blocks = ap (λ k. behind_front k (map form_block_of c.deref-3.result.now)) front ∙ ap (λ l. behind_front (length es) (map form_block_of l)) c.deref-3.ensures.value in
+    let first : map val_of c.first.result.now ≡ take (count_in P n (impl p n w h) (proc p n w h)) (map val_of c.args.met.values.now) = ap (map val_of) c.first.ensures ∙ (sym (take-map val_of w.count c.args.met.values.now) ∙ ap (λ k. take k (map val_of c.args.met.values.now)) h.count) in
+    let vals = first ∙ ap (take (count_in P n (impl p n w h) (proc p n w h))) X in
+    let R : Option Counterexample → Type 0 = IsRun laws p n w h c.requires.typed c.requires.scalars es (spot_of place.spot) (option_of candidate_of place.candidate) c.args.cut.now c.requires.slice f c.args.question.set.now leaf c.requires.clauses c.requires.leaf c.requires.asked in
+    subst R c.in-Some.is
+    (refutes laws p n w h c.requires.typed c.requires.scalars es (spot_of place.spot) (option_of candidate_of place.candidate) c.args.cut.now c.requires.slice f c.args.question.set.now leaf c.requires.clauses c.requires.leaf c.requires.asked (tables_in c.args.tables.items) off c.deref.result.now c.deref-2.result.now (behind_front (length c.args.instances.now) (map form_block_of c.deref-3.result.now)) c.args.met.truths.now (map val_of c.first.result.now) c.in_ok-cex.field-0 c.deref.ensures.value c.deref-2.ensures.value forms c.requires.truths vals c.in_ok-cex.ensures)

@@ -1,0 +1,119 @@
+//! The counterexample of a complete leaf.
+ghost use Rattle.std.specs.Prelude.{◌≡◌, take, map, true, IfOk};
+ghost use Rattle.bg_ast.specs.Meaning.{meaning_of, named_of, impl_of, proc_of};
+ghost use Rattle.bg_ast.specs.Views.{program_of};
+ghost use Rattle.bg_sense.specs.Typed.{IsTyped};
+ghost use Rattle.bg_places.specs.Views.{placed_of, spot_of};
+ghost use Rattle.bg_formula.specs.Formulas.{formula_of};
+ghost use Rattle.bg_cert.specs.Walks.{has};
+ghost use Rattle.bg_tree.specs.Ends.{IsLeaf};
+ghost use Rattle.bg_fits.specs.Scalars.{is_over_scalars};
+ghost use Rattle.bg_scalar.specs.Values.{val_of, tables_of};
+ghost use Rattle.bg_scalar.specs.Views.{tables_in};
+ghost use Rattle.bg_term_table.specs.Instances.{instances_of};
+ghost use Rattle.bg_termed.specs.Termed.{count_in, terms_in};
+ghost use Rattle.bg_finish.specs.Finished.{AreReadOff};
+ghost use Rattle.bg_task.specs.Asked.{IsAsked};
+ghost use Rattle.bg_task.specs.Prepared.{IsPrepared};
+ghost use Rattle.bg_task.specs.Slices.{IsSliceFor};
+ghost use Rattle.bg_task.specs.Made.{ClausesOf};
+ghost use Rattle.bg_check.specs.LeafRuns.{leaf_bools, vals_in, HasLeaf};
+ghost use Rattle.bg_check.specs.Verdicts.{IsFailure};
+
+use bg_clause::laws::{atoms_of_clauses, clauses_fail_alike};
+use bg_faithful::laws::{
+    checks_of_passive_blocks_are_places, clauses_of_encodings_are_whole,
+    tables_meet_programs_over_scalars, typed_values_begin_with_a_state,
+};
+use bg_formula::Clauses;
+use bg_linear::laws::scalar_values_hold;
+use bg_model::{Counterexample, Routine, Valuation, counterexample};
+use bg_passive::laws::arrivals_fit;
+use bg_scalar::{Scalar, Table};
+use bg_sense::laws::typed_programs_have_typed_bodies;
+use bg_sense::resolved::places_have_spots_of_their_own;
+use bg_task::{Cut, Question};
+use bg_term_table::Instance;
+use bg_termed::laws::{
+    congruent_scalars_are_models, implementations_over_scalars_have_scalars,
+    passive_blocks_have_terms, programs_over_scalars_are_tabled, scalar_values_are_typed,
+};
+use bg_terms::laws::flat_expressions_say_the_same;
+use bg_tree::Leaf;
+use bg_tree::laws::leaves_are_met;
+use std::alloc::{AllocError, Global};
+
+/// A complete leaf of clauses, with the truth values of the atoms and the values of incarnations and terms there.
+#[derive(Clone, Copy)]
+pub struct Met<'a> {
+    pub clauses: &'a Clauses,
+    pub leaf: &'a Leaf,
+    pub truths: &'a [bool],
+    pub values: &'a [Scalar],
+}
+
+/// The first of these values, so many; all where there are no more.
+fn first(values: &[Scalar], many: usize) -> &[Scalar]
+    ensures { result.now ≡ take many values.now }
+{
+    let width = many.min(values.len());
+    &values[..width]
+}
+
+/// The counterexample of a complete leaf of a place's clauses behind instances, where these tables are read off its values.
+pub fn failing<'q, 'p>(
+    alloc: Global,
+    question: Question<'q, 'p>,
+    cut: &'q Cut,
+    instances: &[Instance],
+    met: Met<'_>,
+    tables: Vec<Table>,
+) -> Result<Counterexample, AllocError>
+    requires typed { IsTyped (meaning_of (program_of question.program.now)) }
+    requires scalars { is_over_scalars true (meaning_of (program_of question.program.now)) ≡ true }
+    requires prepared { IsPrepared (program_of question.program.now) question.place.now.implementation question.prepared.now }
+    requires asked { IsAsked (meaning_of (program_of question.program.now)) (has question.set.now) (placed_of question.place.now).place }
+    requires slice { IsSliceFor (program_of question.program.now) question.place.now.implementation question.prepared.now (instances_of instances.now) (spot_of question.place.now.spot) cut.now }
+    requires clauses { ClausesOf cut.now (placed_of question.place.now).place (formula_of met.clauses.now) }
+    requires leaf { IsLeaf (formula_of met.clauses.now) (has question.set.now) met.leaf.now }
+    requires truths { met.truths.now ≡ leaf_bools (formula_of met.clauses.now) met.leaf.now }
+    requires values { (h : IsPrepared (program_of question.program.now) question.place.now.implementation question.prepared.now) → map val_of met.values.now ≡ vals_in (meaning_of (program_of question.program.now)) question.place.now.implementation (impl_of (named_of (program_of question.program.now).types) h.implementation) (proc_of (named_of (program_of question.program.now).types) h.procedure) (formula_of met.clauses.now) met.leaf.now }
+    requires read_off { (h : IsPrepared (program_of question.program.now) question.place.now.implementation question.prepared.now) → AreReadOff (meaning_of (program_of question.program.now)).functions (count_in (meaning_of (program_of question.program.now)) question.place.now.implementation (impl_of (named_of (program_of question.program.now).types) h.implementation) (proc_of (named_of (program_of question.program.now).types) h.procedure)) (terms_in (meaning_of (program_of question.program.now)) question.place.now.implementation (impl_of (named_of (program_of question.program.now).types) h.implementation) (proc_of (named_of (program_of question.program.now).types) h.procedure)) (map val_of met.values.now) (tables_of (tables_in tables.items)) }
+    ensures { IfOk result (λ cex. HasLeaf (meaning_of (program_of question.entry.program.now)) (has question.entry.set.now) (placed_of question.entry.place.now).place (instances_of instances.now) cex × IsFailure (meaning_of (program_of question.entry.program.now)) (has question.entry.set.now) (placed_of question.entry.place.now).place cex) }
+{
+    typed_programs_have_typed_bodies();
+    arrivals_fit();
+    leaves_are_met();
+    clauses_fail_alike();
+    atoms_of_clauses();
+    clauses_of_encodings_are_whole();
+    checks_of_passive_blocks_are_places();
+    places_have_spots_of_their_own();
+    scalar_values_are_typed();
+    typed_values_begin_with_a_state();
+    tables_meet_programs_over_scalars();
+    scalar_values_hold();
+    programs_over_scalars_are_tabled();
+    implementations_over_scalars_have_scalars();
+    passive_blocks_have_terms();
+    flat_expressions_say_the_same();
+    congruent_scalars_are_models();
+    let prepared = question.prepared;
+    let routine = Routine {
+        program: question.program,
+        frame: prepared.frame,
+        blocks: &prepared.blocks,
+        firsts: &prepared.firsts,
+        forms: &cut.atoms.blocks,
+        front: instances.len(),
+    };
+    let valuation = Valuation {
+        truths: met.truths,
+        values: first(met.values, prepared.count as usize),
+    };
+    let spot = question.place.spot;
+    match counterexample(alloc, routine, spot, question.set, valuation, tables)? {
+        Some(cex) => Ok(cex),
+        None => unreachable!(),
+    }
+}

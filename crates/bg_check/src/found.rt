@@ -1,0 +1,14 @@
+//! What a search for a place finds.
+use crate::verdict::{Cause, Round};
+use bg_cert::Cert;
+use bg_model::Counterexample;
+
+/// What a search for a place finds behind the instances so far: a certificate, a counterexample, why neither was found, or what comes
+/// in at a complete leaf that isn't finished.
+#[derive(Drop)]
+pub enum Found {
+    Proved(Cert),
+    Refuted(Counterexample),
+    Unknown(Cause),
+    Wanted(Round),
+}

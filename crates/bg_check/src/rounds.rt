@@ -1,0 +1,89 @@
+//! Rounds of instances.
+ghost use Rattle.std.specs.Prelude.{◌≡◌, ◌<◌, ◌++◌, true, OnOk, IfOk};
+ghost use Rattle.bg_ast.specs.Meaning.{meaning_of};
+ghost use Rattle.bg_ast.specs.Views.{program_of};
+ghost use Rattle.bg_sense.specs.Typed.{IsTyped};
+ghost use Rattle.bg_places.specs.Views.{placed_of};
+ghost use Rattle.bg_cert.specs.Walks.{has};
+ghost use Rattle.bg_fits.specs.Scalars.{is_over_scalars};
+ghost use Rattle.bg_task.specs.Asked.{IsAsked};
+ghost use Rattle.bg_task.specs.Prepared.{IsPrepared};
+ghost use Rattle.bg_check.specs.Verdicts.{IsRight};
+ghost use Rattle.bg_check.specs.Stands.{IsMore};
+
+use crate::found::Found;
+use crate::place::search_place;
+use crate::verdict::{Cause, Round, Verdict};
+use bg_task::Question;
+use bg_term_table::Instance;
+use bg_tree::Budget;
+use std::alloc::{AllocError, Global};
+
+/// The rounds so far, their instances, and how many of the budget's nodes are left.
+#[derive(Drop)]
+pub struct Stand {
+    pub rounds: Vec<Round>,
+    pub instances: Vec<Instance>,
+    pub left: u32,
+}
+
+/// Adds these instances.
+fn push_all(made: &mut Vec<Instance>, more: &[Instance]) -> Result<(), AllocError>
+    ensures { OnOk result (made.new.items ≡ made.old.items ++ more.now) }
+{
+    for e in more {
+        made.push(*e)?;
+    }
+    Ok(())
+}
+
+/// One more round, and its instances.
+fn add(stand: &mut Stand, round: Round) -> Result<(), AllocError>
+    requires { 0 < stand.old.left }
+    ensures { OnOk result (IsMore stand.old round stand.new) }
+{
+    push_all(&mut stand.instances, &round.instances)?;
+    stand.rounds.push(round)?;
+    stand.left -= 1;
+    Ok(())
+}
+
+/// What is known of a place of a typed program over truth values and whole numbers, under a set of candidates that has the place's
+/// own, if it has one. At each complete leaf at which a congruence of terms is false instances come in, and the search begins anew. A
+/// round counts as one of the budget's nodes, and in a search at most those count that are left; it keeps at most the budget's rows.
+///
+/// Only want of memory is an error; 2^32 atoms count as such.
+pub fn check_place(
+    alloc: Global,
+    question: Question<'_, '_>,
+    budget: Budget,
+) -> Result<Verdict, AllocError>
+    requires typed { IsTyped (meaning_of (program_of question.program.now)) }
+    requires scalars { is_over_scalars true (meaning_of (program_of question.program.now)) ≡ true }
+    requires prepared { IsPrepared (program_of question.program.now) question.place.now.implementation question.prepared.now }
+    requires asked { IsAsked (meaning_of (program_of question.program.now)) (has question.set.now) (placed_of question.place.now).place }
+    ensures { IfOk result (λ verdict. IsRight budget (meaning_of (program_of question.entry.program.now)) (has question.entry.set.now) (placed_of question.entry.place.now).place verdict) }
+{
+    let mut stand = Stand {
+        rounds: Vec::new(alloc),
+        instances: Vec::new(alloc),
+        left: budget.nodes,
+    };
+    loop {
+        let left = Budget {
+            nodes: stand.left,
+            rows: budget.rows,
+        };
+        match search_place(alloc, question, left, &stand.instances)? {
+            Found::Proved(cert) => return Ok(Verdict::Proved(stand.instances, cert)),
+            Found::Refuted(cex) => return Ok(Verdict::Refuted(cex)),
+            Found::Unknown(cause) => return Ok(Verdict::Unknown(stand.rounds, cause)),
+            Found::Wanted(round) => {
+                if stand.left == 0 {
+                    return Ok(Verdict::Unknown(stand.rounds, Cause::Rounds));
+                }
+                add(&mut stand, round)?;
+            }
+        }
+    }
+}

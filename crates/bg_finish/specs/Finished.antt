@@ -1,0 +1,73 @@
+-- What a leaf comes to, whose terms are applications of functions on truth values and whole numbers.
+use Rattle.std.specs.Prelude.{◌≡◌, ℕ, ◌<◌, true, false, List, [], ◌∷◌, length, map, Some, slice_get, IsTrue}
+use Rattle.bg_base.specs.declared.exact.OutOfRange.{OutOfRange}
+use Rattle.bg_ast.specs.Values as v
+use Rattle.bg_ast.specs.Values.{Val, Ty, truth_of}
+use Rattle.bg_ast.specs.Syntax.{Fun}
+use Rattle.bg_ast.specs.Execution.{Interp}
+use Rattle.bg_sense.specs.Eval.{ev, default_for}
+use Rattle.bg_sense.specs.Types.{are_of}
+use Rattle.bg_sense.specs.Tables.{are_tables}
+use Rattle.bg_terms.specs.Terms.{Term, over}
+use Rattle.bg_terms.specs.Flat.{HaveNoBodies}
+use Rattle.bg_terms.specs.Typed.{TermsTyped, types_with}
+use Rattle.bg_terms.specs.Tables.{IsReadOff}
+use Rattle.bg_terms.specs.Instances.{Instance, instance_ex}
+use Rattle.bg_read_off.specs.Leaves.{are_scalar, AreCongruent, silent}
+use Rattle.bg_term_table.specs.Instances.{instances_of}
+use Rattle.bg_scalar.specs.declared.scalar.Scalar.{Scalar}
+use Rattle.bg_scalar.specs.Worths.{Seen, Are, Leave, worths}
+use Rattle.bg_scalar.specs.Values.{val_of, tables_of}
+use Rattle.bg_scalar.specs.Views.{tables_in}
+use Rattle.bg_finish.specs.declared.kind.Finish.{Finish}
+use Rattle.bg_finish.specs.declared.kind.Finish.TheVariants as come
+
+-- what a function gives by default
+abbrev pub default_of : Fun → Val
+default_of f = default_for f.result
+
+-- terms of functions without a body are typed, they and the incarnations are truth values and whole numbers and have values of their
+-- types, and these are the defaults of the functions
+pub record IsScalarLeaf (fs : List Fun) (incs : List Ty) (ts : List Term) (s given : List Val) : Type 0 where
+  pub bodiless : HaveNoBodies fs
+  pub terms : TermsTyped fs incs ts
+  pub scalar : are_scalar (types_with incs ts) ≡ true
+  pub values : are_of (types_with incs ts) s ≡ true
+  pub defaults : given ≡ map default_of fs
+
+-- no congruence is false; the tables are typed and in normal form, and what is read off the values
+pub record AreReadOff (fs : List Fun) (n : ℕ) (ts : List Term) (s : List Val) (tables : List v.Table) : Type 0 where
+  pub congruent : AreCongruent s n ts
+  pub normal : IsTrue (are_tables fs tables)
+  pub read_off : (i : Interp) → i.tables ≡ tables → IsReadOff i (silent fs) s n ts
+
+abbrev pub Each : {A : Type 0} → (A → Type 0) → List A → Type 0
+Each P [] = Unit {0}
+Each P (a ∷ xs) = P a × Each P xs
+
+abbrev pub IsFalse : List Val → ℕ → List Term → Instance → Type 0
+IsFalse s n ts e = truth_of (ev (instance_ex n ts e) (over s)) ≡ false
+
+-- there is an instance, and each is false
+pub record AreFalse (n : ℕ) (ts : List Term) (s : List Val) (es : List Instance) : Type 0 where
+  pub some : 0 < length es
+  pub each : Each (IsFalse s n ts) es
+
+-- what incarnations and terms are worth, and nothing else
+abbrev pub seen_at : List Scalar → Seen
+seen_at values = record { tables = []; globals = []; before = []; frame = values }
+
+-- this operation of the arguments is the first that leaves the range
+pub record LeavesFirst (ts : List Term) (values : List Scalar) (o : OutOfRange) : Type 0 where
+  pub number : ℕ
+  pub term : Term
+  pub is_there : slice_get ts number ≡ Some term
+  pub leaves : worths term.args (seen_at values) ≡ Leave o
+  pub before : (a : ℕ) (t : Term) → a < number → slice_get ts a ≡ Some t → (xs : List Scalar) × (worths t.args (seen_at values) ≡ Are xs)
+
+-- what a leaf comes to
+abbrev pub IsFinish : List Fun → ℕ → List Term → List Scalar → Finish → Type 0
+IsFinish fs n ts s (come.Tables made) = AreReadOff fs n ts (map val_of s) (tables_of (tables_in made.items))
+IsFinish fs n ts s (come.Instances made) = AreFalse n ts (map val_of s) (instances_of made.items)
+IsFinish fs n ts s (come.Leaves o) = LeavesFirst ts s o
+IsFinish fs n ts s come.NoScalars = ⊥

@@ -1,0 +1,4 @@
+pub mod Finished
+pub mod Rows
+pub mod Firsts
+pub mod Filled

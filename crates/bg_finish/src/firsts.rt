@@ -1,0 +1,98 @@
+//! Congruences that are false.
+ghost use Rattle.std.specs.Prelude.{◌≡◌, ◌∷◌, [], ◌++◌, if◌then◌else◌, List, length, IfOk, OnOk};
+ghost use Rattle.bg_term_table.specs.declared.instance.Instance.TheVariants.{Congruent};
+ghost use Rattle.bg_ast.specs.Values.{val_eq};
+ghost use Rattle.bg_scalar.specs.Values.{val_of};
+ghost use Rattle.bg_finish.specs.Rows.{RowOf, row_of, rows_of};
+ghost use Rattle.bg_finish.specs.Firsts.{IsSoFar, AreApart};
+
+use crate::row::Row;
+use bg_scalar::Scalar;
+use bg_term_table::Instance;
+use std::alloc::{AllocError, Global};
+use std::collections::BTreeMap;
+
+/// A function, and arguments.
+type Key = (u32, Vec<Scalar>);
+
+/// The key of an application.
+fn key(alloc: Global, row: &Row) -> Result<Key, AllocError>
+    ensures function { IfOk result (λ k. k.0 ≡ row.now.function) }
+    ensures args { IfOk result (λ k. k.1.items ≡ row.now.args.items) }
+{
+    let args = row.args.to_vec(alloc)?;
+    Ok((row.function, args))
+}
+
+/// Whether two scalars are one.
+pub fn is_same(x: Scalar, y: Scalar) -> bool
+    ensures { result ≡ val_eq (val_of x) (val_of y) }
+{
+    match x {
+        Scalar::Truth(a) => match y {
+            Scalar::Truth(b) => a == b,
+            Scalar::Number(_) => false,
+        },
+        Scalar::Number(a) => match y {
+            Scalar::Truth(_) => false,
+            Scalar::Number(b) => a == b,
+        },
+    }
+}
+
+/// The congruence of these terms, unless they are the same.
+fn tell(made: &mut Vec<Instance>, a: u32, b: u32, same: bool) -> Result<(), AllocError>
+    ensures { OnOk result (made.new.items ≡ (if same then made.old.items else made.old.items ++ Congruent a b ∷ [])) }
+{
+    if same {
+        return Ok(());
+    }
+    made.push(Instance::Congruent(a, b))?;
+    Ok(())
+}
+
+/// Compares the application at this place with the first one that has its key, and keeps it where it is the first.
+fn compare(
+    alloc: Global,
+    known: &mut BTreeMap<Key, (u32, Scalar)>,
+    made: &mut Vec<Instance>,
+    b: u32,
+    row: &Row,
+) -> Result<(), AllocError>
+    ensures { OnOk result ((rs : List RowOf) → length rs ≡ b → IsSoFar known.old made.old.items rs → IsSoFar known.new made.new.items (rs ++ row_of row.now ∷ [])) }
+{
+    let at = key(alloc, row)?;
+    let first = known.get(&at).copied();
+    match first {
+        None => {
+            known.insert(at, (b, row.value))?;
+            Ok(())
+        }
+        Some((a, value)) => tell(made, a, b, is_same(value, row.value)),
+    }
+}
+
+/// The congruences of each application with the first one that has its function and its arguments' values, where these differ.
+pub fn instances(alloc: Global, rows: &[Row]) -> Result<Vec<Instance>, AllocError>
+    ensures { IfOk result (λ made. AreApart (rows_of rows.now) made.items) }
+{
+    let mut known = BTreeMap::new(alloc);
+    let mut made = Vec::new(alloc);
+    let mut i = 0;
+    while i < rows.len() {
+        let b = number(i)?;
+        compare(alloc, &mut known, &mut made, b, &rows[i])?;
+        i += 1;
+    }
+    Ok(made)
+}
+
+/// A place as the number of a term; 2^32 terms count as want of memory.
+fn number(place: usize) -> Result<u32, AllocError>
+    ensures { IfOk result (λ n. n ≡ place) }
+{
+    match u32::try_from(place) {
+        Ok(n) => Ok(n),
+        Err(_) => Err(AllocError),
+    }
+}

@@ -1,0 +1,57 @@
+//! Flat blocks behind instances.
+ghost use Rattle.std.specs.Prelude.{◌≡◌, ◌++◌, List, map, IfOk};
+ghost use Rattle.bg_ast.specs.Syntax.{Fun};
+ghost use Rattle.bg_incarnate.specs.Views.{cmds_of, passive_block_of};
+ghost use Rattle.bg_flat.specs.Blocks.{in_front};
+ghost use Rattle.bg_flat.specs.Fronts.{stated};
+ghost use Rattle.bg_flatten.specs.Plain.{PlainBlocks};
+ghost use Rattle.bg_term_table.specs.Views.{terms_in};
+ghost use Rattle.bg_term_table.specs.Instances.{instances_of};
+
+use crate::stated::supposing;
+use bg_flatten::laws::plain_blocks_stay;
+use bg_flatten::{Flat, flattened};
+use bg_incarnate::{PassiveBlock, PassiveCmd};
+use bg_term_table::{Instance, Term};
+use std::alloc::{AllocError, Global};
+use std::mem::replace;
+
+/// The commands in front of those of the block.
+fn with_front(mut front: Vec<PassiveCmd>, block: PassiveBlock) -> Result<PassiveBlock, AllocError>
+    ensures { IfOk result (λ made. passive_block_of made ≡ record { cmds = cmds_of front.items ++ (passive_block_of block).cmds; next = (passive_block_of block).next }) }
+{
+    let PassiveBlock { mut cmds, next } = block;
+    front.append(&mut cmds)?;
+    Ok(PassiveBlock { cmds: front, next })
+}
+
+/// Flat blocks, which hold no application and no `old`, behind what instances say of terms that stand behind so many incarnations. All of
+/// it is copied.
+///
+/// Only want of memory is an error; 2^32 incarnations and terms count as such.
+pub fn behind(
+    alloc: Global,
+    count: u32,
+    terms: &[Term],
+    instances: &[Instance],
+    flats: &[PassiveBlock],
+) -> Result<Vec<PassiveBlock>, AllocError>
+    ensures { IfOk result (λ made. (fs : List Fun) → PlainBlocks (map passive_block_of flats.now) → map passive_block_of made.items ≡ in_front (stated count (terms_in fs terms.now) (instances_of instances.now)) (map passive_block_of flats.now)) }
+{
+    plain_blocks_stay();
+    let Flat {
+        terms: _,
+        mut blocks,
+    } = flattened(alloc, count, flats)?;
+    if blocks.is_empty() {
+        return Ok(blocks);
+    }
+    let front = supposing(alloc, count, terms, instances)?;
+    let blank = PassiveBlock {
+        cmds: Vec::new(alloc),
+        next: Vec::new(alloc),
+    };
+    let first = replace(&mut blocks[0], blank);
+    blocks[0] = with_front(front, first)?;
+    Ok(blocks)
+}

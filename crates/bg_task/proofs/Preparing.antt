@@ -1,0 +1,110 @@
+-- Terms, flat blocks and sorts of an implementation that is prepared, and its blocks of forms behind instances.
+use Rattle.std.proofs.Common.{◌≡◌, ℕ, ◌+◌, true, List, [], ◌++◌, map, Some, sym, ap, ◌∙◌, subst}
+use Rattle.std.specs.Prelude.{slice_get}
+use Rattle.bg_ast.specs.Syntax as s
+use Rattle.bg_ast.specs.Resolved as r
+use Rattle.bg_ast.specs.Meaning.{meaning_of, named_of, fun_of}
+use Rattle.bg_sense.specs.Typed.{IsTyped}
+use Rattle.bg_sense.specs.Variables.{procedure_of}
+use Rattle.bg_fits.specs.Scalars.{is_over_scalars}
+use Rattle.bg_passive.specs.Passive.{PassiveBlock}
+use Rattle.bg_block_types.specs.Typed.{incarnations_in, passives_in}
+use Rattle.bg_incarnate.specs.Views.{passive_block_of}
+use Rattle.bg_formed.specs.Views.{blocks_of}
+use Rattle.bg_linear.specs.declared.scalar.Sort.{Sort}
+use Rattle.bg_sorts.specs.Sorts.{sort_of_type}
+use Rattle.bg_atoms.specs.Listed.{rows_of}
+use Rattle.bg_atoms.specs.Encoded.{blocks_over}
+use Rattle.bg_atoms.specs.Made.{rows_in}
+use Rattle.bg_atoms.specs.Sorted.{blocks_sorted}
+use Rattle.bg_atoms.specs.declared.product.Atoms.{Atoms}
+use Rattle.bg_faithful.specs.Encoded.{Encodes}
+use Rattle.bg_terms.specs.Terms.{Term}
+use Rattle.bg_terms.specs.Typed.{type_of}
+use Rattle.bg_terms.specs.Instances.{Instance}
+use Rattle.bg_flat.specs.Blocks.{in_front}
+use Rattle.bg_flat.specs.Fronts.{stated}
+use Rattle.bg_flatten.specs.Numbered.{terms_of, flat_of}
+use Rattle.bg_flatten.specs.Plain.{PlainBlocks}
+use Rattle.bg_flat_clauses.specs.Sorts.{flat_sorts}
+use Rattle.bg_term_table.specs.Views as table
+use Rattle.bg_termed.specs.Termed.{count_in, terms_in, flats_in, sorts_in, behind_in}
+use Rattle.bg_task.specs.declared.prepared.Prepared.{Prepared}
+use Rattle.bg_task.specs.Prepared.{IsPrepared, encoding_over}
+use Rattle.bg_task.specs.Cuts.{IsOwn}
+use Rattle.bg_task.proofs.LawTypes.{SortLaw}
+use Rattle.bg_task.proofs.Prepares.{impl, proc, impl_at, proc_at, own_here, sorted_own, none_in_front}
+
+-- ---- what the laws of flat blocks say
+
+abbrev pub PlainLaw : Type 0
+PlainLaw =
+    (p : s.Prog) (k : ℕ) (m : s.Impl) (q : s.Proc) → IsTyped p → p.functions ≡ [] → slice_get p.implementations k ≡ Some m →
+    procedure_of p m.procedure ≡ Some q → PlainBlocks (passives_in p k m q)
+
+abbrev pub SortsLaw : Type 0
+SortsLaw =
+    (p : s.Prog) (k : ℕ) (m : s.Impl) (q : s.Proc) → IsTyped p → is_over_scalars true p ≡ true → slice_get p.implementations k ≡ Some m →
+    procedure_of p m.procedure ≡ Some q → sorts_in p k m q ≡ map sort_of_type (incarnations_in p k m q) ++ flat_sorts (map type_of (terms_in p k m q))
+
+abbrev pub PlainFlatLaw : Type 0
+PlainFlatLaw =
+    (p : s.Prog) (k : ℕ) (m : s.Impl) (q : s.Proc) → IsTyped p → is_over_scalars true p ≡ true → slice_get p.implementations k ≡ Some m →
+    procedure_of p m.procedure ≡ Some q → PlainBlocks (flats_in p k m q)
+
+-- ---- what is made once
+
+module _ (p : s.Prog) (n : ℕ) (m : s.Impl) (q : s.Proc) (count : ℕ) (ps : List PassiveBlock) (many : count ≡ count_in p n m q) (passives : ps ≡ passives_in p n m q) where
+  pub terms_are : (ts : List Term) → ts ≡ terms_of p.functions count ps → ts ≡ terms_in p n m q
+  terms_are ts e =
+      e ∙ (ap (λ k. terms_of p.functions k ps) many ∙ ap (terms_of p.functions (count_in p n m q)) passives)
+
+  pub flats_are : (fs : List PassiveBlock) → fs ≡ flat_of p.functions count ps → fs ≡ flats_in p n m q
+  flats_are fs e =
+      e ∙ (ap (λ k. flat_of p.functions k ps) many ∙ ap (flat_of p.functions (count_in p n m q)) passives)
+
+  pub plain_here : PlainLaw → IsTyped p → slice_get p.implementations n ≡ Some m → procedure_of p m.procedure ≡ Some q → p.functions ≡ [] → PlainBlocks ps
+  plain_here law t im pr none = subst PlainBlocks (sym passives) (law p n m q t none im pr)
+
+pub no_functions : (p : r.Program) → p.functions ≡ [] → (meaning_of p).functions ≡ []
+no_functions p e = ap (map (fun_of (named_of p.types))) e
+
+pub sorts_all : SortsLaw → (p : s.Prog) (n : ℕ) (m : s.Impl) (q : s.Proc) → IsTyped p → is_over_scalars true p ≡ true → slice_get p.implementations n ≡ Some m → procedure_of p m.procedure ≡ Some q → (incs : List Sort) (ts : List Term) (ss : List Sort) → incs ≡ map sort_of_type (incarnations_in p n m q) → ts ≡ terms_in p n m q → ss ≡ incs ++ flat_sorts (map type_of ts) → ss ≡ sorts_in p n m q
+sorts_all law p n m q t o im pr incs ts ss a b e =
+    e
+    ∙ (ap (λ is. is ++ flat_sorts (map type_of ts)) a
+    ∙ (ap (λ us. map sort_of_type (incarnations_in p n m q) ++ flat_sorts (map type_of us)) b ∙ sym (law p n m q t o im pr)))
+
+-- flat blocks behind no instance
+pub behind_none : (p : s.Prog) (n : ℕ) (m : s.Impl) (q : s.Proc) (fs : List PassiveBlock) → fs ≡ flats_in p n m q → fs ≡ behind_in p n m q []
+behind_none p n m q fs e = e ∙ sym (none_in_front (flats_in p n m q))
+
+-- ---- behind instances
+
+module _ (p : r.Program) (n : ℕ) (w : Prepared) (h : IsPrepared p n w) (t : IsTyped (meaning_of p)) (o : is_over_scalars true (meaning_of p) ≡ true) (some : w.terms.items ≡ [] → ⊥) where
+  abbrev P : s.Prog
+  P = meaning_of p
+
+  abbrev M : s.Impl
+  M = impl p n w h
+
+  abbrev Q : s.Proc
+  Q = proc p n w h
+
+  pub plain_flats : PlainFlatLaw → PlainBlocks (map passive_block_of w.flats.items)
+  plain_flats law = subst PlainBlocks (sym (h.flats some)) (law P n M Q t o (impl_at p n w h) (proc_at p n w h))
+
+  pub behind_is : (es : List Instance) (bs : List PassiveBlock) → bs ≡ in_front (stated w.count (table.terms_in P.functions w.terms.items) es) (map passive_block_of w.flats.items) → bs ≡ behind_in P n M Q es
+  behind_is es bs e =
+      e
+      ∙ (ap (λ k. in_front (stated k (table.terms_in P.functions w.terms.items) es) (map passive_block_of w.flats.items)) h.count
+      ∙ (ap (λ ts. in_front (stated (count_in P n M Q) ts es) (map passive_block_of w.flats.items)) h.terms
+      ∙ ap (λ fs. in_front (stated (count_in P n M Q) (terms_in P n M Q) es) fs) (h.flats some)))
+
+  pub sorted_behind : SortLaw → (es : List Instance) (ss : List Sort) (k : ℕ) (bs : List PassiveBlock) → ss ≡ w.sorts.items → k ≡ P.candidates → bs ≡ behind_in P n M Q es → blocks_sorted ss k bs ≡ true
+  sorted_behind law es ss k bs a b c =
+      sorted_own law P n M Q es t o (impl_at p n w h) (proc_at p n w h) ss k bs (a ∙ h.sorts) b c
+
+  pub own_behind : (es : List Instance) (ss : List Sort) (k : ℕ) (bs : List PassiveBlock) (a : Atoms) → ss ≡ w.sorts.items → k ≡ P.candidates → bs ≡ behind_in P n M Q es → Encodes ss k bs (encoding_over k a) → blocks_of a.blocks ≡ blocks_over ss a.first (rows_in a.rows) bs → rows_in a.rows ≡ rows_of ss bs → IsOwn P n M Q es (encoding_over P.candidates a)
+  own_behind es ss k bs a x y z encodes exact listed =
+      own_here P n M Q es ss k bs a (x ∙ h.sorts) y z encodes exact listed

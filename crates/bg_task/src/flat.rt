@@ -1,0 +1,35 @@
+//! An implementation's passive blocks made flat.
+ghost use Rattle.std.specs.Prelude.{◌≡◌, [], List, map, IfOk};
+ghost use Rattle.bg_ast.specs.Syntax.{Fun};
+ghost use Rattle.bg_ast.specs.Views.{program_of};
+ghost use Rattle.bg_incarnate.specs.Views.{passive_block_of};
+ghost use Rattle.bg_flatten.specs.Numbered.{terms_of, flat_of};
+ghost use Rattle.bg_flatten.specs.Plain.{PlainBlocks};
+ghost use Rattle.bg_term_table.specs.Views.{terms_in};
+
+use bg_ast::resolved::Resolved;
+use bg_flatten::laws::plain_blocks_stay;
+use bg_flatten::{Flat, flattened};
+use bg_incarnate::PassiveBlock;
+use std::alloc::{AllocError, Global};
+
+/// Passive blocks over so many incarnations made flat, with their terms. In a program without functions, where they hold no application
+/// and no `old`, they are flat as they are.
+pub fn made_flat(
+    alloc: Global,
+    program: &Resolved,
+    count: u32,
+    passives: Vec<PassiveBlock>,
+) -> Result<Flat, AllocError>
+    ensures terms { IfOk result (λ made. ((program_of program.now).functions ≡ [] → PlainBlocks (map passive_block_of passives.items)) → (fs : List Fun) → terms_in fs made.terms.items ≡ terms_of fs count (map passive_block_of passives.items)) }
+    ensures blocks { IfOk result (λ made. ((program_of program.now).functions ≡ [] → PlainBlocks (map passive_block_of passives.items)) → (fs : List Fun) → map passive_block_of made.blocks.items ≡ flat_of fs count (map passive_block_of passives.items)) }
+{
+    plain_blocks_stay();
+    if program.functions.is_empty() {
+        return Ok(Flat {
+            terms: Vec::new(alloc),
+            blocks: passives,
+        });
+    }
+    flattened(alloc, count, &passives)
+}
