@@ -38,8 +38,11 @@ fn judge(alloc: Global, question: Question<'_, '_>, budget: Budget) -> Result<Ju
     })
 }
 
-/// What is known of each of these places of the implementation that is prepared.
-fn judge_places<'q, 'p>(
+/// What is known of each of these places of the implementation that is prepared, under a set of candidates. In a search at most the
+/// budget's nodes count, and it keeps at most its rows.
+///
+/// Only want of memory is an error; 2^32 atoms count as such.
+pub fn judge_places<'q, 'p>(
     alloc: Global,
     program: &'q Resolved,
     prepared: &'q Prepared<'p>,

@@ -16,6 +16,7 @@ mod replayed;
 mod rounds;
 mod verdict;
 
-pub use implementation::judge_ordinary;
+pub use implementation::{judge_ordinary, judge_places};
+pub use ordinary::ordinary_places;
 pub use rounds::check_place;
 pub use verdict::{Cause, Judged, Round, Verdict};

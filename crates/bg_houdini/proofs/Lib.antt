@@ -11,4 +11,5 @@ pub mod Whole
 pub mod Listed
 pub mod Pieces
 pub mod Portions
+pub mod Places
 pub mod Shared

@@ -38,6 +38,7 @@ use Rattle.std.specs.contracts.vec.Vec as vec_row
 use Rattle.std.specs.contracts.impls.GlobalAllocator.TheImpl.{ghosts}
 use Rattle.bg_places.proofs.place.Group.TheSendSync as group
 use Rattle.bg_places.proofs.place.Place.TheSendSync as place
+use Rattle.bg_places.specs.contracts.place.Place as place_row
 use Rattle.bg_places.proofs.place.Spot.TheSendSync as spot
 use Rattle.bg_linear.proofs.scalar.Sort.TheSendSync as sort
 use Rattle.bg_tree.proofs.outcome.Budget.TheSendSync as budget
@@ -148,9 +149,16 @@ prepared_sync a = search (block_sync, term_sync, passive_block_sync, sort.the_sy
 pub judging_sync : (a : NamedLft) → IsSync (judging.the_row a)
 judging_sync a = search (resolved_sync, prepared_sync, place.the_sync, budget.the_field_sync, parts) depth 60 fits 20000
 
+pub place_sync : IsSync place_row.the_row
+place_sync = search (place.the_sync, parts) depth 60 fits 20000
+
 -- what the closure of a piece captures
 pub captured_sync : (name : List ℕ) (a b c d : NamedLft) → IsSync (TupleAt name ((shr_ref_field a heap.the_row tt).row ∷ (shr_ref_field b (judging.the_row c) tt).row ∷ (shr_slice_field d bool-field.row tt).row ∷ []))
 captured_sync name a b c d = search (judging_sync, parts) depth 60 fits 20000
+
+-- what the closure of a piece of places captures
+pub among_sync : (name : List ℕ) (a b c d e f : NamedLft) → IsSync (TupleAt name ((shr_ref_field a heap.the_row tt).row ∷ (shr_ref_field b (judging.the_row c) tt).row ∷ (shr_ref_field d (prepared.the_row e) tt).row ∷ (shr_slice_field f bool-field.row tt).row ∷ []))
+among_sync name a b c d e f = search (judging_sync, prepared_sync, parts) depth 60 fits 20000
 
 -- what a thread that prepares a piece has made may leave it
 pub ruleset leaving = (pos.the_field_send, pos.the_send, cand.the_field_send, cand.the_send, name.the_field_send, name.the_send, placed.the_field_send, placed.the_send, option.the_send, vec.the_send, global.the_send, parts)

@@ -4,3 +4,4 @@ pub mod Checkers
 pub mod Pieces
 pub mod Outcomes
 pub mod Told
+pub mod Known

@@ -2,6 +2,7 @@
 #![tactic(auto)]
 
 mod answer;
+mod apart;
 mod chunks;
 mod desk;
 mod inference;

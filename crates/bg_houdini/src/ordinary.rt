@@ -4,6 +4,7 @@ ghost use Rattle.bg_words.specs.Sets.{has};
 ghost use Rattle.bg_check.specs.Verdicts.{AreRightFrom, AreRightUnder, judged};
 ghost use Rattle.bg_houdini.specs.Checkers.{ArePreparedFrom, IsJudging, program_in};
 
+use crate::apart::judge_apart;
 use crate::chunks::{joined, piece_size};
 use crate::judging::Judging;
 use crate::sets::truths_of;
@@ -45,19 +46,17 @@ fn judge_piece(
 
 /// What is known of each ordinary place under a set of candidates, by implementation and place. The implementations are checked in at most
 /// as many pieces as workers, each in a thread of its own where one can be made.
-pub fn judge_all<R: Threads + Sync>(
+fn judge_runs<R: Threads + Sync>(
     rt: &R,
     alloc: Global,
     judging: &Judging<'_>,
-    set: &CandSet,
+    known: &[bool],
     workers: u32,
 ) -> Result<Vec<Vec<Judged>>, AllocError>
     requires judging { IsJudging judging.now }
     requires workers { 0 < workers }
-    ensures { IfOk result (λ made. AreRightUnder (has set.now) judging.now.budget (program_in judging.now) (judged made.items)) }
+    ensures { IfOk result (λ made. AreRightUnder (has known.now) judging.now.budget (program_in judging.now) (judged made.items)) }
 {
-    let truths = truths_of(alloc, set)?;
-    let known = truths.as_slice();
     let prepared = judging.prepared.as_slice();
     let size = piece_size(prepared.len(), workers);
     let pieces = thread::map_chunks(
@@ -72,4 +71,48 @@ pub fn judge_all<R: Threads + Sync>(
         { judge_piece(alloc, judging, first, piece, known) },
     )?;
     joined(alloc, pieces)
+}
+
+/// What is known of each ordinary place under a set of candidates, by implementation and place. The places of an implementation are
+/// checked in at most as many pieces as workers, and the implementations one after the other.
+fn judge_each<R: Threads + Sync>(
+    rt: &R,
+    alloc: Global,
+    judging: &Judging<'_>,
+    known: &[bool],
+    workers: u32,
+) -> Result<Vec<Vec<Judged>>, AllocError>
+    requires judging { IsJudging judging.now }
+    requires workers { 0 < workers }
+    ensures { IfOk result (λ made. AreRightUnder (has known.now) judging.now.budget (program_in judging.now) (judged made.items)) }
+{
+    let mut made = Vec::new(alloc);
+    for k in 0..judging.prepared.len() {
+        let one = judge_apart(rt, alloc, judging, k, known, workers)?;
+        made.push(one)?;
+    }
+    Ok(made)
+}
+
+/// What is known of each ordinary place under a set of candidates, by implementation and place. The implementations are checked in at most
+/// as many pieces as workers, each in a thread of its own where one can be made; where there are fewer implementations than workers, so are
+/// the places of each.
+pub fn judge_all<R: Threads + Sync>(
+    rt: &R,
+    alloc: Global,
+    judging: &Judging<'_>,
+    set: &CandSet,
+    workers: u32,
+) -> Result<Vec<Vec<Judged>>, AllocError>
+    requires judging { IsJudging judging.now }
+    requires workers { 0 < workers }
+    ensures { IfOk result (λ made. AreRightUnder (has set.now) judging.now.budget (program_in judging.now) (judged made.items)) }
+{
+    let truths = truths_of(alloc, set)?;
+    let known = truths.as_slice();
+    if judging.prepared.len() < workers as usize {
+        judge_each(rt, alloc, judging, known, workers)
+    } else {
+        judge_runs(rt, alloc, judging, known, workers)
+    }
 }
