@@ -20,7 +20,8 @@ import inference
 MEASURED = {
     "straight": (100, 800), "counters": (10, 40), "machine": (80,), "settled": (200, 1000), "chain": (1000,),
     "implementations": (1000,), "ways": (8, 12, 32), "checked_ways": (8, 32), "sorter": (3, 5), "tickets": (3, 5, 7),
-    "pigeons": (5,), "locals_alone": (1000, 4000), "globals_alone": (1000, 10000),
+    "pigeons": (5,), "locals_alone": (1000, 4000), "globals_alone": (1000, 10000), "looked_up": (50, 150), "nested": (10, 40),
+    "nested_open": (10, 40),
 }  # fmt: skip
 
 
@@ -138,7 +139,32 @@ def tickets(n):
     return "\n".join(lines + ["  }"] + [f"  assert !(s{i} == 2 && s{j} == 2);" for i in range(n) for j in range(i)] + ["}", ""])
 
 
-FAMILIES = {f.__name__: f for f in (settled, counters, ways, checked_ways, machine, straight, chain, implementations, locals_alone, globals_alone, sorter, pigeons, tickets)}
+def looked_up(n):
+    """A walk through tables: three functions, axioms of ground facts, and n applications in a row."""
+    after, price = [(3 * i + 1) % 8 for i in range(8)], [(5 * i + 2) % 7 for i in range(8)]
+    lines = ["function after(k: int): int;", "function price(k: int): int;", "function fee(k: int, s: int): int;"]
+    lines += [f"axiom after({i}) == {after[i]} && price({i}) == {price[i]};" for i in range(8)]
+    lines += ["procedure P(first: int) returns (k: int, s: int)", "  requires first == 0;", "{", "  k := first; s := 0;"]
+    at = worth = 0
+    for i in range(n // 3):
+        lines.append(f"  {'s := s + price(k);' if i % 2 else 'assume fee(k, s) == price(k) + s; s := fee(k, s);'} k := after(k);")
+        worth, at = worth + price[at], after[at]
+    return "\n".join(lines + [f"  assert s == {worth};", f"  assert k == {at};", "}", ""])
+
+
+def nested(n, open_ways=False):
+    """n applications one in the other, of equal arguments."""
+    said = ["f(" * k + x + ")" * k for k in (n, n - 1) for x in "xy"]
+    claim = f"{said[0]} == {said[1]} ==> {said[2]} == {said[3]}" if open_ways else f"x == y ==> {said[0]} == {said[1]}"
+    return f"function f(int): int;\nprocedure P(x: int, y: int) {{ assert {claim}; }}\n"
+
+
+def nested_open(n):
+    """The same, where the function would have to be one to one."""
+    return nested(n, open_ways=True)
+
+
+FAMILIES = {f.__name__: f for f in (settled, counters, ways, checked_ways, machine, straight, chain, implementations, locals_alone, globals_alone, sorter, pigeons, tickets, looked_up, nested, nested_open)}
 
 
 def median(command, runs, seconds):
@@ -150,6 +176,18 @@ def median(command, runs, seconds):
 def verdicts(report):
     found = re.search(r"; (\d+) verified, (\d+) refuted, (\d+) unknown$", report, re.M)
     return ", ".join(f"{n} {word}" for n, word in zip(found.groups(), ("verified", "refuted", "unknown")) if n != "0") if found else "none"
+
+
+def share(ours, theirs):
+    """How many times as long as the one the other took."""
+    return f"1/{theirs / ours:.0f}" if ours < theirs else f"{ours / theirs:.1f}"
+
+
+def agree(ours, theirs):
+    """Whether both verify as many implementations, and refute the same; where Boogie said nothing it ran out of time."""
+    found = re.search(r"finished with (\d+) verified, (\d+) errors?", theirs)
+    counts = re.search(r"; (\d+) verified, (\d+) refuted, 0 unknown$", ours, re.M)
+    return not theirs or bool(found and counts and found[1] == counts[1] and (found[2] == "0") == (counts[2] == "0"))
 
 
 def main():
@@ -173,8 +211,7 @@ def main():
                 cells = [f"`{name} {size}`", verdicts(report), inference.cell(ours, memory)]
                 if boogie:
                     said, theirs, room = median([boogie, "/nologo", "/noinfer", source], args.runs, args.seconds)
-                    found = re.search(r"finished with (\d+) verified, 0 errors", said)
-                    cells += [inference.cell(theirs, room), f"1/{theirs / ours:.0f}" if found or not said else "NOT THE SAME"]
+                    cells += [inference.cell(theirs, room), share(ours, theirs) if agree(report, said) else "NOT THE SAME"]
                 print(f"| {' | '.join(cells)} |", flush=True)
 
 
