@@ -5,7 +5,8 @@ usage: certificates.py --bg COMMAND [--short]
 
 - Each program of examples/ that is verified as it is written: what `certify` writes has its status, and `check` accepts it. For each other
   one that is judged, `check` names the first place that its report doesn't call proved.
-- The first reason why a certificate is rejected or refused, for texts written by hand.
+- The first reason why a certificate is rejected or refused, for texts written by hand; among them values and tables with elements of
+  user types, wrong in one way each.
 - A certificate without one of its lines, with two of its sections exchanged or with one twice, is never accepted: so nothing in it is idle.
 - Hostile texts: numbers out of range, a hundred thousand splits, a text cut off behind each line, one line as long as a text may be: a
   named status, and memory that grows with the text alone. With --short these are shorter.
@@ -31,9 +32,50 @@ COUNT = """const {:existential true} b0, b1, b2: bool;
 procedure Count(n: int) returns (i: int) requires 0 <= n; ensures i == n;
 { i := 0; while (i < n) invariant b0 ==> i >= 0; invariant b1 ==> i >= 1; invariant b2 ==> i <= n; { i := i + 1; } }"""
 CONSTANTS = "const c: int; const on: bool; axiom 2 <= c && c < 5; axiom on ==> c == 4;"
+ELEMENTS = """type S = T, T, U; const unique a, b: T; const unique d: S; const c: U;
+function f(x: S, n: int): U; function g(t: T, u: U): S; axiom f(a, 1) != c && f(b, 1) == c;"""
+OF_ELEMENTS = """const a T!-1
+const b T!3
+const d T!7
+const c U!3
+function f [T!-1,1 := U!0, else U!3]
+function g [T!-2,U!0 := T!1, T!3,U!-1 := T!2, T!3,U!4 := T!3, else T!0]
+"""
 UNPROVED = "rejected: P 1:1 assert 1:45\n"
 TIMES = 60  # kilobytes of memory for each kilobyte of a hostile text, at most
 BASE = 60_000  # kilobytes of memory that any run may take
+
+# what may not stand in a certificate's values of ELEMENTS: why, a part of them, and what stands in its place. Nothing else is wrong there
+WRONG_ELEMENTS = [
+    ("one element for two unique constants, of which one is declared by a synonym", "d T!7", "d T!3"),
+    ("another element, with which an axiom is false", "c U!3", "c U!0"),
+    ("an element of another type", "b T!3", "b U!3"),
+    ("an element of a synonym, for a constant of its type", "b T!3", "b S!3"),
+    ("an element of a synonym, for a constant that is declared by it", "d T!7", "d S!7"),
+    ("an element of no type", "b T!3", "b V!3"),
+    ("a number for an element", "c U!3", "c 3"),
+    ("a key of another type", "[T!-1,1", "[U!-1,1"),
+    ("a key of a synonym", "[T!-1,1", "[S!-1,1"),
+    ("an element for a number in a key", "[T!-1,1", "[T!-1,T!1"),
+    ("a number for an element in a key", "[T!-2,U!0", "[T!-2,0"),
+    ("a key with a part too few", "[T!-2,U!0", "[T!-2"),
+    ("a key with a part too many", "[T!-2,U!0", "[T!-2,U!0,U!0"),
+    ("an entry's value of another type", ":= T!1", ":= U!1"),
+    ("a default of another type", "else U!3", "else T!3"),
+    ("a default of a synonym", "else T!0", "else S!0"),
+]
+# and what no line has: why, a part of them, what stands in its place, and the line
+NO_ELEMENTS = [
+    ("keys in another order by their first parts", "U!0, else", "U!0, T!-2,1 := U!5, else", 7),
+    ("keys in another order by their second parts", "T!3,U!-1 := T!2, T!3,U!4 := T!3", "T!3,U!4 := T!3, T!3,U!-1 := T!2", 8),
+    ("an entry with the default", "U!0, else", "U!0, T!4,1 := U!3, else", 7),
+    ("a needless zero in an element's number", "U!0, else", "U!00, else", 7),
+    ("an element without a number", "U!0, else", "U!, else", 7),
+    ("an element without a name", "U!0, else", "!0, else", 7),
+    ("two marks in an element", "a T!-1", "a T!-1!-1", 3),
+    ("a comma in the name of an element's type", "a T!-1", "a T,T!-1", 3),
+    ("an element's number past 128 bits", "a T!-1", f"a T!{2**127}", 3),
+]
 
 # a program, a certificate, the status, what is written to the output and to the errors
 ANSWERS = [
@@ -131,6 +173,17 @@ def answers(t):
         t.holds(f"{cert!r} for {program!r}", got == (status, out.encode(), err.encode()), got)
 
 
+def elements(t):
+    """Values and tables with elements, and what may not stand in one's place: each is wrong in one way."""
+    path = t.stored("a.bpl", ELEMENTS.encode())
+    wrong = [(why, part, other, (1, b"rejected: axioms\n", b"")) for why, part, other in WRONG_ELEMENTS]
+    none = [(why, part, other, (3, b"", b"error: certificate line %d\n" % line)) for why, part, other, line in NO_ELEMENTS]
+    for why, part, other, wanted in [("as they should be", "", "", (0, b"accepted\n", b"")), *wrong, *none]:
+        cert = FRONT + OF_ELEMENTS.replace(part, other, 1) + "end\n"
+        got = t.check(cert.encode(), path)
+        t.holds(f"elements: {why}", part in OF_ELEMENTS and got == wanted, (cert, got))
+
+
 def sections_of(lines):
     """The lines in front of the sections, and the sections."""
     starts = [i for i, line in enumerate(lines) if line.startswith(b"place ")] + [len(lines) - 1]
@@ -202,6 +255,7 @@ def main():
         for source in sorted(glob.glob(os.path.join(TOP, "examples", "*.bpl"))):
             example(t, source)
         answers(t)
+        elements(t)
         for name in ("count_inferred",) if args.short else ("count_inferred", "insertion_inferred", "gcd", "bank_inferred"):
             source = os.path.join(TOP, "examples", name + ".bpl")
             doctored(t, source)

@@ -1,4 +1,4 @@
-"""Executes programs over truth values and whole numbers, for the judge of reports; the rules are those of docs/MEANING.md.
+"""Executes programs over truth values, whole numbers and elements of user types, for the judge of reports; the rules are those of docs/MEANING.md.
 
 Statements are executed and nothing is proved; whole numbers have no bound. A run is a source run, in which loops turn, or an
 induction run, in which a loop checks its invariants, forgets what its body may change, and makes one turn or none. Calls go by
@@ -7,6 +7,7 @@ the callee's contract in both.
 import operator
 import random
 import re
+from typing import NamedTuple
 
 from language import FUNCTIONS, TABLES, walk
 
@@ -16,6 +17,13 @@ OPERATORS = {
     "&&": lambda a, b: a and b, "||": lambda a, b: a or b, "==>": lambda a, b: not a or b,
 }  # fmt: skip
 VALUES = {"bool": r"true|false", "int": r"0|-?[1-9][0-9]*"}
+
+
+class Element(NamedTuple):
+    """The element with a number of the user type with a name."""
+
+    type: str
+    number: int
 
 
 def evaluate(now, entry, says):
@@ -43,6 +51,9 @@ def evaluate(now, entry, says):
 
 def value_of(text, kind):
     """The value that a text spells, or None."""
+    if kind not in VALUES:
+        name, mark, number = text.rpartition("!")
+        return Element(kind, int(number)) if (name, mark) == (kind, "!") and re.fullmatch(VALUES["int"], number) else None
     if not re.fullmatch(VALUES[kind], text):
         return None
     return text == "true" if kind == "bool" else int(text)
@@ -51,6 +62,8 @@ def value_of(text, kind):
 def text_of(value):
     if isinstance(value, dict):
         return "; ".join(f"{name} {table}" for name, table in value.items())
+    if isinstance(value, Element):
+        return f"{value.type}!{value.number}"
     return str(value).lower() if isinstance(value, bool) else str(value)
 
 
@@ -137,6 +150,8 @@ class RandomChoices:
         return self.random.randrange(count)
 
     def value(self, kind):
+        if kind not in VALUES:
+            return Element(kind, self.random.randrange(-1, 4))
         return self.random.random() < 0.5 if kind == "bool" else self.random.choice(self.pool)
 
 
@@ -339,7 +354,7 @@ class Run:
 
 def meets(program, constants):
     """Whether the unique constants of each type differ and all axioms are true where the constants have these values."""
-    for kind in ("int", "bool"):
+    for kind in {it.type for it in program.uniques}:
         values = [constants[it.name] for it in program.uniques if it.type == kind]
         if len(set(values)) < len(values):
             return False

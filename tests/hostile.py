@@ -186,7 +186,7 @@ def trials(t, is_short):
     large(t, 2_000 if is_short else 100_000)
     if not is_short:
         at_the_limits(t)
-    t.text("each construct", PROGRAM, 3, b"", b"error: 1:1 unsupported type\n")
+    t.text("each construct", PROGRAM, 3, b"", b"error: 2:20 unsupported [\n")
     for i in range(0, len(PROGRAM), 23 if is_short else 1):
         t.front(f"prefix {i}", PROGRAM[:i])
     t.run("absent file", ["verify", "absent.bpl"], 5, b"", b"error: cannot read absent.bpl\n")

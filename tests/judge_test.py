@@ -192,7 +192,33 @@ implementation P 7:1 refuted
     var x = 3
 summary: 0 retained, 0 dropped; 0 verified, 1 refuted, 0 unknown
 """
-RIGHT = [("loop", STEP, STEP_REPORT), ("jumps", PICK, PICK_REPORT), ("range", FAR, FAR_REPORT), ("budget", FAR, BUDGET_REPORT), ("candidates", KEPT, KEPT_REPORT), ("constants", FIXED, FIXED_REPORT), ("functions", TABLED, TABLED_REPORT)]
+OWNED = """type Owner = Thread, Thread, Key;
+const unique nobody, first: Thread;
+const unique key: Key;
+function next(t: Owner, k: Key): Thread;
+axiom next(nobody, key) == first;
+var owner: Owner;
+procedure P(me: Thread)
+  modifies owner;
+{
+  havoc owner;
+  assert next(owner, key) == me || owner == nobody;
+}
+"""
+OWNED_REPORT = """axioms: consistent
+retained set: greatest
+implementation P 7:1 refuted
+  refuted assert 11:3
+    const nobody = Thread!0
+    const first = Thread!1
+    const key = Key!0
+    function next = [Thread!0,Key!0 := Thread!1, Thread!2,Key!0 := Thread!-3, else Thread!0]
+    var owner = Thread!0
+    var me = Thread!0
+    choice Thread!2
+summary: 0 retained, 0 dropped; 0 verified, 1 refuted, 0 unknown
+"""
+RIGHT = [("loop", STEP, STEP_REPORT), ("jumps", PICK, PICK_REPORT), ("range", FAR, FAR_REPORT), ("budget", FAR, BUDGET_REPORT), ("candidates", KEPT, KEPT_REPORT), ("constants", FIXED, FIXED_REPORT), ("functions", TABLED, TABLED_REPORT), ("user types", OWNED, OWNED_REPORT)]
 # What is doctored, the program, its right report, a text of it and what stands in its place, and a phrase of the answer.
 DOCTORED = [
     ("a counterexample's value", STEP, STEP_REPORT, "var n = 1", "var n = 2", "the run ended"),
@@ -226,6 +252,15 @@ DOCTORED = [
     ("an entry that says what the default says", TABLED, TABLED_REPORT, "6 := 1, else", "6 := 1, 7 := 0, else", "a table is wanted"),
     ("a function that is missing", TABLED, TABLED_REPORT, "    function any = [ := 1, else 0]\n", "", "function any = "),
     ("a function with a body", TABLED, TABLED_REPORT, "    function on", "    function twice = [else 0]\n    function on", "function on = "),
+    ("an element of another type", OWNED, OWNED_REPORT, "var me = Thread", "var me = Key", "a value of type Thread is wanted"),
+    ("an element of a synonym", OWNED, OWNED_REPORT, "var owner = Thread", "var owner = Owner", "a value of type Thread is wanted"),
+    ("a number for an element", OWNED, OWNED_REPORT, "const key = Key!0", "const key = 0", "a value of type Key is wanted"),
+    ("an element with a needless zero", OWNED, OWNED_REPORT, "var me = Thread!0", "var me = Thread!-0", "a value of type Thread is wanted"),
+    ("a chosen element of another type", OWNED, OWNED_REPORT, "choice Thread", "choice Key", "the run bad choice"),
+    ("another element", OWNED, OWNED_REPORT, "var me = Thread!0", "var me = Thread!-3", "the run ended"),
+    ("unique elements that are one", OWNED, OWNED_REPORT, "first = Thread!1", "first = Thread!0", "the axioms are not met"),
+    ("keys of elements in another order", OWNED, OWNED_REPORT, "[Thread!0,Key!0 := Thread!1, Thread!2,", "[Thread!2,Key!0 := Thread!1, Thread!0,", "a table is wanted"),
+    ("a key's part of another type", OWNED, OWNED_REPORT, "Thread!2,Key!0", "Thread!2,Thread!0", "a table is wanted"),
     ("a line", STEP, STEP_REPORT, "  refuted inv", "  rejected inv", "a line that no report has"),
     ("an implementation that is missing", STEP, STEP_REPORT, "Step 1:1", "Step 2:1", "the implementations are"),
     ("places in another order", PICK, PICK_REPORT, "  refuted assert 21:5\n", f"{POST}  refuted assert 21:5\n", "its places are"),
@@ -266,6 +301,9 @@ UNSOUND = [
     ("a constant's value", "const c: int;\naxiom c > 1;\nprocedure P(x: int) {\n  assert x <= c;\n}\n", "assert 4:3"),
     ("a function's body", "function f(x: int, y: int): int { x - y }\nprocedure P(x: int) {\n  assert f(x, 1) == f(1, x);\n}\n", "assert 3:3"),
     ("a function without a body", "function f(x: int): int;\naxiom f(0) == 0;\nprocedure P(x: int) {\n  assert f(x) <= f(0);\n}\n", "assert 4:3"),
+    ("which elements are the same", "type T;\nprocedure P(a: T, b: T, c: T) {\n  assert a == b ==> b == c ==> a != c;\n}\n", "assert 3:3"),
+    ("unique constants", "type T;\nconst unique a, b: T;\nprocedure P(c: T) {\n  assert c == a || c == b;\n}\n", "assert 4:3"),
+    ("a function on elements", "type T;\nfunction f(t: T): T;\nprocedure P(a: T) {\n  assert f(f(a)) == a || f(a) == a;\n}\n", "assert 4:3"),
     ("old in an argument", "var g: int;\nfunction f(x: int): int { x + 1 }\nprocedure P()\n  modifies g;\n{\n  g := f(g);\n  assert f(old(g)) == f(g);\n}\n", "assert 7:3"),
     ("a return", "procedure P(c: bool) returns (r: int)\n  ensures r == 1;\n{\n  r := 0;\n  if (c) {\n    return;\n  }\n  r := 1;\n}\n", "postcondition 2:3"),
 ]  # fmt: skip

@@ -1,9 +1,9 @@
-"""Reads programs over truth values and whole numbers, for the judge of reports: tokens, trees, names and types.
+"""Reads programs over truth values, whole numbers and elements of user types, for the judge of reports: tokens, trees, names and types.
 
 It is written from the rules of the language in docs/TEXT.md, and knows nothing of the program that it judges. A text that
 breaks one of them is refused (`TextFault`) at a place near the fault.
 
-Types are "int" and "bool". Expressions are tuples: ("num", n), ("bool", b), ("name", x), ("old", e), ("not", e), ("neg", e),
+Types are "int", "bool" and the names of user types; synonyms are unfolded. Expressions are tuples: ("num", n), ("bool", b), ("name", x), ("old", e), ("not", e), ("neg", e),
 ("bin", sign, left, right) and ("apply", f, arguments).
 """
 import re
@@ -25,7 +25,7 @@ TABLES = "[]"  # where the tables of functions without a body stand beside the v
 
 
 class TextFault(Exception):
-    """The text is no program over truth values and whole numbers."""
+    """The text is no program over truth values, whole numbers and elements."""
 
 
 @dataclass(frozen=True)
@@ -138,6 +138,7 @@ class Statement:
 
 @dataclass
 class Program:
+    types: dict = field(default_factory=dict)  # by name: what a synonym stands for, or None
     candidates: list = field(default_factory=list)
     constants: list = field(default_factory=list)
     uniques: list = field(default_factory=list)  # those of the constants that are unique
@@ -199,7 +200,7 @@ class Reader:
 
     def whole(self):
         rules = {
-            "const": self.constants, "function": self.function, "axiom": self.axiom, "var": self.globals,
+            "type": self.types, "const": self.constants, "function": self.function, "axiom": self.axiom, "var": self.globals,
             "procedure": self.procedure, "implementation": self.implementation,
         }  # fmt: skip
         while self.now().kind != "end":
@@ -210,6 +211,14 @@ class Reader:
                 self.attributes()
             rules[token.text](token.pos)
         return self.program
+
+    def types(self, _):
+        def one():
+            name = self.name()
+            self.program.types[name] = self.type() if self.accept("=") else None
+
+        self.commas(one)
+        self.take(";")
 
     def constants(self, _):
         is_candidate = [":", "existential", "true"] in self.attributes()
@@ -275,7 +284,7 @@ class Reader:
             inner = self.type()
             self.take(")")
             return inner
-        if not self.sees("int", "bool"):
+        if not self.sees("int", "bool") and self.now().kind != "name":
             raise TextFault(f"{self.now().pos}: no type that is judged")
         return self.take().text
 
@@ -587,9 +596,36 @@ def check_list(types, values, kinds):
         wanted(types, value, kind)
 
 
+def unfolded(program, kind):
+    """A type without synonyms."""
+    for _ in range(len(program.types) + 1):
+        if kind in ("int", "bool"):
+            return kind
+        if kind not in program.types:
+            raise TextFault(f"no type {kind}")
+        if program.types[kind] is None:
+            return kind
+        kind = program.types[kind]
+    raise TextFault(f"the synonym {kind} reaches itself")
+
+
+def unfold_types(program):
+    """Unfolds synonyms everywhere."""
+    groups = [program.constants, program.globals, *(it.params for it in program.functions.values())]
+    groups += [group for it in program.procedures.values() for group in (it.params, it.results)]
+    groups += [it.inner() for it in program.implementations]
+    for name in program.types:
+        unfolded(program, name)
+    for it in (it for group in groups for it in group):
+        it.type = unfolded(program, it.type)
+    for it in program.functions.values():
+        it.result = unfolded(program, it.result)
+
+
 def read_program(text):
     reader = Reader(text)
     program = reader.whole()
+    unfold_types(program)
     reader.guard_clauses()
     check_types(program)
     return program

@@ -1,15 +1,15 @@
 #!/usr/bin/env python3
-"""Makes random programs over truth values and whole numbers with the whole statement language, and judges their reports (judge.py).
+"""Makes random programs with the whole statement language, and judges their reports (judge.py).
 
-usage: random_programs.py --bg COMMAND [--count N] [--seed K] [--runs N] [--truths] [--constants] [--candidates] [--workers N..] [--budget N] [--jobs N]
-                          [--keep FOLDER]
+usage: random_programs.py --bg COMMAND [--count N] [--seed K] [--runs N] [--truths] [--types] [--constants] [--candidates] [--workers N..]
+                          [--budget N] [--jobs N] [--keep FOLDER]
 
-Of each implementation N runs are tried. With --truths there are no whole numbers. With --constants most programs have constants, of which
-some are unique, functions with and without a body, and axioms. With --candidates most programs declare some; what
-`annotate` writes of them, with guesses and without, has the same words for its implementations, and is annotated as it is. With --workers
-each program is judged once with each of these numbers of workers: where no report has an unknown, their verdict lines are the same. With
---budget the program gets as many inner nodes and rows. With --keep programs and reports are written to a folder, and left there. The last
-line is `N passed, M failed`.
+Of each implementation N runs are tried. With --truths there are no whole numbers. With --types there are two user types, some
+constants of each, and synonyms. With --constants most programs have constants, of which some are unique, functions with and without a
+body, and axioms. With --candidates most programs declare some; what `annotate` writes of them, with guesses and without, has the same
+words for its implementations, and is annotated as it is. With --workers each program is judged once with each of these numbers of
+workers: where no report has an unknown, their verdict lines are the same. With --budget the program gets as many inner nodes and rows.
+With --keep programs and reports are written to a folder, and left there. The last line is `N passed, M failed`.
 """
 import argparse
 import collections
@@ -27,30 +27,40 @@ import judge
 
 SIGNS = ["&&", "||", "==>", "<==", "<==>", "==", "!="]
 RELATIONS = ["<", "<=", ">", ">=", "==", "!="]
+TYPES = {"n": "int", "t": "T", "u": "U"}  # by the last letter of a name; others are truth values
+SYNONYMS = {"int": "N", "T": "V"}  # of types, where user types are asked for
 NUMBERS = [0, 0, 1, 1, 1, 2, 2, 3, 5, 7, 60, 2**63, 2**126]
+
+
+def type_of(name):
+    """The type of a variable or a function of this name."""
+    return TYPES.get(name.rstrip("'")[-1], "bool")
 
 
 def is_number(name):
     """Whether a variable of this name is a whole number."""
-    return name.rstrip("'").endswith("n")
+    return type_of(name) == "int"
 
 
-def type_of(name):
-    return "int" if is_number(name) else "bool"
+def some_letter(rng, kinds):
+    """A last letter for a name, of these; or none."""
+    if not kinds or rng.random() >= 0.6:
+        return ""
+    return kinds if len(kinds) == 1 else rng.choice(kinds)
 
 
-def some_names(rng, letter, most, numbers):
-    """Fewer than so many names, some of whole numbers if there are any."""
-    return [f"{letter}{k}{'n' if numbers and rng.random() < 0.6 else ''}" for k in range(rng.randrange(most))]
+def some_names(rng, letter, most, kinds):
+    """Fewer than so many names, some with last letters of these."""
+    return [f"{letter}{k}{some_letter(rng, kinds)}" for k in range(rng.randrange(most))]
 
 
 class Procedure:
     """A procedure's names, and which globals it modifies."""
 
-    def __init__(self, rng, number, names, numbers):
+    def __init__(self, rng, number, names, kinds):
         self.name = f"P{number}"
-        self.params = some_names(rng, "p", 3, numbers)
-        self.results = some_names(rng, "r", 3, numbers)
+        self.params = some_names(rng, "p", 3, kinds)
+        self.results = some_names(rng, "r", 3, kinds)
         self.modifies = [g for g in names if rng.random() < 0.5]
 
 
@@ -59,7 +69,7 @@ class Body:
 
     def __init__(self, rng, program, procedure, params, results):
         self.rng, self.program, self.procedure = rng, program, procedure
-        self.locals = some_names(rng, "x", 4, program.numbers)
+        self.locals = some_names(rng, "x", 4, program.kinds)
         self.reads = program.constants + program.names + params + results + self.locals
         self.writes = procedure.modifies + results + self.locals
         self.labels = 0
@@ -72,9 +82,7 @@ class Body:
         return self.program.formula(self.rng, self.reads, depth, old=True)
 
     def value(self, name, depth=2):
-        if is_number(name):
-            return self.program.number(self.rng, self.reads, depth, old=True)
-        return self.formula(depth)
+        return self.program.expression(self.rng, self.reads, depth, type_of(name), old=True)
 
     def clause(self):
         """What an assertion or an invariant that is checked says."""
@@ -88,7 +96,7 @@ class Body:
         """Variables that may take the results of a call, or None."""
         free, taken = list(self.writes), []
         for result in q.results:
-            fits = [name for name in free if is_number(name) == is_number(result)]
+            fits = [name for name in free if type_of(name) == type_of(result)]
             if not fits:
                 return None
             taken.append(self.rng.choice(fits))
@@ -168,7 +176,7 @@ class Body:
         return lines + ([f"{indent}{marks[count]}:"] if count in marks else [])
 
     def lines(self):
-        declared = [f"  var {name}: {type_of(name)};" for name in self.locals]
+        declared = [f"  var {name}: {self.program.written(self.rng, name)};" for name in self.locals]
         return ["{"] + declared + self.statements("  ", 3, [], []) + ["}"]
 
 
@@ -176,32 +184,38 @@ class Function:
     """A function's name, which has the type of its result, its arguments, and, often, a body over them, constants and earlier functions."""
 
     def __init__(self, rng, program, number):
-        self.name = f"f{number}{'n' if program.numbers and rng.random() < 0.6 else ''}"
-        self.params = some_names(rng, "a", 4, program.numbers)
+        self.name = f"f{number}{some_letter(rng, program.kinds)}"
+        self.params = some_names(rng, "a", 4, program.kinds)
         reads = program.constants + self.params
         self.body = None
         if rng.random() < 0.6:
-            self.body = program.number(rng, reads, 2) if is_number(self.name) else program.formula(rng, reads, 2)
+            self.body = program.expression(rng, reads, 2, type_of(self.name))
 
-    def line(self):
-        params = ", ".join(f"{name}: {type_of(name)}" for name in self.params)
-        return f"function {self.name}({params}): {type_of(self.name)}{';' if self.body is None else f' {{ {self.body} }}'}"
+    def line(self, written):
+        """Its declaration, with types as they are written."""
+        params = ", ".join(f"{name}: {written(name)}" for name in self.params)
+        return f"function {self.name}({params}): {written(self.name)}{';' if self.body is None else f' {{ {self.body} }}'}"
 
 
 class Program:
     """A program: candidates, at most as many as asked, constants, functions and axioms where asked, globals, procedures and implementations."""
 
-    def __init__(self, rng, numbers, candidates=0, constants=False):
-        self.numbers, self.constants, self.uniques, self.functions, self.axioms = numbers, [], [], [], []
+    def __init__(self, rng, numbers, candidates=0, constants=False, types=False):
+        self.numbers, self.types, self.kinds = numbers, types, "n" * numbers + "tu" * types
+        self.constants, self.uniques, self.functions, self.axioms = [], [], [], []
+        if types:
+            self.constants = [f"e{k}{kind}" for kind in "tu" for k in range(rng.randint(1, 3))]
         if constants:
-            self.constants = some_names(rng, "k", 4, numbers)
+            self.constants += some_names(rng, "k", 4, self.kinds)
+        if types or constants:
             self.uniques = [name for name in self.constants if rng.random() < 0.35]
+        if constants:
             for k in range(rng.randrange(4)):
                 self.functions.append(Function(rng, self, k))
             self.axioms = [self.formula(rng, self.constants, 2) for _ in range(rng.randrange(3)) if self.constants or rng.random() < 0.2]
         self.candidates = [f"c{k}" for k in range(rng.randint(0, candidates))] if candidates else []
-        self.names = some_names(rng, "g", 4, numbers)
-        self.procedures = [Procedure(rng, k, self.names, numbers) for k in range(rng.randint(1, 4))]
+        self.names = some_names(rng, "g", 4, self.kinds)
+        self.procedures = [Procedure(rng, k, self.names, self.kinds) for k in range(rng.randint(1, 4))]
         self.text = "\n".join(self.lines(rng)) + "\n"
 
     def guarded(self, rng, says):
@@ -214,14 +228,17 @@ class Program:
 
     def formula(self, rng, names, depth, old=False):
         kind = rng.random()
-        applied = self.application(rng, names, depth, old, False)
+        applied = self.application(rng, names, depth, old, "bool")
         if applied:
             return applied
         if self.numbers and rng.random() < 0.4:
             sides = [self.number(rng, names, min(depth, 1), old) for _ in range(2)]
             return f" {rng.choice(RELATIONS)} ".join(sides)
+        if self.types and rng.random() < 0.3:
+            wanted = TYPES[rng.choice("tu")]
+            return f" {rng.choice(['==', '!='])} ".join(self.element(rng, names, min(depth, 1), wanted, old) for _ in range(2))
         if not depth or kind < 0.3:
-            truths = [name for name in names if not is_number(name)]
+            truths = [name for name in names if type_of(name) == "bool"]
             if not truths or rng.random() < 0.1:
                 return rng.choice(["true", "false"])
             return rng.choice(truths)
@@ -236,7 +253,7 @@ class Program:
     def number(self, rng, names, depth, old=False):
         """A linear expression."""
         kind = rng.random()
-        applied = self.application(rng, names, depth, old, True)
+        applied = self.application(rng, names, depth, old, "int")
         if applied:
             return applied
         numbers = [name for name in names if is_number(name)]
@@ -253,17 +270,32 @@ class Program:
             return f"{rng.choice([2, 3, 5])} * {part()}"
         return f"{part()} {rng.choice('+-')} {part()}"
 
-    def application(self, rng, names, depth, old, numbers):
+    def element(self, rng, names, depth, wanted, old=False):
+        """An element of this user type."""
+        applied = self.application(rng, names, depth, old, wanted)
+        if applied:
+            return applied
+        if old and depth and rng.random() < 0.1:
+            return f"old({self.element(rng, names, depth - 1, wanted)})"
+        return rng.choice([name for name in names if type_of(name) == wanted])
+
+    def expression(self, rng, names, depth, wanted, old=False):
+        """An expression of this type."""
+        if wanted == "bool":
+            return self.formula(rng, names, depth, old)
+        return self.number(rng, names, depth, old) if wanted == "int" else self.element(rng, names, depth, wanted, old)
+
+    def application(self, rng, names, depth, old, wanted):
         """A function of this type applied to arguments, now and then, where there is one."""
-        fits = [f for f in self.functions if is_number(f.name) == numbers]
+        fits = [f for f in self.functions if type_of(f.name) == wanted]
         if not fits or not depth or rng.random() < 0.7:
             return None
         f = rng.choice(fits)
-        given = [self.number(rng, names, depth - 1, old) if is_number(a) else self.formula(rng, names, depth - 1, old) for a in f.params]
+        given = [self.expression(rng, names, depth - 1, type_of(a), old) for a in f.params]
         return f"{f.name}({', '.join(given)})"
 
     def bracketed(self, text):
-        return text if re.fullmatch(r"[\w!]+|(old|f\dn?)\(\w*\)", text) else f"({text})"
+        return text if re.fullmatch(r"[\w!]+|(old|f\d[ntu]?)\(\w*\)", text) else f"({text})"
 
     def operand(self, rng, names, depth, old):
         return self.bracketed(self.formula(rng, names, depth, old))
@@ -277,28 +309,34 @@ class Program:
                 lines.append(f"  free {word} {says};" if rng.random() < 0.2 else f"  {word} {self.guarded(rng, says)};")
         return lines
 
-    def head(self, word, q, params, results):
-        typed = lambda names: ", ".join(f"{name}: {type_of(name)}" for name in names)
+    def written(self, rng, name):
+        """The type of this name as a declaration has it: now and then a synonym."""
+        kind = type_of(name)
+        return SYNONYMS[kind] if self.types and kind in SYNONYMS and rng.random() < 0.3 else kind
+
+    def head(self, rng, word, q, params, results):
+        typed = lambda names: ", ".join(f"{name}: {self.written(rng, name)}" for name in names)
         returns = f" returns ({typed(results)})" if results else ""
         return f"{word} {q.name}({typed(params)}){returns}"
 
     def lines(self, rng):
-        lines = [f"const {{:existential true}} {name}: bool;" for name in self.candidates]
-        lines += [f"const {'unique ' if name in self.uniques else ''}{name}: {type_of(name)};" for name in self.constants]
-        lines += [f.line() for f in self.functions]
+        lines = ["type V = T, T;", "type U, N = int;"] if self.types else []
+        lines += [f"const {{:existential true}} {name}: bool;" for name in self.candidates]
+        lines += [f"const {'unique ' if name in self.uniques else ''}{name}: {self.written(rng, name)};" for name in self.constants]
+        lines += [f.line(lambda name: self.written(rng, name)) for f in self.functions]
         lines += [f"axiom {says};" for says in self.axioms]
-        lines += [f"var {name}: {type_of(name)};" for name in self.names]
+        lines += [f"var {name}: {self.written(rng, name)};" for name in self.names]
         for q in self.procedures:
             if rng.random() < 0.6:
-                lines.append(self.head("procedure", q, q.params, q.results))
+                lines.append(self.head(rng, "procedure", q, q.params, q.results))
                 lines += self.specification(rng, q)
                 lines += Body(rng, self, q, q.params, q.results).lines()
                 continue
-            lines.append(self.head("procedure", q, q.params, q.results) + ";")
+            lines.append(self.head(rng, "procedure", q, q.params, q.results) + ";")
             lines += self.specification(rng, q)
             for _ in range(rng.randrange(3)):
                 params, results = ([f"{name}'" for name in names] for names in (q.params, q.results))
-                lines.append(self.head("implementation", q, params, results))
+                lines.append(self.head(rng, "implementation", q, params, results))
                 lines += Body(rng, self, q, params, results).lines()
         return lines
 
@@ -357,7 +395,7 @@ def annotation_faults(args, folder, number, options):
 def judged(args, folder, number):
     """What is wrong with the reports of one program, a list of lines, and the words that they say of candidates and implementations."""
     rng = random.Random(args.seed * 1_000_003 + number)
-    text = Program(rng, not args.truths, 8 if args.candidates else 0, args.constants).text
+    text = Program(rng, not args.truths, 8 if args.candidates else 0, args.constants, args.types).text
     reports, faults = [], []
     for workers in args.workers or [None]:
         report, wrong = reported(args, folder, number, text, workers)
@@ -378,6 +416,7 @@ def main():
     parser.add_argument("--seed", type=int, default=1)
     parser.add_argument("--runs", type=int, default=100)
     parser.add_argument("--truths", action="store_true")
+    parser.add_argument("--types", action="store_true")
     parser.add_argument("--constants", action="store_true")
     parser.add_argument("--candidates", action="store_true")
     parser.add_argument("--workers", type=int, nargs="+")
@@ -398,7 +437,7 @@ def main():
                 failed += bool(wrong)
                 for line in wrong:
                     print(f"{number}: {line}", flush=True)
-    told = ("retained", "dropped") * args.candidates + ("verified", "refuted", "unknown") + ("consistent", "contradictory") * args.constants
+    told = ("retained", "dropped") * args.candidates + ("verified", "refuted", "unknown") + ("consistent", "contradictory") * (args.constants or args.types)
     print(", ".join(f"{words[word]} {word}" for word in told))
     print(f"{args.count - failed} passed, {failed} failed")
     return 1 if failed or not args.count else 0

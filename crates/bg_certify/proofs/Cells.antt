@@ -18,7 +18,7 @@ use Rattle.bg_check.specs.declared.verdict.Verdict.TheVariants.{Proved, Refuted,
 use Rattle.bg_check.specs.declared.verdict.Judged.{Judged}
 use Rattle.bg_check.specs.Verdicts.{IsRight, placed_at, AreRightAt, AreRightFrom, is_proved}
 use Rattle.bg_houdini.specs.Tasks.{has_candidate, number_or}
-use Rattle.bg_certify.specs.Found.{Shown, shown_of, cert_kept, cert_proved, cert_for, kept_behind, judged_behind, certs_for, kept_after, certs_from}
+use Rattle.bg_certify.specs.Found.{Shown, cert_kept, cert_proved, cert_for, kept_behind, judged_behind, certs_for, kept_after, certs_from}
 use Rattle.bg_certify.proofs.Order.{cert_at, certs_at}
 
 -- ---- what a place has

@@ -1,22 +1,19 @@
 -- The values and tables that are found to meet the axioms are met by the certificate's check.
-use Rattle.std.proofs.Common.{◌≡◌, ℕ, suc, Bool, true, false, List, [], ◌∷◌, length, map, Option, Some, refl, sym, ap, ◌∙◌, subst, arith}
+use Rattle.std.proofs.Common.{◌≡◌, ℕ, Bool, true, false, List, [], ◌∷◌, length, map, Option, Some, refl, sym, ap, ◌∙◌, subst, arith}
 use Rattle.std.specs.Prelude.{is_some}
 use Rattle.std.proofs.lemmas.List.{length-map}
-use Rattle.bg_ast.specs.Syntax.{Fun, Impl, Proc, Const, Prog}
+use Rattle.bg_ast.specs.Syntax.{Impl, Proc, Const, Prog}
 use Rattle.bg_ast.specs.Resolved as r
-use Rattle.bg_ast.specs.Values.{Table}
-use Rattle.bg_ast.specs.Meaning.{meaning_of, named_of, fun_of}
+use Rattle.bg_ast.specs.Meaning.{meaning_of}
 use Rattle.bg_fits.specs.Holdings.{holdings_of}
 use Rattle.bg_sense.specs.Flow.{Failed}
 use Rattle.bg_sense.specs.Types.{are_of, types_of}
 use Rattle.bg_sense.specs.Variables.{procedure_of}
 use Rattle.bg_flow.specs.Core.{frame_decls}
 use Rattle.bg_block_types.specs.Typed.{blocks_in}
-use Rattle.bg_sense.specs.Tables.{are_tables, is_table_of}
-use Rattle.bg_sense.proofs.Bools.{and_right}
 use Rattle.bg_scalar.specs.Tables.{TableOf}
 use Rattle.bg_scalar.specs.Views.{tables_in}
-use Rattle.bg_scalar.specs.Values.{val_of, table_of, tables_of}
+use Rattle.bg_scalar.specs.Values.{val_of}
 use Rattle.bg_scalar.specs.declared.scalar.Scalar.{Scalar}
 use Rattle.bg_replay.specs.Moments.{Around}
 use Rattle.bg_replay.specs.Said.{Said, Stops}
@@ -30,20 +27,21 @@ use Rattle.bg_check.specs.declared.verdict.Verdict.{Verdict}
 use Rattle.bg_check.specs.declared.verdict.Verdict.TheVariants.{Proved, Refuted, Unknown}
 use Rattle.bg_check.specs.Verdicts.{IsRight}
 use Rattle.bg_check.specs.Outcomes.{verdict_of}
-use Rattle.bg_opened.specs.Programs.{global_for, bodiless}
+use Rattle.bg_opened.specs.Programs.{global_for}
 use Rattle.bg_opened.specs.Axioms.{axiom_place}
 use Rattle.bg_opened.proofs.Claims.{are_of_length}
 use Rattle.bg_expanded.specs.Chains.{most_bodies}
 use Rattle.bg_carried.specs.Carried.{axioms_by}
 use Rattle.bg_inference.specs.declared.outcome.Outcome.{Outcome}
 use Rattle.bg_inference.specs.Outcomes.{IsTrueOutcome}
-use Rattle.bg_certtext.specs.Views.{GivenOf, InterpOf, CertOf}
-use Rattle.bg_confirm.specs.Met.{scalars_of, run_in, axioms_of, IsMet}
+use Rattle.bg_certtext.specs.Views.{ValueOf, GivenOf, InterpOf, CertOf}
+use Rattle.bg_confirm.specs.Typed.{values_fit}
+use Rattle.bg_confirm.specs.Met.{scalars_in, run_in, axioms_of, constants_hold, values_in, IsMet}
 use Rattle.bg_confirm.specs.Accepted.{AreMet, IsInterpMet}
 use Rattle.bg_confirm.proofs.Candidates.{M, Q}
-use Rattle.bg_certify.specs.Given.{givens, interp_by, constant_names}
+use Rattle.bg_certify.specs.Given.{value_of, givens, interp_by, type_names, constant_names}
 use Rattle.bg_certify.specs.Written.{names_of}
-use Rattle.bg_certify.proofs.Giving.{names_back, values_back, given_to, functions_back, tables_back}
+use Rattle.bg_certify.proofs.Giving.{names_back, values_given, held_back, held_fit, given_to, functions_back, tables_back}
 use Rattle.bg_certify.proofs.Straight.{runs_straight, blocks_straight}
 
 -- ---- as many values as constants
@@ -51,12 +49,6 @@ use Rattle.bg_certify.proofs.Straight.{runs_straight, blocks_straight}
 const_count : (ks : List Const) → length (types_of (map global_for ks)) ≡ length ks
 const_count [] = refl
 const_count (k ∷ ks) = let h = const_count ks in omega (arith, h)
-
-tables_long : (fs : List Fun) (us : List Table) → are_tables fs us ≡ true → length us ≡ length fs
-tables_long [] [] h = refl
-tables_long [] (u ∷ us) h = absurd (let f : false ≡ true = h in cc)
-tables_long (f ∷ fs) [] h = absurd (let f : false ≡ true = h in cc)
-tables_long (f ∷ fs) (u ∷ us) h = ap (λ (n : ℕ). suc n) (tables_long fs us (and_right (is_table_of f u) (are_tables fs us) h))
 
 no_frame : (xs : List Scalar) → are_of [] (map val_of xs) ≡ true → xs ≡ []
 no_frame [] h = refl
@@ -70,13 +62,13 @@ module _ (budget : Budget) (p : r.Program) (set : ℕ → Bool) (cex : Counterex
   xs = cex.globals.items
 
   abbrev gs : List GivenOf
-  gs = givens (constant_names p.constants) xs
+  gs = givens (type_names p.types) (constant_names p.constants) xs
 
   abbrev ts : List TableOf
   ts = tables_in cex.tables.items
 
   abbrev its : InterpOf
-  its = record { constants = gs; functions = given_to p.functions ts }
+  its = record { constants = gs; functions = given_to p.types p.functions ts }
 
   count : length (constant_names p.constants) ≡ length xs
   count =
@@ -84,17 +76,16 @@ module _ (budget : Budget) (p : r.Program) (set : ℕ → Bool) (cex : Counterex
       length-map p.constants (λ c. c.name.text)
       ∙ (sym (length-map p.constants _) ∙ (sym (const_count P.constants) ∙ (sym values ∙ length-map xs val_of)))
 
-  back : scalars_of gs ≡ xs
-  back = values_back (constant_names p.constants) xs count
+  values : values_in its ≡ map (value_of (type_names p.types)) xs
+  values = values_given p.types (constant_names p.constants) xs count
+
+  back : scalars_in (constants_hold p) (values_in its) ≡ xs
+  back =
+      ap (λ (vs : List ValueOf). scalars_in (constants_hold p) vs) values
+      ∙ held_back p.types (axioms_of p).globals xs right.0.state.globals
 
   frame : cex.frame.items ≡ []
   frame = no_frame cex.frame.items right.0.state.frame
-
-  table_count : length ts ≡ length p.functions
-  table_count =
-      sym (length-map ts table_of)
-      ∙ (tables_long (axioms_of p).functions (tables_of ts) right.0.meets.interp.tables
-      ∙ (length-map P.functions bodiless ∙ length-map p.functions (fun_of (named_of p.types))))
 
   -- the run of the counterexample, of these
   abbrev ran : Impl → Proc → List Scalar → List Scalar → Said
@@ -103,7 +94,7 @@ module _ (budget : Budget) (p : r.Program) (set : ℕ → Bool) (cex : Counterex
       (record { set = set; tables = ts; before = ys; globals = holdings_of (axioms_of p).globals; frame = holdings_of (frame_decls m q) })
       0 (blocks_in (axioms_of p) 0 m q) (moment_in ys fs cex.choices.items)
 
-  says : (m : Impl) (q : Proc) → M most_bodies P ≡ m → Q most_bodies P ≡ q → ran m q xs cex.frame.items ≡ Stops (Failed axiom_place.spot) → run_in (axioms_of p) set 0 m q ts (scalars_of gs) ≡ Stops (Failed axiom_place.spot)
+  says : (m : Impl) (q : Proc) → M most_bodies P ≡ m → Q most_bodies P ≡ q → ran m q xs cex.frame.items ≡ Stops (Failed axiom_place.spot) → run_in (axioms_of p) set 0 m q ts (scalars_in (constants_hold p) (values_in its)) ≡ Stops (Failed axiom_place.spot)
   says m q em eq h =
       let around : Around = record {
         set = set;
@@ -128,11 +119,13 @@ module _ (budget : Budget) (p : r.Program) (set : ℕ → Bool) (cex : Counterex
       let its_proc : Some (Q most_bodies P) ≡ Some w.procedure = ap (λ (x : Impl). procedure_of (axioms_of p) x.procedure) m ∙ w.is_its in
       let q : Q most_bodies P ≡ w.procedure = cc in
       record {
-        named = names_back (constant_names p.constants) xs count;
-        named_functions = functions_back p.functions ts table_count;
-        typed = ap (λ (ys : List Scalar). are_of (types_of (axioms_of p).globals) (map val_of ys)) back ∙ right.0.state.globals;
+        named = names_back p.types (constant_names p.constants) xs count;
+        typed =
+            ap (λ (vs : List ValueOf). values_fit p.types (constants_hold p) vs) values
+            ∙ held_fit p.types (axioms_of p).globals xs right.0.state.globals;
+        functions = functions_back p.types p.functions ts right.0.meets.interp.tables;
         tables = ts;
-        are_its = tables_back (named_of p.types) p.functions ts table_count;
+        are_its = tables_back p.types p.functions ts right.0.meets.interp.tables;
         typed_tables = right.0.meets.interp.tables;
         set = set;
         met = record {

@@ -31,7 +31,7 @@ use Rattle.bg_meant.specs.Once.{AreOnce}
 use Rattle.bg_certtext.specs.Views as text
 use Rattle.bg_accept.specs.Names.{marks, unplaced}
 use Rattle.bg_accept.specs.Sections.{section_at, extra_behind}
-use Rattle.bg_accept.specs.Instances.{Names, instances_in}
+use Rattle.bg_accept.specs.Instances.{instances_in}
 use Rattle.bg_accept.specs.Accepted.{retained_by, places_of, places_at, is_needed, is_required, IsShown, IsRequired}
 use Rattle.bg_certify.specs.Names.{text_in, names_in}
 use Rattle.bg_certify.specs.Spelled.{spelled_instance, spelled, rows}

@@ -24,7 +24,7 @@ use Rattle.bg_inference.specs.Told.{outcome_of}
 use Rattle.bg_certtext.specs.Views.{CertOf}
 use Rattle.bg_accept.specs.Sections.{section_at}
 use Rattle.bg_accept.specs.Accepted as accept
-use Rattle.bg_accept.specs.Accepted.{retained_by, IsRequired, IsShown}
+use Rattle.bg_accept.specs.Accepted.{retained_by, IsShown}
 use Rattle.bg_confirm.specs.Accepted.{IsAccepted}
 use Rattle.bg_certify.specs.Written.{IsUnproved, HasSections, IsWritten}
 use Rattle.bg_certify.proofs.Meeting.{found_met}

@@ -11,7 +11,7 @@ use Rattle.bg_meant.specs.Once.{AreOnce}
 use Rattle.bg_certtext.specs.Views.{CertOf}
 use Rattle.bg_certify.specs.Names.{text_in, names_in, HasOwnNames}
 use Rattle.bg_certify.specs.Spelled.{rows}
-use Rattle.bg_certify.specs.Given.{NamesOf, interp_by, constant_names, declared_names, function_names}
+use Rattle.bg_certify.specs.Given.{NamesOf, interp_by, type_names, constant_names, declared_names, function_names}
 use Rattle.bg_certify.specs.Read as read
 use Rattle.bg_certify.specs.Written.{HasSections, IsWritten, IsTrueOf, names_of}
 use Rattle.bg_certify.proofs.Giving.{same_names}
@@ -36,11 +36,13 @@ constants_named p o e n =
 same_names_in : (budget : Budget) (p : r.Program) (o : Outcome) → IsTrueOutcome budget p o → read.names_in o ≡ names_of p
 same_names_in budget p o h =
     let constants = constants_named p o h.opened h.globals in
+    let types : type_names (program_of o.opened).types ≡ type_names p.types = ap (λ (q : r.Program). type_names q.types) h.opened in
     let functions : function_names (program_of o.opened).functions ≡ function_names p.functions =
     ap (λ (q : r.Program). function_names q.functions) h.opened ∙ functions_named p.functions in
-    ap (λ (ns : List (List ℕ)). let n : NamesOf = record { constants = ns; functions = function_names (program_of o.opened).functions; bodies = o.bodies.items } in n) constants
-    ∙ (ap (λ (ns : List (List ℕ)). let n : NamesOf = record { constants = constant_names p.constants; functions = ns; bodies = o.bodies.items } in n) functions
-    ∙ ap (λ (bs : List Bool). let n : NamesOf = record { constants = constant_names p.constants; functions = function_names p.functions; bodies = bs } in n) h.bodies)
+    ap (λ (ns : List (List ℕ)). let n : NamesOf = record { types = ns; constants = declared_names (drop o.globals (program_of o.opened).globals); functions = function_names (program_of o.opened).functions; bodies = o.bodies.items } in n) types
+    ∙ (ap (λ (ns : List (List ℕ)). let n : NamesOf = record { types = type_names p.types; constants = ns; functions = function_names (program_of o.opened).functions; bodies = o.bodies.items } in n) constants
+    ∙ (ap (λ (ns : List (List ℕ)). let n : NamesOf = record { types = type_names p.types; constants = constant_names p.constants; functions = ns; bodies = o.bodies.items } in n) functions
+    ∙ ap (λ (bs : List Bool). let n : NamesOf = record { types = type_names p.types; constants = constant_names p.constants; functions = function_names p.functions; bodies = bs } in n) h.bodies))
 
 -- what is true of the opened program is true of the one that the outcome has
 true_opened : (budget : Budget) (p : r.Program) (o : Outcome) → IsTrueOutcome budget p o → houdini.IsTrueOutcome budget (program_of o.opened) o.judged

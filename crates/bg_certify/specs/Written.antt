@@ -16,7 +16,7 @@ use Rattle.bg_certtext.specs.Spellable.{IsSpellable}
 use Rattle.bg_accept.specs.Names.{unplaced}
 use Rattle.bg_accept.specs.Sections.{section_at}
 use Rattle.bg_accept.specs.Accepted.{retained_by, IsRequired, IsShown, extra}
-use Rattle.bg_certify.specs.Given.{NamesOf, constant_names, function_names, interp_by}
+use Rattle.bg_certify.specs.Given.{NamesOf, type_names, constant_names, function_names, interp_by}
 
 -- the outcome has a verdict on this place of implementation k, which isn't that it is proved
 pub record IsUnproved (o : houdini.Outcome) (k : ℕ) (a : Placed) : Type 0 where
@@ -41,7 +41,12 @@ pub record HasSections (p : r.Program) (o : houdini.Outcome) (c : CertOf) : Type
 -- the names of a program's constants and functions
 abbrev pub names_of : r.Program → NamesOf
 names_of p =
-    record { constants = constant_names p.constants; functions = function_names p.functions; bodies = map has_body p.functions }
+    record {
+      types = type_names p.types;
+      constants = constant_names p.constants;
+      functions = function_names p.functions;
+      bodies = map has_body p.functions;
+    }
 
 -- the interpretation gives the constants and the functions without a body the values and tables that were found to meet the axioms, and
 -- there is none where none was found; the rest is of the opened program

@@ -1,5 +1,5 @@
 //! The sections of a certificate.
-ghost use Rattle.std.specs.Prelude.{◌≡◌, ◌++◌, ◌∷◌, [], ◌<◌, List, Some, map, length, drop, slice_get, IfOk, OnOk};
+ghost use Rattle.std.specs.Prelude.{◌≡◌, ◌++◌, [], ◌<◌, List, Some, map, length, drop, slice_get, IfOk, OnOk};
 ghost use Rattle.bg_text.specs.Views.{id_of, option_of};
 ghost use Rattle.bg_ast.specs.Resolved as r;
 ghost use Rattle.bg_ast.specs.Views.{program_of};

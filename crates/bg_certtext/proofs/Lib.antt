@@ -15,6 +15,7 @@ pub mod Runs
 pub mod Written
 pub mod Ends
 pub mod ReadsOptions
+pub mod Late
 pub mod ReadsNumbers
 pub mod ReadsWords
 pub mod ReadsGivens

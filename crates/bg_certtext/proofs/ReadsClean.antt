@@ -12,11 +12,10 @@ use Rattle.bg_cert.specs.declared.cert.Named.TheVariants.{OfAtom, OfRow}
 use Rattle.bg_certtext.specs.declared.text.Term.{Term}
 use Rattle.bg_certtext.specs.declared.text.Stated.{Stated}
 use Rattle.bg_certtext.specs.declared.text.Stated.TheVariants as said
-use Rattle.bg_certtext.specs.declared.text.Value.{Value}
-use Rattle.bg_certtext.specs.declared.text.Value.TheVariants.{Truth, Number}
+use Rattle.bg_certtext.specs.Views.{ValueOf, Truth, Number, Element}
 use Rattle.bg_certtext.specs.Views.{RowOf, NodeOf, Splits, Bounds, Cuts, Learns, IsClause, IsUnit, IsKnown, Derives, SectionOf, GivenOf, EntryOf, FunctionOf, InterpOf, CertOf}
 use Rattle.bg_certtext.specs.Lines.{behind_comma, commas}
-use Rattle.bg_certtext.specs.Spellable.{IsSpellable, is_inside_word, is_empty, is_name, is_number, is_zero, is_factor, is_row, is_literal, is_step, is_node, is_stated, is_section, is_value, is_given, is_entry, are_entries, is_function, is_interp, are_terms, are_steps, are_trees}
+use Rattle.bg_certtext.specs.Spellable.{IsSpellable, is_inside_word, is_empty, is_name, is_type, is_inside_type, is_number, is_zero, is_factor, is_row, is_literal, is_step, is_node, is_stated, is_section, is_value, is_given, is_entry, are_entries, is_function, is_interp, are_terms, are_steps, are_trees}
 use Rattle.bg_certtext.specs.Texts.{literal_word, step_words, node_words, node_lines, term_words, row_words, table_lines, stated_words, place_words, section_lines, retain_words, value_word, given_words, key_word, first_word, other_words, function_words, interp_lines, version_words, end_words, lines_of}
 use Rattle.bg_certtext.proofs.ReadsOptions.{both, all_of}
 
@@ -187,10 +186,18 @@ section_clean s k =
     (all_append is_line (map stated_words s.stated) rest (all_map is_line is_stated stated_words stated_clean s.stated k0.0)
     (all_append is_line (table_lines s.table) (flat_map node_lines s.nodes) (table_clean s.table k3.0 k4.0) (all_flat is_line is_node node_lines node_clean s.nodes k5.0)))
 
-value_clean : (v : Value) → is_value v ≡ true → is_clean (value_word v) ≡ true
+-- a clean word, the mark, and a clean word
+clean_parts : (t ds : List ℕ) → is_clean t ≡ true → is_clean ds ≡ true → is_clean ((t ++ codes "!") ++ ds) ≡ true
+clean_parts t ds h k = all_append is_inside_word (t ++ codes "!") ds (all_append is_inside_word t (codes "!") h (plain (codes "!") refl)) k
+
+value_clean : (v : ValueOf) → is_value v ≡ true → is_clean (value_word v) ≡ true
 value_clean (Truth true) h = plain (codes "true") refl
 value_clean (Truth false) h = plain (codes "false") refl
 value_clean (Number k) h = signed_clean k h
+value_clean (Element t k) h =
+    let p = both (is_type t) (fits k) h in
+    let name = (both (is_name t) (list_all is_inside_type t) p.0).0 in
+    clean_parts t (signed_decimal k) (name_clean t name) (signed_clean k p.1)
 
 given_clean : (g : GivenOf) → is_given g ≡ true → is_line (given_words g) ≡ true
 given_clean g h =
@@ -211,14 +218,14 @@ commas_clean : (ws : List (List ℕ)) → list_all is_clean ws ≡ true → is_c
 commas_clean [] h = refl
 commas_clean (w ∷ ws) h = let p = both (is_clean w) (list_all is_clean ws) h in all_append is_inside_word w (flat_map behind_comma ws) p.0 (behind_clean ws p.1)
 
-key_clean : (vs : List Value) → list_all is_value vs ≡ true → is_clean (key_word vs) ≡ true
+key_clean : (vs : List ValueOf) → list_all is_value vs ≡ true → is_clean (key_word vs) ≡ true
 key_clean vs h = commas_clean (map value_word vs) (all_map is_clean is_value value_word value_clean vs h)
 
 first_clean : (es : List EntryOf) → list_all is_entry es ≡ true → is_clean (first_word es) ≡ true
 first_clean [] h = plain (codes "else") refl
 first_clean (e ∷ es) h = let p = both (is_entry e) (list_all is_entry es) h in key_clean e.key (both (list_all is_value e.key) (is_value e.value) p.0).0
 
-others_clean : (es : List EntryOf) (d : Value) → list_all is_entry es ≡ true → is_value d ≡ true → list_all is_clean (other_words es d) ≡ true
+others_clean : (es : List EntryOf) (d : ValueOf) → list_all is_entry es ≡ true → is_value d ≡ true → list_all is_clean (other_words es d) ≡ true
 others_clean [] d h k = all_of (is_clean (value_word d ++ codes "]")) true (all_append is_inside_word (value_word d) (codes "]") (value_clean d k) (plain (codes "]") refl)) refl
 others_clean (e ∷ es) d h k =
     let p = both (is_entry e) (list_all is_entry es) h in

@@ -9,8 +9,7 @@ use Rattle.bg_cert.specs.declared.cert.Named.TheVariants.{OfAtom, OfRow}
 use Rattle.bg_certtext.specs.declared.text.Term.{Term}
 use Rattle.bg_certtext.specs.declared.text.Stated.{Stated}
 use Rattle.bg_certtext.specs.declared.text.Stated.TheVariants as said
-use Rattle.bg_certtext.specs.declared.text.Value.{Value}
-use Rattle.bg_certtext.specs.declared.text.Value.TheVariants.{Truth, Number}
+use Rattle.bg_certtext.specs.Views.{ValueOf, Truth, Number, Element}
 use Rattle.bg_certtext.specs.declared.draft.Stage.{Stage}
 use Rattle.bg_certtext.specs.declared.draft.Stage.TheVariants as at
 use Rattle.bg_certtext.specs.declared.draft.Draft.{Draft}
@@ -19,8 +18,8 @@ use Rattle.bg_certtext.specs.declared.error.ReadError.TheVariants as errors
 use Rattle.bg_certtext.specs.declared.text.CertText.{CertText}
 use Rattle.bg_certtext.specs.Lines.{line}
 use Rattle.bg_certtext.specs.Views.{cert_of, RowOf, NodeOf, Splits, Bounds, Cuts, Learns, IsClause, IsUnit, IsKnown, Derives, SectionOf, GivenOf, EntryOf, FunctionOf, InterpOf, CertOf, interp_of, section_of, row_of, node_of}
-use Rattle.bg_certtext.specs.Spellable.{is_empty, is_name, is_factor, are_entries, children}
-use Rattle.bg_certtext.specs.Words.{natural, integer, words_of, parts_of, is_in_line}
+use Rattle.bg_certtext.specs.Spellable.{is_empty, is_name, is_type, is_factor, are_entries, children}
+use Rattle.bg_certtext.specs.Words.{natural, integer, words_of, parts_of, is_in_line, type_in}
 
 -- ---- options
 
@@ -57,11 +56,16 @@ abbrev pub name_in : List (List ℕ) → Option (List ℕ)
 name_in (name ∷ []) = when (is_name name) name
 name_in _ = None
 
+-- what stands in front of the first exclamation mark of a word, and what stands from there on: a number, or an element
+abbrev pub marked_in : List ℕ → List ℕ → Option ValueOf
+marked_in t [] = then_ (integer t) (λ k. Some (Number k))
+marked_in t (b ∷ bs) = then_ (integer bs) (λ k. when (is_type t) (Element t k))
+
 -- the value that a word is
-abbrev pub value_in : List ℕ → Option Value
+abbrev pub value_in : List ℕ → Option ValueOf
 value_in w =
     if bytes_eq w (codes "true") then Some (Truth true)
-    else (if bytes_eq w (codes "false") then Some (Truth false) else then_ (integer w) (λ k. Some (Number k)))
+    else (if bytes_eq w (codes "false") then Some (Truth false) else marked_in (take (type_in w) w) (drop (type_in w) w))
 
 -- a constant's name and value
 abbrev pub given_in : List (List ℕ) → Option GivenOf
@@ -69,12 +73,12 @@ given_in (name ∷ w ∷ []) = then_ (value_in w) (λ v. when (is_name name) (re
 given_in _ = None
 
 -- the values that words are
-abbrev pub values_in : List (List ℕ) → Option (List Value)
+abbrev pub values_in : List (List ℕ) → Option (List ValueOf)
 values_in [] = Some []
 values_in (w ∷ ws) = then_ (value_in w) (λ v. then_ (values_in ws) (λ vs. Some (v ∷ vs)))
 
 -- the values between the commas of a word; none where it is empty
-abbrev pub key_in : List ℕ → Option (List Value)
+abbrev pub key_in : List ℕ → Option (List ValueOf)
 key_in w = if is_empty w then Some [] else values_in (parts_of w)
 
 -- what stands in front of a word's last byte, where that is this one
@@ -82,7 +86,7 @@ abbrev pub front_of : ℕ → List ℕ → Option (List ℕ)
 front_of c w = when (bytes_eq (drop (length w - 1) w) (c ∷ [])) (take (length w - 1) w)
 
 -- the value in front of this byte
-abbrev pub value_before : ℕ → List ℕ → Option Value
+abbrev pub value_before : ℕ → List ℕ → Option ValueOf
 value_before c w = then_ (front_of c w) value_in
 
 -- an entry of a table, of these three words
@@ -91,11 +95,11 @@ entry_in k s v =
     if bytes_eq s (codes ":=") then then_ (key_in k) (λ k. then_ (value_before 44 v) (λ v. Some (record { key = k; value = v }))) else None
 
 -- the default of a table, of its last two words
-abbrev pub default_in : List ℕ → List ℕ → Option Value
+abbrev pub default_in : List ℕ → List ℕ → Option ValueOf
 default_in e d = if bytes_eq e (codes "else") then value_before 93 d else None
 
 -- entries and the default, of a word and those behind it
-abbrev pub entries_in : List ℕ → List (List ℕ) → Option (List EntryOf × Value)
+abbrev pub entries_in : List ℕ → List (List ℕ) → Option (List EntryOf × ValueOf)
 entries_in w [] = None
 entries_in w (d ∷ []) = then_ (default_in w d) (λ d. Some ([], d))
 entries_in w (s ∷ v ∷ []) = None

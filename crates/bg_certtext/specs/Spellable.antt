@@ -2,6 +2,7 @@
 use Rattle.std.specs.Prelude.{◌≡◌, ℕ, zero, suc, ◌+◌, ◌^◌, Bool, true, false, not, ◌&&◌, if◌then◌else◌, ◌==◌, nat_lt, nat_le, List, [], ◌∷◌, length, ℤ, pos, negsuc, neg_ℤ, int_le, int_lt, Option, Some, None}
 use Rattle.std.specs.Ordering.{int_eq}
 use Rattle.std.specs.List.{list_all}
+use Rattle.std.specs.Str.{bytes_eq}
 use Rattle.bg_base.specs.Exact.{fits}
 use Rattle.bg_rows.specs.declared.step.Step.{Step}
 use Rattle.bg_rows.specs.declared.step.Step.TheVariants.{Path, Sum, Tight}
@@ -10,8 +11,7 @@ use Rattle.bg_cert.specs.declared.cert.Named.TheVariants.{OfAtom, OfRow}
 use Rattle.bg_certtext.specs.declared.text.Term.{Term}
 use Rattle.bg_certtext.specs.declared.text.Stated.{Stated}
 use Rattle.bg_certtext.specs.declared.text.Stated.TheVariants as said
-use Rattle.bg_certtext.specs.declared.text.Value.{Value}
-use Rattle.bg_certtext.specs.declared.text.Value.TheVariants.{Truth, Number}
+use Rattle.bg_certtext.specs.Views.{ValueOf, Truth, Number, Element}
 use Rattle.bg_certtext.specs.Views.{RowOf, NodeOf, Splits, Bounds, Cuts, Learns, IsClause, IsUnit, IsKnown, Derives, SectionOf, GivenOf, EntryOf, FunctionOf, InterpOf, CertOf}
 
 -- a byte that stands in a word: no space, no newline
@@ -25,6 +25,13 @@ is_empty (x ∷ xs) = false
 -- a name is any word
 abbrev pub is_name : List ℕ → Bool
 is_name word = not (is_empty word) && list_all is_inside_word word
+
+-- a byte that stands in the name of a value's type: no exclamation mark, no comma
+unfoldable pub is_inside_type : ℕ → Bool
+is_inside_type b = not (b == 33) && not (b == 44)
+
+abbrev pub is_type : List ℕ → Bool
+is_type word = is_name word && list_all is_inside_type word
 
 -- a number that has a numeral: one of at most 2^127 - 1
 abbrev pub is_number : ℕ → Bool
@@ -98,40 +105,51 @@ abbrev pub is_section : SectionOf → Bool
 is_section s =
     is_number s.implementation && (is_number s.place && (list_all is_stated s.stated && (is_number (length s.table) && (list_all is_row s.table && (list_all is_node s.nodes && are_trees 1 s.nodes)))))
 
-abbrev pub is_value : Value → Bool
+abbrev pub is_value : ValueOf → Bool
 is_value (Truth b) = true
 is_value (Number k) = fits k
+is_value (Element t k) = is_type t && fits k
 
 abbrev pub is_given : GivenOf → Bool
 is_given g = is_name g.name && is_value g.value
 
--- the order of values of one kind: numbers by size, `false` before `true`
-abbrev pub value_lt : Value → Value → Bool
+-- the order of values of one kind: numbers by size, `false` before `true`, elements of one type by their numbers
+abbrev pub value_lt : ValueOf → ValueOf → Bool
 value_lt (Truth a) (Truth b) = not a && b
 value_lt (Truth a) (Number y) = false
+value_lt (Truth a) (Element u y) = false
 value_lt (Number x) (Truth b) = false
 value_lt (Number x) (Number y) = int_lt x y
+value_lt (Number x) (Element u y) = false
+value_lt (Element t x) (Truth b) = false
+value_lt (Element t x) (Number y) = false
+value_lt (Element t x) (Element u y) = bytes_eq t u && int_lt x y
 
-abbrev pub value_eq : Value → Value → Bool
+abbrev pub value_eq : ValueOf → ValueOf → Bool
 value_eq (Truth true) (Truth b) = b
 value_eq (Truth false) (Truth b) = not b
 value_eq (Truth a) (Number y) = false
+value_eq (Truth a) (Element u y) = false
 value_eq (Number x) (Truth b) = false
 value_eq (Number x) (Number y) = int_eq x y
+value_eq (Number x) (Element u y) = false
+value_eq (Element t x) (Truth b) = false
+value_eq (Element t x) (Number y) = false
+value_eq (Element t x) (Element u y) = bytes_eq t u && int_eq x y
 
 -- the order of keys: part by part
-abbrev pub key_lt : List Value → List Value → Bool
+abbrev pub key_lt : List ValueOf → List ValueOf → Bool
 key_lt [] [] = false
 key_lt [] (w ∷ ws) = true
 key_lt (v ∷ vs) [] = false
 key_lt (v ∷ vs) (w ∷ ws) = if value_lt v w then true else value_eq v w && key_lt vs ws
 
-abbrev pub comes_behind : Option (List Value) → List Value → Bool
+abbrev pub comes_behind : Option (List ValueOf) → List ValueOf → Bool
 comes_behind None k = true
 comes_behind (Some j) k = key_lt j k
 
 -- the entries are in the order of their keys, the first behind this key if there is one, and none has the default's value
-abbrev pub are_entries : Option (List Value) → Value → List EntryOf → Bool
+abbrev pub are_entries : Option (List ValueOf) → ValueOf → List EntryOf → Bool
 are_entries before d [] = true
 are_entries before d (e ∷ es) =
     comes_behind before e.key && (not (value_eq e.value d) && are_entries (Some e.key) d es)

@@ -3,7 +3,7 @@ use Rattle.std.specs.Prelude.{List, map, Vec}
 use Rattle.std.specs.declared.alloc.Global.{Global}
 use Rattle.bg_certtext.specs.declared.text.Value.{Value}
 use Rattle.bg_certtext.specs.declared.text.Entry.{Entry}
-use Rattle.bg_certtext.specs.Views.{EntryOf, entry_of}
+use Rattle.bg_certtext.specs.Views.{ValueOf, value_of, EntryOf, entry_of}
 
-abbrev pub entries_made : Vec Entry Global × Value → List EntryOf × Value
-entries_made p = (map entry_of p.0.items, p.1)
+abbrev pub entries_made : Vec Entry Global × Value → List EntryOf × ValueOf
+entries_made p = (map entry_of p.0.items, value_of p.1)

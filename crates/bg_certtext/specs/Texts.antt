@@ -8,8 +8,7 @@ use Rattle.bg_cert.specs.declared.cert.Named.TheVariants.{OfAtom, OfRow}
 use Rattle.bg_certtext.specs.declared.text.Term.{Term}
 use Rattle.bg_certtext.specs.declared.text.Stated.{Stated}
 use Rattle.bg_certtext.specs.declared.text.Stated.TheVariants as said
-use Rattle.bg_certtext.specs.declared.text.Value.{Value}
-use Rattle.bg_certtext.specs.declared.text.Value.TheVariants.{Truth, Number}
+use Rattle.bg_certtext.specs.Views.{ValueOf, Truth, Number, Element}
 use Rattle.bg_certtext.specs.Views.{RowOf, NodeOf, Splits, Bounds, Cuts, Learns, IsClause, IsUnit, IsKnown, Derives, SectionOf, GivenOf, EntryOf, FunctionOf, InterpOf, CertOf}
 use Rattle.bg_certtext.specs.Lines.{line, commas}
 
@@ -79,16 +78,17 @@ abbrev pub version_words : List (List ℕ)
 version_words = codes "bg-cert" ∷ codes "1" ∷ []
 
 -- a value
-abbrev pub value_word : Value → List ℕ
+abbrev pub value_word : ValueOf → List ℕ
 value_word (Truth true) = codes "true"
 value_word (Truth false) = codes "false"
 value_word (Number k) = signed_decimal k
+value_word (Element t k) = t ++ codes "!" ++ signed_decimal k
 
 abbrev pub given_words : GivenOf → List (List ℕ)
 given_words g = codes "const" ∷ g.name ∷ value_word g.value ∷ []
 
 -- the arguments of an entry
-abbrev pub key_word : List Value → List ℕ
+abbrev pub key_word : List ValueOf → List ℕ
 key_word vs = commas (map value_word vs)
 
 -- the first word of a table behind its bracket, and the others: each entry has three words, the default two
@@ -96,11 +96,11 @@ abbrev pub first_word : List EntryOf → List ℕ
 first_word [] = codes "else"
 first_word (e ∷ es) = key_word e.key
 
-abbrev pub other_words : List EntryOf → Value → List (List ℕ)
+abbrev pub other_words : List EntryOf → ValueOf → List (List ℕ)
 other_words [] d = (value_word d ++ codes "]") ∷ []
 other_words (e ∷ es) d = codes ":=" ∷ (value_word e.value ++ codes ",") ∷ first_word es ∷ other_words es d
 
-abbrev pub table_words : List EntryOf → Value → List (List ℕ)
+abbrev pub table_words : List EntryOf → ValueOf → List (List ℕ)
 table_words es d = (codes "[" ++ first_word es) ∷ other_words es d
 
 -- a function's line: its name and its table

@@ -1,5 +1,5 @@
 -- Certificates of texts, without where they lie in memory.
-use Rattle.std.specs.Prelude.{ℕ, List, map, ℤ, Option, option_map}
+use Rattle.std.specs.Prelude.{ℕ, Bool, List, map, ℤ, Option, option_map}
 use Rattle.bg_rows.specs.declared.step.Step.{Step}
 use Rattle.bg_cert.specs.declared.cert.Named.{Named}
 use Rattle.bg_certtext.specs.declared.text.Term.{Term}
@@ -9,6 +9,7 @@ use Rattle.bg_certtext.specs.declared.text.TextNode.TheVariants.{Split, Bound, C
 use Rattle.bg_certtext.specs.declared.text.Stated.{Stated}
 use Rattle.bg_certtext.specs.declared.text.Section.{Section}
 use Rattle.bg_certtext.specs.declared.text.Value.{Value}
+use Rattle.bg_certtext.specs.declared.text.Value.TheVariants as value
 use Rattle.bg_certtext.specs.declared.text.Given.{Given}
 use Rattle.bg_certtext.specs.declared.text.Entry.{Entry}
 use Rattle.bg_certtext.specs.declared.text.Function.{Function}
@@ -39,21 +40,27 @@ pub record SectionOf : Type 0 where
   pub table : List RowOf
   pub nodes : List NodeOf
 
+-- a value; an element has the name of its type and its number
+pub data ValueOf : Type 0 where
+  Truth : Bool → ValueOf
+  Number : ℤ → ValueOf
+  Element : (ty : List ℕ) (number : ℤ) → ValueOf
+
 -- a constant's value in the interpretation
 pub record GivenOf : Type 0 where
   pub name : List ℕ
-  pub value : Value
+  pub value : ValueOf
 
 -- a function's value for these arguments
 pub record EntryOf : Type 0 where
-  pub key : List Value
-  pub value : Value
+  pub key : List ValueOf
+  pub value : ValueOf
 
 -- a function's table in the interpretation
 pub record FunctionOf : Type 0 where
   pub name : List ℕ
   pub entries : List EntryOf
-  pub default : Value
+  pub default : ValueOf
 
 -- the values of constants, and the tables of functions
 pub record InterpOf : Type 0 where
@@ -89,14 +96,19 @@ section_of s =
       nodes = map node_of s.nodes.items;
     }
 
+abbrev pub value_of : Value → ValueOf
+value_of (value.Truth b) = Truth b
+value_of (value.Number k) = Number k
+value_of (value.Element t k) = Element t.now k
+
 abbrev pub given_of : Given → GivenOf
-given_of g = record { name = g.name.now; value = g.value }
+given_of g = record { name = g.name.now; value = value_of g.value }
 
 abbrev pub entry_of : Entry → EntryOf
-entry_of e = record { key = e.key.items; value = e.value }
+entry_of e = record { key = map value_of e.key.items; value = value_of e.value }
 
 abbrev pub function_of : Function → FunctionOf
-function_of f = record { name = f.name.now; entries = map entry_of f.entries.items; default = f.default }
+function_of f = record { name = f.name.now; entries = map entry_of f.entries.items; default = value_of f.default }
 
 abbrev pub interp_of : Interp → InterpOf
 interp_of i = record { constants = map given_of i.constants.items; functions = map function_of i.functions.items }

@@ -37,6 +37,13 @@ abbrev pub parts_of : List ℕ → List (List ℕ)
 parts_of [] = [] ∷ []
 parts_of (b ∷ bs) = if b == 44 then [] ∷ parts_of bs else in_first b (parts_of bs)
 
+unfoldable pub is_in_type : ℕ → Bool
+is_in_type b = not (b == 33)
+
+-- how many bytes stand in front of the first exclamation mark
+abbrev pub type_in : List ℕ → ℕ
+type_in bytes = length (take_while is_in_type bytes)
+
 -- the number of these digits behind one that is not 0, where it is not above the largest
 abbrev pub digits_on : ℕ → ℕ → List ℕ → Option ℕ
 digits_on largest n [] = Some n

@@ -2,7 +2,7 @@
 ghost use Rattle.std.specs.Prelude.{◌≡◌, ◌++◌, OnOk, map, flat_map, option_map};
 ghost use Rattle.bg_certtext.specs.Lines.{line, behind_space};
 ghost use Rattle.bg_certtext.specs.Texts.{value_word, given_words, interp_lines, retain_words};
-ghost use Rattle.bg_certtext.specs.Views.{given_of, interp_of};
+ghost use Rattle.bg_certtext.specs.Views.{value_of, given_of, interp_of};
 
 use crate::functions::{put_functions, put_plain};
 use crate::put::{put_line, put_pair, put_word};
@@ -10,8 +10,8 @@ use crate::text::{Given, Interp, Value};
 use std::alloc::AllocError;
 
 /// A value behind a space.
-fn put_value(out: &mut Vec<u8>, value: Value) -> Result<(), AllocError>
-    ensures { OnOk result (out.new.items ≡ out.old.items ++ behind_space (value_word value)) }
+fn put_value(out: &mut Vec<u8>, value: Value<'_>) -> Result<(), AllocError>
+    ensures { OnOk result (out.new.items ≡ out.old.items ++ behind_space (value_word (value_of value.entry))) }
 {
     out.push(b' ')?;
     put_plain(out, value)

@@ -1,6 +1,7 @@
 //! The keys of tables: values with a comma between two.
 ghost use Rattle.std.specs.Prelude.{◌≡◌, map, IfOk, OnOk, option_map};
 ghost use Rattle.bg_certtext.specs.Words.{is_in_part, part_in, parts_of};
+ghost use Rattle.bg_certtext.specs.Views.{value_of};
 ghost use Rattle.bg_certtext.specs.Machine.{values_in, key_in};
 
 use crate::parts::value_in;
@@ -39,8 +40,8 @@ fn part<'a>(parts: &mut Vec<&'a [u8]>, word: &'a [u8]) -> Result<(), AllocError>
 }
 
 /// The values that words are.
-fn values_in(alloc: Global, words: &[&[u8]]) -> Result<Option<Vec<Value>>, AllocError>
-    ensures { IfOk result (λ o. option_map (λ v. v.items) o ≡ values_in (map (λ w. w.now) words.now)) }
+fn values_in<'a>(alloc: Global, words: &[&'a [u8]]) -> Result<Option<Vec<Value<'a>>>, AllocError>
+    ensures { IfOk result (λ o. option_map (λ v. map value_of v.items) o ≡ values_in (map (λ w. w.now) words.entry.now)) }
 {
     let mut made = Vec::with_capacity(alloc, words.len())?;
     for word in words {
@@ -53,8 +54,11 @@ fn values_in(alloc: Global, words: &[&[u8]]) -> Result<Option<Vec<Value>>, Alloc
 }
 
 /// The values between the commas of a word; none where it is empty.
-pub(crate) fn key_in(alloc: Global, word: &[u8]) -> Result<Option<Vec<Value>>, AllocError>
-    ensures { IfOk result (λ o. option_map (λ v. v.items) o ≡ key_in word.now) }
+pub(crate) fn key_in<'a>(
+    alloc: Global,
+    word: &'a [u8],
+) -> Result<Option<Vec<Value<'a>>>, AllocError>
+    ensures { IfOk result (λ o. option_map (λ v. map value_of v.items) o ≡ key_in word.entry.now) }
 {
     if word.is_empty() {
         return Ok(Some(Vec::new(alloc)));

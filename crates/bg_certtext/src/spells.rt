@@ -2,8 +2,8 @@
 ghost use Rattle.std.specs.Prelude.{◌≡◌, ◌&&◌, map, option_map};
 ghost use Rattle.std.specs.List.{list_all};
 ghost use Rattle.bg_base.specs.Exact.{fits};
-ghost use Rattle.bg_certtext.specs.Views.{given_of, entry_of, function_of, interp_of, row_of, node_of, section_of, cert_of};
-ghost use Rattle.bg_certtext.specs.Spellable.{is_name, is_number, are_terms, is_row, is_literal, is_step, are_steps, is_node, are_trees, is_stated, is_section, is_value, is_given, is_entry, is_function, is_interp, is_spellable};
+ghost use Rattle.bg_certtext.specs.Views.{value_of, given_of, entry_of, function_of, interp_of, row_of, node_of, section_of, cert_of};
+ghost use Rattle.bg_certtext.specs.Spellable.{is_name, is_type, is_number, are_terms, is_row, is_literal, is_step, are_steps, is_node, are_trees, is_stated, is_section, is_value, is_given, is_entry, is_function, is_interp, is_spellable};
 
 use crate::draft::children;
 use crate::parts::is_factor;
@@ -11,7 +11,7 @@ use crate::sorted::are_entries;
 use crate::text::{
     CertText, Entry, Function, Given, Interp, Section, Stated, Term, TextNode, TextRow, Value,
 };
-use crate::words::is_name;
+use crate::words::{is_name, is_type};
 use bg_cert::Named;
 use bg_rows::Step;
 
@@ -178,13 +178,21 @@ fn are_sections(sections: &[Section<'_>]) -> bool
     sections.iter().all(|s| is_section(s))
 }
 
-/// Whether a value has a word; each one does.
-fn is_value(value: Value) -> bool
-    ensures { result ≡ is_value value }
+/// Whether an element of this type has a word; each `i128` has a numeral.
+fn is_element(t: &[u8], _k: i128) -> bool
+    ensures { result ≡ (is_type t.now && fits _k) }
+{
+    is_type(t)
+}
+
+/// Whether a value has a word.
+fn is_value(value: Value<'_>) -> bool
+    ensures { result ≡ is_value (value_of value.entry) }
 {
     match value {
         Value::Truth(_) => true,
         Value::Number(_) => true,
+        Value::Element(t, k) => is_element(t, k),
     }
 }
 
@@ -200,19 +208,19 @@ fn are_givens(givens: &[Given<'_>]) -> bool
     givens.iter().all(|given| is_given(given))
 }
 
-fn are_values(values: &[Value]) -> bool
-    ensures { result ≡ list_all is_value values.now }
+fn are_values(values: &[Value<'_>]) -> bool
+    ensures { result ≡ list_all is_value (map value_of values.now) }
 {
     values.iter().all(|value| is_value(*value))
 }
 
-fn is_entry(entry: &Entry) -> bool
+fn is_entry(entry: &Entry<'_>) -> bool
     ensures { result ≡ is_entry (entry_of entry.now) }
 {
     are_values(&entry.key) && is_value(entry.value)
 }
 
-fn are_spelled(entries: &[Entry]) -> bool
+fn are_spelled(entries: &[Entry<'_>]) -> bool
     ensures { result ≡ list_all is_entry (map entry_of entries.now) }
 {
     entries.iter().all(|entry| is_entry(entry))

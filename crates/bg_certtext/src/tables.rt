@@ -1,7 +1,7 @@
 //! Functions that are read.
 ghost use Rattle.std.specs.Prelude.{◌≡◌, ◌∷◌, map, IfOk, option_map};
 ghost use Rattle.bg_certtext.specs.Machine.{front_of, value_before, entry_in, default_in, entries_in, opened_in, function_in};
-ghost use Rattle.bg_certtext.specs.Views.{entry_of, function_of};
+ghost use Rattle.bg_certtext.specs.Views.{value_of, entry_of, function_of};
 ghost use Rattle.bg_certtext.specs.Tabled.{entries_made};
 
 use crate::keys::key_in;
@@ -24,20 +24,20 @@ fn front_of<'w>(last: u8, word: &'w [u8]) -> Option<&'w [u8]>
 }
 
 /// The value in front of this byte.
-fn value_before(last: u8, word: &[u8]) -> Option<Value>
-    ensures { result ≡ value_before last word.now }
+fn value_before<'w>(last: u8, word: &'w [u8]) -> Option<Value<'w>>
+    ensures { option_map value_of result ≡ value_before last word.entry.now }
 {
     value_in(front_of(last, word)?)
 }
 
 /// An entry of a table, of three words.
-fn entry_in(
+fn entry_in<'a>(
     alloc: Global,
-    key: &[u8],
+    key: &'a [u8],
     sign: &[u8],
-    value: &[u8],
-) -> Result<Option<Entry>, AllocError>
-    ensures { IfOk result (λ o. option_map entry_of o ≡ entry_in key.now sign.now value.now) }
+    value: &'a [u8],
+) -> Result<Option<Entry<'a>>, AllocError>
+    ensures { IfOk result (λ o. option_map entry_of o ≡ entry_in key.entry.now sign.now value.entry.now) }
 {
     if !is_word(sign, b":=") {
         return Ok(None);
@@ -52,8 +52,8 @@ fn entry_in(
 }
 
 /// The default of a table, of its last two words.
-fn default_in(word: &[u8], value: &[u8]) -> Option<Value>
-    ensures { result ≡ default_in word.now value.now }
+fn default_in<'a>(word: &[u8], value: &'a [u8]) -> Option<Value<'a>>
+    ensures { option_map value_of result ≡ default_in word.now value.entry.now }
 {
     if is_word(word, b"else") {
         value_before(b']', value)
@@ -63,12 +63,12 @@ fn default_in(word: &[u8], value: &[u8]) -> Option<Value>
 }
 
 /// The entries of a table and its default.
-fn entries_in(
+fn entries_in<'a>(
     alloc: Global,
-    first: &[u8],
-    words: &[&[u8]],
-) -> Result<Option<(Vec<Entry>, Value)>, AllocError>
-    ensures { IfOk result (λ o. option_map entries_made o ≡ entries_in first.now (map (λ w. w.now) words.now)) }
+    first: &'a [u8],
+    words: &[&'a [u8]],
+) -> Result<Option<(Vec<Entry<'a>>, Value<'a>)>, AllocError>
+    ensures { IfOk result (λ o. option_map entries_made o ≡ entries_in first.entry.now (map (λ w. w.now) words.entry.now)) }
 {
     let mut made = Vec::new(alloc);
     let mut word = first;

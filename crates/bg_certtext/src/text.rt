@@ -55,33 +55,34 @@ pub struct Section<'a> {
     pub nodes: Vec<TextNode<'a>>,
 }
 
-/// The value of a constant, or one in a function's table.
+/// The value of a constant, or one in a function's table; an element has the name of its type and its number.
 #[derive(Clone, Copy)]
-pub enum Value {
+pub enum Value<'a> {
     Truth(bool),
     Number(i128),
+    Element(&'a [u8], i128),
 }
 
 /// A constant's name and the value that the interpretation gives it.
 #[derive(Clone, Copy)]
 pub struct Given<'a> {
     pub name: &'a [u8],
-    pub value: Value,
+    pub value: Value<'a>,
 }
 
 /// A function's value for these arguments.
 #[derive(Drop)]
-pub struct Entry {
-    pub key: Vec<Value>,
-    pub value: Value,
+pub struct Entry<'a> {
+    pub key: Vec<Value<'a>>,
+    pub value: Value<'a>,
 }
 
 /// A function's name and its table: what it gives for the arguments that have an entry, and for others.
 #[derive(Drop)]
 pub struct Function<'a> {
     pub name: &'a [u8],
-    pub entries: Vec<Entry>,
-    pub default: Value,
+    pub entries: Vec<Entry<'a>>,
+    pub default: Value<'a>,
 }
 
 /// An interpretation: the values of constants and the tables of functions.

@@ -3,7 +3,7 @@ ghost use Rattle.std.specs.Prelude.{◌≡◌, ◌++◌, ◌∷◌, map, true, O
 ghost use Rattle.std.specs.Str.{bytes_eq};
 ghost use Rattle.std.specs.List.{list_all};
 ghost use Rattle.bg_certtext.specs.Words.{is_in_line, is_in_word, line_in, word_in, words_of};
-ghost use Rattle.bg_certtext.specs.Spellable.{is_inside_word, is_name};
+ghost use Rattle.bg_certtext.specs.Spellable.{is_inside_word, is_name, is_inside_type, is_type};
 
 use std::alloc::AllocError;
 
@@ -49,6 +49,26 @@ pub(crate) fn is_name(word: &[u8]) -> bool
         [] => false,
         _ => are_inside_word(word),
     }
+}
+
+#[tactic(auto, unfolding(crate::specs::Spellable::is_inside_type))]
+fn is_inside_type(b: u8) -> bool
+    ensures { result ≡ is_inside_type b }
+{
+    b != b'!' && b != b','
+}
+
+fn are_inside_type(word: &[u8]) -> bool
+    ensures { result ≡ list_all is_inside_type word.now }
+{
+    word.iter().all(|b| is_inside_type(*b))
+}
+
+/// Whether a word may be the name of a value's type.
+pub(crate) fn is_type(word: &[u8]) -> bool
+    ensures { result ≡ is_type word.now }
+{
+    is_name(word) && are_inside_type(word)
 }
 
 /// How many bytes stand in front of the first newline.

@@ -113,14 +113,21 @@ fn put_node(out: &mut Vec<u8>, node: &TextNode<'_>) -> Result<(), AllocError>
     }
 }
 
+/// A term's number and its factor, each behind a space.
+fn put_term(out: &mut Vec<u8>, t: Term) -> Result<(), AllocError>
+    ensures { OnOk result (out.new.items ≡ out.old.items ++ (behind_space (decimal t.term) ++ behind_space (signed_decimal t.by))) }
+{
+    put_number(out, t.term)?;
+    put_integer(out, t.by)
+}
+
 fn put_row(out: &mut Vec<u8>, row: &TextRow) -> Result<(), AllocError>
     ensures { OnOk result (out.new.items ≡ out.old.items ++ line (row_words (row_of row.now))) }
 {
     out.extend_from_slice(b"row")?;
     put_integer(out, row.bound)?;
     for t in &row.terms {
-        put_number(out, t.term)?;
-        put_integer(out, t.by)?;
+        put_term(out, *t)?;
     }
     out.extend_from_slice(b"\n")
 }

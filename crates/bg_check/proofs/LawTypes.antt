@@ -1,7 +1,7 @@
 -- What the laws of the crates below say.
 use Rattle.std.proofs.Common.{◌≡◌, ℕ, suc, ◌+◌, ◌<◌, ℤ, Bool, true, false, List, [], length, take, map, Option, Some, None, Ok}
 use Rattle.std.specs.Prelude.{slice_get, Contains, IsTrue}
-use Rattle.bg_ast.specs.Values.{Val}
+use Rattle.bg_ast.specs.Values.{Val, Ty}
 use Rattle.bg_ast.specs.Syntax.{Ex, Fun, Proc, Impl, Prog}
 use Rattle.bg_ast.specs.Resolved as r
 use Rattle.bg_ast.specs.Meaning.{meaning_of}
@@ -45,11 +45,13 @@ use Rattle.bg_linear.specs.Sorts.{scalar_values, HoldScalars}
 use Rattle.bg_faithful.specs.Checks.{BlocksPlaced}
 use Rattle.bg_faithful.specs.Encoded.{Encoding, Encodes}
 use Rattle.bg_terms.specs.Terms.{Term, IsModel, over}
+use Rattle.bg_terms.specs.Alike.{StandFor, HasFlatType, is_scalar, scalar_ty}
 use Rattle.bg_terms.specs.Flat.{HaveNoBodies, IsFlat}
 use Rattle.bg_terms.specs.Tables.{IsReadOff}
 use Rattle.bg_flatten.specs.Flattens.{AreFlattened}
-use Rattle.bg_flatten.specs.Mapless.{are_mapless}
-use Rattle.bg_read_off.specs.Leaves.{are_scalar, AreCongruent, silent}
+use Rattle.bg_flat.specs.Mapless.{are_mapless}
+use Rattle.bg_read_off.specs.Leaves.{AreCongruent, silent}
+use Rattle.bg_termed.specs.Built.{built_in}
 use Rattle.bg_termed.specs.Termed.{IsTabled, count_in, terms_in, flats_in, types_in, sorts_in}
 use Rattle.bg_places.specs.Placed.{placed, place_in}
 use Rattle.bg_fits.specs.Scalars.{is_over_scalars}
@@ -79,17 +81,21 @@ WholeLaw =
     (sorts : List Sort) (candidates : ℕ) (blocks : List PassiveBlock) (a : Encoding) (target : Spot) (f : Formula) →
     Encodes sorts candidates blocks a → clauses_of a.first a.named a.terms a.rows target a.blocks ≡ Ok f → is_whole f ≡ true
 
+-- numbers and truth values stand for values
+abbrev pub StandInLaw : Type 0
+StandInLaw =
+    (p : Prog) (k : ℕ) (m : Impl) (q : Proc) (numbers : ℕ → ℤ) (truths : ℕ → Bool) →
+    are_of (map scalar_ty (types_in p k m q)) (scalar_values numbers truths (sorts_in p k m q)) ≡ true
+
 abbrev pub ValueLaw : Type 0
 ValueLaw =
-    (p : Prog) (k : ℕ) (m : Impl) (q : Proc) → IsTyped p → is_over_scalars true p ≡ true →
-    slice_get p.implementations k ≡ Some m → procedure_of p m.procedure ≡ Some q →
-    (numbers : ℕ → ℤ) (truths : ℕ → Bool) → are_of (types_in p k m q) (scalar_values numbers truths (sorts_in p k m q)) ≡ true
+    (p : Prog) (k : ℕ) (m : Impl) (q : Proc) (numbers : ℕ → ℤ) (truths : ℕ → Bool) →
+    are_of (types_in p k m q) (built_in p k m q (scalar_values numbers truths (sorts_in p k m q))) ≡ true
 
 abbrev pub FirstLaw : Type 0
 FirstLaw =
-    (p : Prog) (k : ℕ) (m : Impl) (q : Proc) → IsTyped p → is_over_scalars true p ≡ true →
-    slice_get p.implementations k ≡ Some m → procedure_of p m.procedure ≡ Some q →
-    (numbers : ℕ → ℤ) (truths : ℕ → Bool) → are_of (incarnations_in p k m q) (take (count_in p k m q) (scalar_values numbers truths (sorts_in p k m q))) ≡ true
+    (p : Prog) (k : ℕ) (m : Impl) (q : Proc) (numbers : ℕ → ℤ) (truths : ℕ → Bool) →
+    are_of (incarnations_in p k m q) (take (count_in p k m q) (built_in p k m q (scalar_values numbers truths (sorts_in p k m q)))) ≡ true
 
 abbrev pub StartLaw : Type 0
 StartLaw =
@@ -100,11 +106,6 @@ StartLaw =
 abbrev pub MeetLaw : Type 0
 MeetLaw =
     (p : Prog) (i : Interp) → is_over_scalars true p ≡ true → i.constants ≡ [] → IsTrue (are_tables p.functions i.tables) → Meets p i
-
-abbrev pub ScalarLaw : Type 0
-ScalarLaw =
-    (p : Prog) (k : ℕ) (m : Impl) (q : Proc) → IsTyped p → is_over_scalars true p ≡ true →
-    slice_get p.implementations k ≡ Some m → procedure_of p m.procedure ≡ Some q → are_scalar (types_in p k m q) ≡ true
 
 -- of flat blocks
 abbrev pub TermLaw : Type 0
@@ -119,12 +120,23 @@ FlatLaw =
     HaveNoBodies fs → IsModel i w n ts → ((j : ℕ) → j < n → value_at w j ≡ value_at values j) → IsFlat n ts e x →
     ev x (over w) ≡ ev e (record { functions = functions_to (suc depth) fs i; constants = i.constants; globals = []; before = []; frame = values })
 
+abbrev pub AlikeLaw : Type 0
+AlikeLaw =
+    (tys : List Ty) (w scalars : List Val) (x : Ex) (t : Ty) → StandFor tys w scalars → HasFlatType tys x t → is_scalar t ≡ true →
+    ev x (over scalars) ≡ ev x (over w)
+
+abbrev pub StandLaw : Type 0
+StandLaw =
+    (p : Prog) (k : ℕ) (m : Impl) (q : Proc) → IsTyped p → is_over_scalars true p ≡ true →
+    slice_get p.implementations k ≡ Some m → procedure_of p m.procedure ≡ Some q →
+    (s : List Val) → are_of (map scalar_ty (types_in p k m q)) s ≡ true → StandFor (types_in p k m q) (built_in p k m q s) s
+
 abbrev pub ModelLaw : Type 0
 ModelLaw =
     (p : Prog) (k : ℕ) (m : Impl) (q : Proc) → IsTyped p → is_over_scalars true p ≡ true →
     slice_get p.implementations k ≡ Some m → procedure_of p m.procedure ≡ Some q →
-    (i : Interp) (s : List Val) → are_of (types_in p k m q) s ≡ true → AreCongruent s (count_in p k m q) (terms_in p k m q) →
-    IsReadOff i (silent p.functions) s (count_in p k m q) (terms_in p k m q) → IsModel i s (count_in p k m q) (terms_in p k m q)
+    (i : Interp) (s : List Val) → are_of (map scalar_ty (types_in p k m q)) s ≡ true → AreCongruent (built_in p k m q s) (count_in p k m q) (terms_in p k m q) →
+    IsReadOff i (silent p.functions) (built_in p k m q s) (count_in p k m q) (terms_in p k m q) → IsModel i (built_in p k m q s) (count_in p k m q) (terms_in p k m q)
 
 abbrev pub HoldLaw : Type 0
 HoldLaw = (sorts : List Sort) (numbers : ℕ → ℤ) (truths : ℕ → Bool) → HoldScalars sorts numbers truths (scalar_values numbers truths sorts)
@@ -149,17 +161,17 @@ RowsLaw =
 -- of complete leaves
 abbrev pub LeafLaw : Type 0
 LeafLaw =
-    (f : Formula) (set : ℕ → Bool) (leaf : Leaf) (v : Valuation) → is_whole f ≡ true → AtomsAgree f.atoms → IsLeaf f set leaf →
+    (targets : ℕ → ℤ) (f : Formula) (set : ℕ → Bool) (leaf : Leaf) (v : Valuation) → is_whole f ≡ true → AtomsAgree f.atoms → IsLeaf targets f set leaf →
     ((x : ℕ) → v.numbers x ≡ value_of leaf.spots.items x) → TruthsAgree v f.atoms leaf.path.items → clauses_true v f.atoms f.clauses ≡ true
 
 abbrev pub UnitLaw : Type 0
 UnitLaw =
-    (f : Formula) (set : ℕ → Bool) (leaf : Leaf) (v : Valuation) → is_whole f ≡ true → AtomsAgree f.atoms → IsLeaf f set leaf →
+    (targets : ℕ → ℤ) (f : Formula) (set : ℕ → Bool) (leaf : Leaf) (v : Valuation) → is_whole f ≡ true → AtomsAgree f.atoms → IsLeaf targets f set leaf →
     ((x : ℕ) → v.numbers x ≡ value_of leaf.spots.items x) → TruthsAgree v f.atoms leaf.path.items → MeetsUnits v f set
 
 abbrev pub SignLaw : Type 0
 SignLaw =
-    (f : Formula) (set : ℕ → Bool) (leaf : Leaf) (v : Valuation) → AtomsAgree f.atoms → IsLeaf f set leaf →
+    (targets : ℕ → ℤ) (f : Formula) (set : ℕ → Bool) (leaf : Leaf) (v : Valuation) → AtomsAgree f.atoms → IsLeaf targets f set leaf →
     ((x : ℕ) → v.numbers x ≡ value_of leaf.spots.items x) → TruthsAgree v f.atoms leaf.path.items →
     (a : ℕ) (s : Bool) → a < length f.atoms → decides a s leaf.path.items ≡ true → signed v (at f.atoms a) s ≡ true
 

@@ -1,4 +1,4 @@
--- Typed code of a program over truth values and whole numbers is made of scalars.
+-- Typed code of a program over scalars is made of scalars.
 use Rattle.std.proofs.Common.{◌≡◌, ℕ, zero, suc, Bool, true, false, List, [], ◌∷◌, ◌++◌, Some, None, map, refl, sym, subst}
 use Rattle.std.specs.Prelude.{slice_get}
 use Rattle.std.specs.List.{list_all}
@@ -19,7 +19,7 @@ use Rattle.bg_scalar.specs.Typed.{is_scalar, are_scalar}
 use Rattle.bg_replay.specs.Holds.{holds_scalars, hold_scalars}
 use Rattle.bg_replay.specs.Over.{over_demands, over_sayings, over_plan, over_cmd, over_exit, over_cmds, over_blocks}
 
--- `bool` or `int`, each of them
+-- no map, each of them
 abbrev all_scalar : List Ty → Bool
 all_scalar = list_all (is_scalar_type true)
 
@@ -118,7 +118,7 @@ module _ (g : Sig) (fine : Fine g) where
 one_holds : (t : Ty) → is_scalar_type true t ≡ true → holds_scalars (holding_of t) ≡ true
 one_holds BoolTy h = refl
 one_holds IntTy h = refl
-one_holds (UserTy k) h = no_map h
+one_holds (UserTy k) h = refl
 one_holds (MapTy ks t) h = no_map h
 
 all_hold : (ds : List Decl) → all_scalar (types_of ds) ≡ true → hold_scalars (holdings_of ds) ≡ true
@@ -188,7 +188,7 @@ empty_is : {A : Type 0} (xs : List A) → is_empty xs ≡ true → xs ≡ []
 empty_is [] h = refl
 empty_is (x ∷ xs) h = no_map h
 
--- of an implementation of a program over truth values and whole numbers
+-- of an implementation of a program over scalars
 pub typed_code_is_scalar : (p : Prog) (k : ℕ) (m : Impl) (q : Proc) → is_over_scalars true p ≡ true → slice_get p.implementations k ≡ Some m → procedure_of p m.procedure ≡ Some q → (bs : List Block) → CodeIsTyped p (frame_decls m q) bs → over_blocks bs ≡ true
 typed_code_is_scalar p k m q o im pr bs h =
     let o1 = and_right (decls_pass (is_scalar_type true) (fits.is_scalar true) p.globals) _ o in

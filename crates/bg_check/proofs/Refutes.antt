@@ -3,7 +3,7 @@ use Rattle.std.proofs.Common.{◌≡◌, ℕ, ◌+◌, Bool, true, false, List, 
 use Rattle.std.specs.Prelude.{not, slice_get, Contains}
 use Rattle.std.proofs.lemmas.Option.{unwrap_or-slice_get}
 use Rattle.std.proofs.lemmas.List.{length-map}
-use Rattle.bg_ast.specs.Values.{Val, truth_of}
+use Rattle.bg_ast.specs.Values.{Val, BoolTy, truth_of}
 use Rattle.bg_ast.specs.Syntax.{Ex}
 use Rattle.bg_ast.specs.Syntax as s
 use Rattle.bg_ast.specs.Resolved as r
@@ -48,6 +48,7 @@ use Rattle.bg_atoms.specs.Ranks.{rank}
 use Rattle.bg_faithful.specs.Checks.{BlocksPlaced}
 use Rattle.bg_faithful.specs.Encoded.{Encoding}
 use Rattle.bg_terms.specs.Terms.{Term, IsModel, over}
+use Rattle.bg_terms.specs.Alike.{StandFor, scalar_ty}
 use Rattle.bg_terms.specs.Instances.{Instance, instance_ex}
 use Rattle.bg_flat.specs.Blocks.{IsFlatTruth, in_front}
 use Rattle.bg_flat.specs.Fronts.{stated}
@@ -73,11 +74,11 @@ use Rattle.bg_task.specs.Slices.{IsSliceFor, encoding_in}
 use Rattle.bg_task.specs.Made.{ClausesOf}
 use Rattle.bg_task.specs.Asked.{IsAsked}
 use Rattle.bg_check.specs.Verdicts.{IsFailure}
-use Rattle.bg_check.proofs.LawTypes.{WholeLaw, ValueLaw, FirstLaw, StartLaw, MeetLaw, HoldLaw, TermLaw, FlatLaw, ModelLaw, DeniedLaw, WithinLaw, RowsLaw, LeafLaw, UnitLaw, SignLaw, SpotLaw, CheckLaw}
+use Rattle.bg_check.proofs.LawTypes.{WholeLaw, StandInLaw, FirstLaw, StartLaw, MeetLaw, HoldLaw, TermLaw, FlatLaw, AlikeLaw, StandLaw, ModelLaw, DeniedLaw, WithinLaw, RowsLaw, LeafLaw, UnitLaw, SignLaw, SpotLaw, CheckLaw}
 use Rattle.bg_task.proofs.LawTypes.{BodyLaw, FitLaw, UnitAtomLaw, NamedUnitLaw, TabledLaw, MaplessLaw}
 use Rattle.bg_task.proofs.Formulas.{IsPlainFormula, plain_formula, plain_agree, own_number, unit_met}
 use Rattle.bg_check.proofs.Alike.{blocks_kept, blocks_fewer}
-use Rattle.bg_check.specs.LeafRuns.{leaf_bools, vals_in, incarnation_vals, HasLeaf}
+use Rattle.bg_check.specs.LeafRuns.{leaf_bools, leaf_vals, vals_in, incarnation_vals, HasLeaf, targets_for}
 use Rattle.bg_check.proofs.Worths.{leaf_valuation, truths_agree, worths_are}
 use Rattle.bg_check.proofs.Firsts.{first_at}
 use Rattle.bg_check.proofs.Saying.{said_alike, denied_behind, none_behind, below_behind}
@@ -92,7 +93,7 @@ pub record LeafLaws : Type 0 where
   pub bodies : BodyLaw
   pub fits : FitLaw
   pub whole : WholeLaw
-  pub values : ValueLaw
+  pub stand_ins : StandInLaw
   pub first : FirstLaw
   pub starts : StartLaw
   pub meets : MeetLaw
@@ -111,6 +112,8 @@ pub record LeafLaws : Type 0 where
   pub mapless : MaplessLaw
   pub terms : TermLaw
   pub flat : FlatLaw
+  pub alike : AlikeLaw
+  pub stands : StandLaw
   pub models : ModelLaw
 
 module _ (laws : LeafLaws) (p : r.Program) (n : ℕ) (w : Prepared) (h : IsPrepared p n w) (t : IsTyped (meaning_of p)) (o : is_over_scalars true (meaning_of p) ≡ true) where
@@ -144,7 +147,7 @@ module _ (laws : LeafLaws) (p : r.Program) (n : ℕ) (w : Prepared) (h : IsPrepa
   flattened : AreFlattened P.functions (incarnations_in P n M Q) (passives_in P n M Q) TS (flats_in P n M Q)
   flattened = laws.terms P n M Q tabled_here im pr (laws.mapless P n M Q t o im pr)
 
-  module _ (es : List Instance) (spot : Spot) (candidate : Option ℕ) (cuts : Cut) (cut : IsSliceFor p n w es spot cuts) (f : Formula) (set : List Bool) (leaf : Leaf) (made : ClausesOf cuts (record { implementation = n; spot = spot; candidate = candidate }) f) (is_leaf : IsLeaf f (has set) leaf) (asked : IsAsked P (has set) (record { implementation = n; spot = spot; candidate = candidate })) where
+  module _ (es : List Instance) (spot : Spot) (candidate : Option ℕ) (cuts : Cut) (cut : IsSliceFor p n w es spot cuts) (f : Formula) (set : List Bool) (leaf : Leaf) (made : ClausesOf cuts (record { implementation = n; spot = spot; candidate = candidate }) f) (is_leaf : IsLeaf (targets_for P n M Q) f (has set) leaf) (asked : IsAsked P (has set) (record { implementation = n; spot = spot; candidate = candidate })) where
     abbrev A : Encoding
     A = encoding_in cuts
 
@@ -171,15 +174,15 @@ module _ (laws : LeafLaws) (p : r.Program) (n : ℕ) (w : Prepared) (h : IsPrepa
 
     is_met : clauses_true V f.atoms f.clauses ≡ true
     is_met =
-        laws.leaves f (has set) leaf V is_whole_here agree is_leaf (λ x. refl) (truths_agree f leaf own is_leaf.once)
+        laws.leaves (targets_for P n M Q) f (has set) leaf V is_whole_here agree is_leaf (λ x. refl) (truths_agree f leaf own is_leaf.once)
 
     worths : worth_in V f.atoms ≡ T
-    worths = worths_are laws.signs f (has set) leaf agree is_leaf own
+    worths = worths_are laws.signs (targets_for P n M Q) f (has set) leaf agree is_leaf own
 
     -- named members of the set are there
     members : (b : ℕ) → bools_at A.named b ≡ true → set_of set b ≡ true → there_in f.candidates V.truths b ≡ true
     members b l s =
-        unit_met f A.named (laws.units_own A.first A.terms A.named A.rows spot A.blocks f made) (laws.units_named A.first A.terms A.named A.rows spot A.blocks f made) V (has set) (laws.units f (has set) leaf V is_whole_here agree is_leaf (λ x. refl) (truths_agree f leaf own is_leaf.once)) b l (sym (ap (λ x. x b) (set_same set)) ∙ s)
+        unit_met f A.named (laws.units_own A.first A.terms A.named A.rows spot A.blocks f made) (laws.units_named A.first A.terms A.named A.rows spot A.blocks f made) V (has set) (laws.units (targets_for P n M Q) f (has set) leaf V is_whole_here agree is_leaf (λ x. refl) (truths_agree f leaf own is_leaf.once)) b l (sym (ap (λ x. x b) (set_same set)) ∙ s)
 
     -- the check of the place is there under the set
     kept : (u : Place) → Contains (places P) u → u.spot ≡ spot → is_kept (set_of set) u.candidate ≡ true
@@ -189,17 +192,24 @@ module _ (laws : LeafLaws) (p : r.Program) (n : ℕ) (w : Prepared) (h : IsPrepa
 
     -- ---- the values of incarnations and terms
 
+    -- what stands for them
+    abbrev Z : List Val
+    Z = leaf_vals f leaf S
+
     abbrev X : List Val
     X = vals_in P n M Q f leaf
 
     abbrev Y : List Val
     Y = incarnation_vals P n M Q f leaf
 
-    pub all_typed : are_of (types_in P n M Q) X ≡ true
-    all_typed = laws.values P n M Q t o im pr (value_of leaf.spots.items) (λ j. T (rank S j))
+    stand_ins : are_of (map scalar_ty (types_in P n M Q)) Z ≡ true
+    stand_ins = laws.stand_ins P n M Q (value_of leaf.spots.items) (λ j. T (rank S j))
+
+    stand : StandFor (types_in P n M Q) X Z
+    stand = laws.stands P n M Q t o im pr Z stand_ins
 
     typed : are_of (incarnations_in P n M Q) Y ≡ true
-    typed = laws.first P n M Q t o im pr (value_of leaf.spots.items) (λ j. T (rank S j))
+    typed = laws.first P n M Q (value_of leaf.spots.items) (λ j. T (rank S j))
 
     -- what is made of the implementation, with these values
     set_up : SetUp P (map (block_of p) w.blocks.items) w.frame w.firsts.items Y n M Q (first_state P (frame_decls M Q) Y) (arrivals_in P n M Q).made (arrivals_in P n M Q).arrivals
@@ -218,12 +228,12 @@ module _ (laws : LeafLaws) (p : r.Program) (n : ℕ) (w : Prepared) (h : IsPrepa
           values = record { typed = typed; first = refl };
         }
 
-    -- the forms say what the flat blocks say under the values
-    said_flat : SaidBlocks T (over X) (in_front (stated N TS es) (flats_in P n M Q)) A.blocks
+    -- the forms say what the flat blocks say over what stands for the values
+    said_flat : SaidBlocks T (over Z) (in_front (stated N TS es) (flats_in P n M Q)) A.blocks
     said_flat =
         let r = laws.rows A.first A.terms A.named A.rows spot A.blocks f made encoding.below V encoding.rows in
         let agrees = subst (λ (u : ℕ → Bool). RowsAgree (value_of leaf.spots.items) u A.first A.rows) worths r in
-        encoding.said (value_of leaf.spots.items) T (over X) agrees (laws.holds S (value_of leaf.spots.items) (λ j. T (rank S j)))
+        encoding.said (value_of leaf.spots.items) T (over Z) agrees (laws.holds S (value_of leaf.spots.items) (λ j. T (rank S j)))
 
     abbrev B : List FormBlock
     B = behind_front (length es) A.blocks
@@ -235,21 +245,21 @@ module _ (laws : LeafLaws) (p : r.Program) (n : ℕ) (w : Prepared) (h : IsPrepa
     none_refused : refused spot B ≡ None
     none_refused =
         subst (λ j. refused spot (behind_front j A.blocks) ≡ None) many
-        (none_behind spot T (over X) (stated N TS es) (flats_in P n M Q) A.blocks said_flat (laws.within A.first A.terms A.named A.rows spot A.blocks f made))
+        (none_behind spot T (over Z) (stated N TS es) (flats_in P n M Q) A.blocks said_flat (laws.within A.first A.terms A.named A.rows spot A.blocks f made))
 
     -- ---- under an interpretation that is read off
 
     module _ (i : Interp) (off : AreReadOff P.functions N TS X i.tables) where
       model : IsModel i X N TS
-      model = laws.models P n M Q t o im pr i X all_typed off.congruent (off.read_off i refl)
+      model = laws.models P n M Q t o im pr i Z stand_ins off.congruent (off.read_off i refl)
 
-      same : (e x : Ex) → IsFlatTruth (types_in P n M Q) N TS e x → truth_of (ev x (over X)) ≡ truth_of (ev e (passive_scope P i Y))
+      same : (e x : Ex) → IsFlatTruth (types_in P n M Q) N TS e x → truth_of (ev x (over Z)) ≡ truth_of (ev e (passive_scope P i Y))
       same e x g =
-          ap truth_of (laws.flat i N (length P.functions) P.functions TS X Y e x tabled_here.bodies model (λ j l. first_at N X j l) g.0)
+          ap truth_of (laws.alike (types_in P n M Q) X Z x BoolTy stand g.1 refl ∙ laws.flat i N (length P.functions) P.functions TS X Y e x tabled_here.bodies model (λ j l. first_at N X j l) g.0)
 
       said : SaidBlocks T (passive_scope P i Y) (passives (arrivals_in P n M Q).arrivals (map (block_of p) w.blocks.items)) B
       said =
-          let all = said_alike (types_in P n M Q) N TS T (passive_scope P i Y) (over X) same (stated N TS es) (passives_in P n M Q) (flats_in P n M Q) A.blocks flattened.blocks said_flat in
+          let all = said_alike (types_in P n M Q) N TS T (passive_scope P i Y) (over Z) same (stated N TS es) (passives_in P n M Q) (flats_in P n M Q) A.blocks flattened.blocks said_flat in
           let x = subst (λ j. SaidBlocks T (passive_scope P i Y) (passives_in P n M Q) (behind_front j A.blocks)) many all in
           subst (λ bs. SaidBlocks T (passive_scope P i Y) (passives (arrivals_in P n M Q).arrivals bs) B) (sym (blocks_are p n w h)) x
 
@@ -259,7 +269,7 @@ module _ (laws : LeafLaws) (p : r.Program) (n : ℕ) (w : Prepared) (h : IsPrepa
           let d = laws.denies A.first A.terms A.named A.rows spot A.blocks f made encoding.below V is_met in
           let e = subst (λ (u : ℕ → Bool). is_well (slice_get (form_equations (there_in f.candidates V.truths) spot u A.blocks) 0) ≡ false) worths d in
           let g = subst (λ j. is_well (slice_get (form_equations (there_in f.candidates V.truths) spot T (behind_front j A.blocks)) 0) ≡ false) many
-          (denied_behind (there_in f.candidates V.truths) spot T (over X) (stated N TS es) (flats_in P n M Q) A.blocks said_flat e) in
+          (denied_behind (there_in f.candidates V.truths) spot T (over Z) (stated N TS es) (flats_in P n M Q) A.blocks said_flat e) in
           let below = below_behind (A.first + length A.rows) (bools_at A.named) (length es) A.blocks encoding.below in
           let placed = subst (λ bs. BlocksPlaced P (passives (arrivals_in P n M Q).arrivals bs)) (sym (blocks_are p n w h)) (laws.checks P n M Q o im pr) in
           let there = blocks_kept P (set_of set) spot T (passive_scope P i Y) kept (passives (arrivals_in P n M Q).arrivals (map (block_of p) w.blocks.items)) B said placed in

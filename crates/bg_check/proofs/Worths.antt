@@ -1,5 +1,5 @@
 -- The valuation of a complete leaf, and what it makes of the atoms.
-use Rattle.std.proofs.Common.{◌≡◌, ℕ, zero, suc, ◌<◌, ◌≤◌, Bool, true, false, List, [], ◌∷◌, length, Option, Some, None, refl, sym, ap, ◌∙◌, inl, inr, ⊎_elim, arith}
+use Rattle.std.proofs.Common.{◌≡◌, ℕ, zero, suc, ◌<◌, ◌≤◌, Bool, true, false, List, [], ◌∷◌, length, Option, Some, None, refl, sym, ap, ◌∙◌, inl, inr, ⊎_elim, arith, ℤ}
 use Rattle.std.specs.Prelude.{◌⊎◌, ◌&&◌, ◌||◌}
 use Rattle.bg_formula.specs.Atoms.{AtomOf, IsTruth, at}
 use Rattle.bg_formula.specs.Formulas.{Formula}
@@ -59,12 +59,12 @@ truths_agree f leaf own once a x s e d =
     by true d = d
     by false d = no_true (decides a true leaf.path.items) (decides a false leaf.path.items) (once a) d
 
-module _ (signs : SignLaw) (f : Formula) (set : ℕ → Bool) (leaf : Leaf) (agree : AtomsAgree f.atoms) (is_leaf : IsLeaf f set leaf) (own : (a x : ℕ) → at f.atoms a ≡ Some (IsTruth x) → x ≡ a) where
+module _ (signs : SignLaw) (targets : ℕ → ℤ) (f : Formula) (set : ℕ → Bool) (leaf : Leaf) (agree : AtomsAgree f.atoms) (is_leaf : IsLeaf targets f set leaf) (own : (a x : ℕ) → at f.atoms a ≡ Some (IsTruth x) → x ≡ a) where
   abbrev v : Valuation
   v = leaf_valuation f leaf
 
   signed_at : (a : ℕ) (s : Bool) → a < length f.atoms → decides a s leaf.path.items ≡ true → signed v (at f.atoms a) s ≡ true
-  signed_at = signs f set leaf v agree is_leaf (λ x. refl) (truths_agree f leaf own is_leaf.once)
+  signed_at = signs targets f set leaf v agree is_leaf (λ x. refl) (truths_agree f leaf own is_leaf.once)
 
   not_true : (o : Option AtomOf) → signed v o false ≡ true → signed v o true ≡ false
   not_true None h = refl

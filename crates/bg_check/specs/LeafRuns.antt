@@ -1,5 +1,5 @@
 -- The run that a complete leaf gives.
-use Rattle.std.specs.Prelude.{◌≡◌, ℕ, Bool, false, List, length, map, take, replicate}
+use Rattle.std.specs.Prelude.{◌≡◌, ℕ, ℤ, Bool, false, List, length, map, take, replicate}
 use Rattle.bg_ast.specs.Values.{Val}
 use Rattle.bg_ast.specs.Syntax.{Proc, Impl, Prog}
 use Rattle.bg_ast.specs.Execution.{Place}
@@ -8,7 +8,7 @@ use Rattle.bg_passive.specs.Incarnations.{first_state}
 use Rattle.bg_block_types.specs.Typed.{blocks_in, arrivals_in}
 use Rattle.bg_incarnate.specs.Walked.{next_in}
 use Rattle.bg_formula.specs.Formulas.{Formula}
-use Rattle.bg_point.specs.Points.{value_of}
+use Rattle.bg_point.specs.Points.{value_of, target_of}
 use Rattle.bg_tree.specs.declared.outcome.Leaf.{Leaf}
 use Rattle.bg_tree.specs.Ends.{IsLeaf}
 use Rattle.bg_forms.specs.Worth.{bools_at}
@@ -19,6 +19,7 @@ use Rattle.bg_atoms.specs.Ranks.{rank}
 use Rattle.bg_scalar.specs.Choices.{choice_of, state_of}
 use Rattle.bg_terms.specs.Instances.{Instance}
 use Rattle.bg_finish.specs.Finished.{AreReadOff}
+use Rattle.bg_termed.specs.Built.{built_in}
 use Rattle.bg_termed.specs.Termed.{count_in, terms_in, sorts_in}
 use Rattle.bg_model.specs.Behind.{behind_front}
 use Rattle.bg_model.specs.Over.{walk_over}
@@ -27,19 +28,24 @@ use Rattle.bg_model.specs.Interps.{interp_of}
 use Rattle.bg_model.specs.declared.failure.Counterexample.{Counterexample}
 use Rattle.bg_check.specs.Leaves.{marked}
 use Rattle.bg_task.specs.Cuts.{HasOwnClauses}
+use Rattle.bg_task.specs.Targets.{targets_in}
 
 -- the truth values that a leaf's path gives the atoms
 abbrev pub leaf_bools : Formula → Leaf → List Bool
 leaf_bools f leaf = marked leaf.path.items (replicate (length f.atoms) false)
 
--- the values of incarnations and terms of these sorts: one that is a truth value is worth what its atom is, a number what the near point
--- says
+-- the targets of the incarnations and terms of an implementation, by their numbers
+abbrev pub targets_for : Prog → ℕ → Impl → Proc → ℕ → ℤ
+targets_for p k m q = target_of (targets_in p k m q)
+
+-- what stands for the values of incarnations and terms, of these sorts: a truth value is worth what its atom is, a number what the near
+-- point says
 abbrev pub leaf_vals : Formula → Leaf → List Sort → List Val
 leaf_vals f leaf sorts = scalar_values (value_of leaf.spots.items) (λ j. bools_at (leaf_bools f leaf) (rank sorts j)) sorts
 
--- those of the incarnations and terms of an implementation, and of the incarnations alone
+-- the values that are built for that, of the incarnations and terms of an implementation, and of the incarnations alone
 abbrev pub vals_in : Prog → ℕ → Impl → Proc → Formula → Leaf → List Val
-vals_in p k m q f leaf = leaf_vals f leaf (sorts_in p k m q)
+vals_in p k m q f leaf = built_in p k m q (leaf_vals f leaf (sorts_in p k m q))
 
 abbrev pub incarnation_vals : Prog → ℕ → Impl → Proc → Formula → Leaf → List Val
 incarnation_vals p k m q f leaf = take (count_in p k m q) (vals_in p k m q f leaf)
@@ -56,6 +62,6 @@ pub record HasLeaf (p : Prog) (set : ℕ → Bool) (t : Place) (instances : List
   pub formula : Formula
   pub is : HasOwnClauses p t instances formula
   pub leaf : Leaf
-  pub is_leaf : IsLeaf formula set leaf
+  pub is_leaf : IsLeaf (targets_for p t.implementation is.clauses.implementation is.clauses.procedure) formula set leaf
   pub read_off : AreReadOff p.functions (count_in p t.implementation is.clauses.implementation is.clauses.procedure) (terms_in p t.implementation is.clauses.implementation is.clauses.procedure) (vals_in p t.implementation is.clauses.implementation is.clauses.procedure formula leaf) (interp_of cex).tables
   pub run : IsRunOf p set t is.clauses.implementation is.clauses.procedure formula (behind_front (length instances) is.clauses.encoding.blocks) leaf cex

@@ -3,11 +3,10 @@ use Rattle.std.specs.Prelude.{ℕ, suc, ◌+◌, ℤ, pos, Bool, true, false, Li
 use Rattle.bg_cert.specs.declared.cert.Decision.{Decision}
 use Rattle.bg_cert.specs.declared.cert.Decision.TheVariants.{Atom, AtMost}
 use Rattle.bg_point.specs.declared.spot.Spot.{Spot}
-use Rattle.bg_linear.specs.declared.scalar.Sort.{Sort}
-use Rattle.bg_linear.specs.declared.scalar.Sort.TheVariants as sort
-use Rattle.bg_atoms.specs.Ranks.{one_for}
+use Rattle.bg_fits.specs.declared.types.Holding.{Holding}
+use Rattle.bg_fits.specs.declared.types.Holding.TheVariants.{Truths, Numbers, Elements, Others}
 use Rattle.bg_scalar.specs.declared.scalar.Scalar.{Scalar}
-use Rattle.bg_scalar.specs.declared.scalar.Scalar.TheVariants.{Truth, Number}
+use Rattle.bg_scalar.specs.declared.scalar.Scalar.TheVariants.{Truth, Number, Element}
 
 -- the truth values with those that a decision makes true
 abbrev pub marked_by : Decision → List Bool → List Bool
@@ -24,15 +23,22 @@ abbrev pub numbered : List Spot → List ℤ → List ℤ
 numbered [] zs = zs
 numbered (s ∷ ss) zs = slice_set (numbered ss zs) s.variable s.value
 
--- the value of an incarnation of this sort
-abbrev pub scalar_for : Sort → ℤ → Bool → Scalar
-scalar_for sort.Truth z b = Truth b
-scalar_for sort.Number z b = Number z
-scalar_for sort.Other z b = Number (pos 0)
+-- the value of an incarnation or a term that holds this; what is neither a number, a truth value nor an element is not said
+abbrev pub scalar_for : Holding → ℤ → Bool → Scalar
+scalar_for Truths z b = Truth b
+scalar_for Numbers z b = Number z
+scalar_for (Elements u) z b = Element u z
+scalar_for Others z b = Number (pos 0)
 
--- the values of incarnations, the first of which has number j, and n truth incarnations before it
-abbrev pub scalars_from : List Bool → List ℤ → ℕ → ℕ → List Sort → List Scalar
+abbrev pub one_in : Holding → ℕ
+one_in Truths = 1
+one_in Numbers = 0
+one_in (Elements u) = 0
+one_in Others = 0
+
+-- the values of incarnations and terms, the first of which has number j, and n truth values before it
+abbrev pub scalars_from : List Bool → List ℤ → ℕ → ℕ → List Holding → List Scalar
 scalars_from ts zs j n [] = []
-scalars_from ts zs j n (s ∷ ss) =
-    scalar_for s (unwrap_or (slice_get zs j) (pos 0)) (unwrap_or (slice_get ts n) false)
-    ∷ scalars_from ts zs (suc j) (n + one_for s) ss
+scalars_from ts zs j n (h ∷ hs) =
+    scalar_for h (unwrap_or (slice_get zs j) (pos 0)) (unwrap_or (slice_get ts n) false)
+    ∷ scalars_from ts zs (suc j) (n + one_in h) hs

@@ -10,14 +10,14 @@ use Rattle.bg_finish.specs.Finished.{AreFalse}
 use Rattle.bg_termed.specs.Termed.{count_in, terms_in}
 use Rattle.bg_task.specs.Cuts.{HasOwnClauses}
 use Rattle.bg_check.specs.declared.verdict.Round.{Round}
-use Rattle.bg_check.specs.LeafRuns.{vals_in}
+use Rattle.bg_check.specs.LeafRuns.{targets_for, vals_in}
 
 -- a complete leaf of the place's clauses behind these instances, under a set of candidates, and what comes in there: at least one
 -- instance, and each is false at the leaf
 pub record IsRound (p : Prog) (set : ℕ → Bool) (t : Place) (instances : List Instance) (r : Round) : Type 0 where
   pub formula : Formula
   pub is : HasOwnClauses p t instances formula
-  pub is_leaf : IsLeaf formula set r.leaf
+  pub is_leaf : IsLeaf (targets_for p t.implementation is.clauses.implementation is.clauses.procedure) formula set r.leaf
   pub wanted : AreFalse (count_in p t.implementation is.clauses.implementation is.clauses.procedure) (terms_in p t.implementation is.clauses.implementation is.clauses.procedure) (vals_in p t.implementation is.clauses.implementation is.clauses.procedure formula r.leaf) (instances_of r.instances.items)
 
 -- the instances of rounds, in the order in which they came in

@@ -30,7 +30,7 @@ use Rattle.bg_term_table.specs.Instances.{instances_of}
 use Rattle.bg_termed.specs.Termed.{terms_in}
 use Rattle.bg_task.specs.Cuts.{HasOwnClauses}
 use Rattle.bg_task.specs.Certified.{HasCertificate, HasOutside}
-use Rattle.bg_check.specs.LeafRuns.{vals_in, HasLeaf}
+use Rattle.bg_check.specs.LeafRuns.{targets_for, vals_in, HasLeaf}
 use Rattle.bg_check.specs.Rounds.{brought, AreRounds}
 use Rattle.bg_check.specs.declared.verdict.Round.{Round}
 use Rattle.bg_check.specs.declared.verdict.Cause.{Cause}
@@ -44,7 +44,7 @@ use Rattle.bg_check.specs.Replays.{RunsTo}
 pub record HasWhy (p : Prog) (set : ℕ → Bool) (t : Place) (instances : List Instance) (budget : Budget) (why : Why) : Type 0 where
   pub formula : Formula
   pub is : HasOwnClauses p t instances formula
-  pub cause : IsCause formula set budget why
+  pub cause : IsCause (targets_for p t.implementation is.clauses.implementation is.clauses.procedure) formula set budget why
 
 -- the induction run under the counterexample's tables, from its values, with its choices, fails at the place
 abbrev pub IsFailure : Prog → (ℕ → Bool) → Place → Counterexample → Type 0
@@ -61,7 +61,7 @@ IsUsed p set t cex =
 pub record HasArgument (p : Prog) (set : ℕ → Bool) (t : Place) (instances : List Instance) (leaf : Leaf) (o : OutOfRange) : Type 0 where
   pub formula : Formula
   pub is : HasOwnClauses p t instances formula
-  pub is_leaf : IsLeaf formula set leaf
+  pub is_leaf : IsLeaf (targets_for p t.implementation is.clauses.implementation is.clauses.procedure) formula set leaf
   pub values : List Scalar
   pub are : map val_of values ≡ vals_in p t.implementation is.clauses.implementation is.clauses.procedure formula leaf
   pub leaves : LeavesFirst (terms_in p t.implementation is.clauses.implementation is.clauses.procedure) values o

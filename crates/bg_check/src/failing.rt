@@ -6,6 +6,7 @@ ghost use Rattle.bg_sense.specs.Typed.{IsTyped};
 ghost use Rattle.bg_places.specs.Views.{placed_of, spot_of};
 ghost use Rattle.bg_formula.specs.Formulas.{formula_of};
 ghost use Rattle.bg_cert.specs.Walks.{has};
+ghost use Rattle.bg_point.specs.Points.{target_of};
 ghost use Rattle.bg_tree.specs.Ends.{IsLeaf};
 ghost use Rattle.bg_fits.specs.Scalars.{is_over_scalars};
 ghost use Rattle.bg_scalar.specs.Values.{val_of, tables_of};
@@ -35,10 +36,10 @@ use bg_sense::resolved::places_have_spots_of_their_own;
 use bg_task::{Cut, Question};
 use bg_term_table::Instance;
 use bg_termed::laws::{
-    congruent_scalars_are_models, implementations_over_scalars_have_scalars,
-    passive_blocks_have_terms, programs_over_scalars_are_tabled, scalar_values_are_typed,
+    built_values_are_models, built_values_are_typed, implementations_over_scalars_have_no_maps,
+    passive_blocks_have_terms, programs_over_scalars_are_tabled,
 };
-use bg_terms::laws::flat_expressions_say_the_same;
+use bg_terms::laws::{flat_expressions_say_the_same, scalars_say_the_same};
 use bg_tree::Leaf;
 use bg_tree::laws::leaves_are_met;
 use std::alloc::{AllocError, Global};
@@ -75,7 +76,7 @@ pub fn failing<'q, 'p>(
     requires asked { IsAsked (meaning_of (program_of question.program.now)) (has question.set.now) (placed_of question.place.now).place }
     requires slice { IsSliceFor (program_of question.program.now) question.place.now.implementation question.prepared.now (instances_of instances.now) (spot_of question.place.now.spot) cut.now }
     requires clauses { ClausesOf cut.now (placed_of question.place.now).place (formula_of met.clauses.now) }
-    requires leaf { IsLeaf (formula_of met.clauses.now) (has question.set.now) met.leaf.now }
+    requires leaf { IsLeaf (target_of question.prepared.now.targets.items) (formula_of met.clauses.now) (has question.set.now) met.leaf.now }
     requires truths { met.truths.now ≡ leaf_bools (formula_of met.clauses.now) met.leaf.now }
     requires values { (h : IsPrepared (program_of question.program.now) question.place.now.implementation question.prepared.now) → map val_of met.values.now ≡ vals_in (meaning_of (program_of question.program.now)) question.place.now.implementation (impl_of (named_of (program_of question.program.now).types) h.implementation) (proc_of (named_of (program_of question.program.now).types) h.procedure) (formula_of met.clauses.now) met.leaf.now }
     requires read_off { (h : IsPrepared (program_of question.program.now) question.place.now.implementation question.prepared.now) → AreReadOff (meaning_of (program_of question.program.now)).functions (count_in (meaning_of (program_of question.program.now)) question.place.now.implementation (impl_of (named_of (program_of question.program.now).types) h.implementation) (proc_of (named_of (program_of question.program.now).types) h.procedure)) (terms_in (meaning_of (program_of question.program.now)) question.place.now.implementation (impl_of (named_of (program_of question.program.now).types) h.implementation) (proc_of (named_of (program_of question.program.now).types) h.procedure)) (map val_of met.values.now) (tables_of (tables_in tables.items)) }
@@ -89,15 +90,16 @@ pub fn failing<'q, 'p>(
     clauses_of_encodings_are_whole();
     checks_of_passive_blocks_are_places();
     places_have_spots_of_their_own();
-    scalar_values_are_typed();
+    built_values_are_typed();
     typed_values_begin_with_a_state();
     tables_meet_programs_over_scalars();
     scalar_values_hold();
     programs_over_scalars_are_tabled();
-    implementations_over_scalars_have_scalars();
+    implementations_over_scalars_have_no_maps();
     passive_blocks_have_terms();
     flat_expressions_say_the_same();
-    congruent_scalars_are_models();
+    scalars_say_the_same();
+    built_values_are_models();
     let prepared = question.prepared;
     let routine = Routine {
         program: question.program,

@@ -43,11 +43,11 @@ use bg_replay::laws::replays_are_induction_runs;
 use bg_sense::laws::{typed_programs_have_typed_bodies, what_fails_at_no_place_is_safe};
 use bg_task::laws::proved_places_do_not_fail;
 use bg_termed::laws::{
-    denied_passive_blocks_have_valuations, implementations_over_scalars_have_scalars,
+    denied_passive_blocks_have_valuations, implementations_over_scalars_have_no_maps,
     programs_over_scalars_are_tabled,
 };
 
-/// An implementation of a typed program over truth values and whole numbers is safe under an inductive set of candidates where each of its
+/// An implementation of a typed program over scalars is safe under an inductive set of candidates where each of its
 /// ordinary places is proved under it: no execution of it fails, of any number of steps.
 pub fn proved_under_a_set_is_safe()
     ensures { (p : Program) (set : ℕ → Bool) (budget : Budget) (outcome : List (List Judged)) → IsTyped (meaning_of p) → is_over_scalars true (meaning_of p) ≡ true → Inductive (meaning_of p) set → AreRightUnder set budget p outcome → ProvedAreSafe p set 0 outcome }
@@ -59,14 +59,14 @@ pub fn proved_under_a_set_is_safe()
     arrivals_fit();
     equations_deny_failing_walks();
     programs_over_scalars_are_tabled();
-    implementations_over_scalars_have_scalars();
+    implementations_over_scalars_have_no_maps();
     denied_passive_blocks_have_valuations();
     accepted_has_no_valuation();
     accepted_where_used();
     atoms_of_clauses()
 }
 
-/// A replay of the blocks of an implementation of a typed program over truth values and whole numbers, from a state of the
+/// A replay of the blocks of an implementation of a typed program over scalars, from a state of the
 /// implementation and with a table of its type for each function, tells how the run ends: with an answer, or at an operation that leaves
 /// 128 bits.
 pub fn replays_over_scalars_tell()
@@ -108,8 +108,8 @@ pub fn shorter_replays_lack_a_choice_or_fail()
         (said_by ending ≡ Stops BadChoice) ⊎ (said_by ending ≡ Stops (Failed t.spot)) }
 {}
 
-/// What a report tells of right verdicts under an inductive set of candidates is true, of a typed program over truth values and whole
-/// numbers, whatever words it has for causes.
+/// What a report tells of right verdicts under an inductive set of candidates is true, of a typed program over scalars,
+/// whatever words it has for causes.
 pub fn right_verdicts_are_true()
     ensures { (p : Program) (set : ℕ → Bool) (budget : Budget) (outcome : List (List Judged)) (words : ℕ → Cause → Why) → IsTyped (meaning_of p) → is_over_scalars true (meaning_of p) ≡ true →
         Inductive (meaning_of p) set → AreRightUnder set budget p outcome → AreTrueFrom p set 0 p.implementations (map (told words) outcome) }

@@ -1,10 +1,9 @@
-//! The truth values of atoms and the values of incarnations, by a complete leaf.
+//! The truth values of atoms and the values of incarnations and terms, by a complete leaf.
 ghost use Rattle.std.specs.Prelude.{◌≡◌, ◌+◌, pos, false, replicate, length, slice_get, slice_set, unwrap_or, IfOk};
-ghost use Rattle.bg_atoms.specs.Ranks.{one_for};
-ghost use Rattle.bg_check.specs.Leaves.{marked_by, marked, numbered, scalar_for, scalars_from};
+ghost use Rattle.bg_check.specs.Leaves.{marked_by, marked, numbered, scalar_for, one_in, scalars_from};
 
 use bg_cert::Decision;
-use bg_linear::Sort;
+use bg_fits::Holding;
 use bg_point::Spot;
 use bg_scalar::Scalar;
 use std::alloc::{AllocError, Global};
@@ -73,46 +72,57 @@ fn truth_at(truths: &[bool], n: usize) -> bool
     }
 }
 
-/// The value of an incarnation.
-fn scalar_for(s: Sort, z: i128, b: bool) -> Scalar
-    ensures { result ≡ scalar_for s z b }
+/// The value of what holds this.
+fn scalar_for(h: Holding, z: i128, b: bool) -> Scalar
+    ensures { result ≡ scalar_for h z b }
 {
-    match s {
-        Sort::Truth => Scalar::Truth(b),
-        Sort::Number => Scalar::Number(z),
-        Sort::Other => Scalar::Number(0),
+    match h {
+        Holding::Truths => Scalar::Truth(b),
+        Holding::Numbers => Scalar::Number(z),
+        Holding::Elements(u) => Scalar::Element(u, z),
+        Holding::Others => Scalar::Number(0),
     }
 }
 
-/// How many truth incarnations there are behind one of this sort.
-fn behind(n: usize, s: Sort) -> Result<usize, AllocError>
-    ensures { IfOk result (λ k. k ≡ n + one_for s) }
+/// One more; more than a number holds are more than memory holds.
+fn one_more(n: usize) -> Result<usize, AllocError>
+    ensures { IfOk result (λ k. k ≡ n + 1) }
 {
-    if s != Sort::Truth {
-        return Ok(n);
-    }
     match n.checked_add(1) {
         Some(k) => Ok(k),
         None => Err(AllocError),
     }
 }
 
-/// The values of incarnations: those of truth incarnations in their order are the first atoms', a number is that of the point.
+/// How many truth values there are behind what holds this.
+fn behind(n: usize, h: Holding) -> Result<usize, AllocError>
+    ensures { IfOk result (λ k. k ≡ n + one_in h) }
+{
+    match h {
+        Holding::Truths => one_more(n),
+        Holding::Numbers => Ok(n),
+        Holding::Elements(_) => Ok(n),
+        Holding::Others => Ok(n),
+    }
+}
+
+/// The values of incarnations and terms: truth values in their order are the first atoms', a number is that of the point, and so is that of
+/// an element.
 #[tactic(auto, using(crate::proofs::Points::next_scalar, crate::proofs::Points::no_more))]
 pub fn leaf_values(
     alloc: Global,
-    sorts: &[Sort],
+    holdings: &[Holding],
     truths: &[bool],
     spots: &[Spot],
 ) -> Result<Vec<Scalar>, AllocError>
-    ensures { IfOk result (λ made. made.items ≡ scalars_from truths.now (numbered spots.now (replicate (length sorts.now) (pos 0))) 0 0 sorts.now) }
+    ensures { IfOk result (λ made. made.items ≡ scalars_from truths.now (numbered spots.now (replicate (length holdings.now) (pos 0))) 0 0 holdings.now) }
 {
-    let numbers = leaf_numbers(alloc, sorts.len(), spots)?;
+    let numbers = leaf_numbers(alloc, holdings.len(), spots)?;
     let mut made = Vec::new(alloc);
     let mut n = 0;
-    for (j, s) in sorts.iter().enumerate() {
-        made.push(scalar_for(*s, number_at(&numbers, j), truth_at(truths, n)))?;
-        n = behind(n, *s)?;
+    for (j, h) in holdings.iter().enumerate() {
+        made.push(scalar_for(*h, number_at(&numbers, j), truth_at(truths, n)))?;
+        n = behind(n, *h)?;
     }
     Ok(made)
 }

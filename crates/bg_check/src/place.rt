@@ -6,6 +6,7 @@ ghost use Rattle.bg_sense.specs.Typed.{IsTyped};
 ghost use Rattle.bg_places.specs.Views.{placed_of, spot_of};
 ghost use Rattle.bg_formula.specs.Formulas.{formula_of};
 ghost use Rattle.bg_cert.specs.Walks.{has};
+ghost use Rattle.bg_point.specs.Points.{target_of};
 ghost use Rattle.bg_tree.specs.declared.outcome.Budget.{Budget};
 ghost use Rattle.bg_tree.specs.Ends.{IsLeaf};
 ghost use Rattle.bg_fits.specs.Scalars.{is_over_scalars};
@@ -30,8 +31,8 @@ use bg_search::search;
 use bg_task::{Cut, Made, Question, cut_down, place_clauses};
 use bg_term_table::Instance;
 use bg_termed::laws::{
-    implementations_over_scalars_have_scalars, passive_blocks_have_terms,
-    programs_over_scalars_are_tabled, scalar_values_are_typed,
+    built_values_are_typed, implementations_over_scalars_have_no_maps, passive_blocks_have_terms,
+    programs_over_scalars_are_tabled,
 };
 use bg_tree::{Budget, Leaf, Outcome};
 use std::alloc::{AllocError, Global};
@@ -51,16 +52,16 @@ fn leaf_found(
     requires asked { IsAsked (meaning_of (program_of question.program.now)) (has question.set.now) (placed_of question.place.now).place }
     requires slice { IsSliceFor (program_of question.program.now) question.place.now.implementation question.prepared.now (instances_of instances.now) (spot_of question.place.now.spot) cut.now }
     requires clauses { ClausesOf cut.now (placed_of question.place.now).place (formula_of f.now) }
-    requires leaf { IsLeaf (formula_of f.now) (has question.set.now) leaf }
+    requires leaf { IsLeaf (target_of question.prepared.now.targets.items) (formula_of f.now) (has question.set.now) leaf }
     ensures { IfOk result (λ found. (left : Budget) → IsFound left (meaning_of (program_of question.entry.program.now)) (has question.entry.set.now) (placed_of question.entry.place.now).place (instances_of instances.now) found) }
 {
     programs_over_scalars_are_tabled();
-    implementations_over_scalars_have_scalars();
+    implementations_over_scalars_have_no_maps();
     passive_blocks_have_terms();
-    scalar_values_are_typed();
+    built_values_are_typed();
     let prepared = question.prepared;
     let truths = leaf_truths(alloc, f.atoms.len(), &leaf.path)?;
-    let values = leaf_values(alloc, &prepared.sorts, &truths, &leaf.spots)?;
+    let values = leaf_values(alloc, &prepared.holdings, &truths, &leaf.spots)?;
     let defaults = defaults(alloc, question.program)?;
     match finish(alloc, &defaults, prepared.count, &prepared.terms, &values)? {
         Finish::Tables(tables) => {
@@ -101,7 +102,8 @@ fn clauses_found(
     ensures { IfOk result (λ found. IsFound left (meaning_of (program_of question.entry.program.now)) (has question.entry.set.now) (placed_of question.entry.place.now).place (instances_of instances.now) found) }
 {
     clauses_of_encodings_are_whole();
-    match search(alloc, f, question.set, left)? {
+    let targets = &question.prepared.targets;
+    match search(alloc, f, question.set, targets, left)? {
         Outcome::Closed(cert) => Ok(Found::Proved(cert)),
         Outcome::Unknown(why) => Ok(Found::Unknown(Cause::Search(why))),
         Outcome::Leaf(leaf) => leaf_found(alloc, question, cut, instances, f, leaf),

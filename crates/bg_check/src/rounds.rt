@@ -48,7 +48,7 @@ fn add(stand: &mut Stand, round: Round) -> Result<(), AllocError>
     Ok(())
 }
 
-/// What is known of a place of a typed program over truth values and whole numbers, under a set of candidates that has the place's
+/// What is known of a place of a typed program over scalars, under a set of candidates that has the place's
 /// own, if it has one. At each complete leaf at which a congruence of terms is false instances come in, and the search begins anew. A
 /// round counts as one of the budget's nodes, and in a search at most those count that are left; it keeps at most the budget's rows.
 ///

@@ -2,24 +2,28 @@
 use Rattle.std.proofs.Common.{◌≡◌, ℕ, suc, ◌+◌, ◌<◌, Bool, true, false, List, [], ◌∷◌, length, map, drop, get_or, cond, Vec, Global, None, Some, ℤ, zero, refl, sym, ap, ◌∙◌, arith}
 use Rattle.std.specs.Prelude.{◌&&◌, not, if◌then◌else◌, Option, int_lt}
 use Rattle.std.specs.List.{list_all}
+use Rattle.std.specs.Str.{bytes_eq}
+use Rattle.std.proofs.lemmas.Slice.Eq.{bytes_eq-Decides}
 use Rattle.std.specs.declared.cmp.Ordering.{Ordering}
 use Rattle.std.specs.declared.cmp.Ordering.TheVariants.{Less, Equal, Greater}
-use Rattle.std.specs.Ordering.{ordering_reverse, int_cmp, int_eq, ordering_then, match_ordering}
+use Rattle.std.specs.Ordering.{ordering_reverse, nat_cmp, int_cmp, int_eq, ordering_then, match_ordering}
 use Rattle.std.specs.Cmp.Lexicographic.{slice_cmp}
 use Rattle.std.specs.BTreeMap.{insert_entry}
-use Rattle.std.proofs.lemmas.Cmp.{int_cmp_total}
+use Rattle.std.proofs.lemmas.Cmp.{nat_cmp_total, int_cmp_total}
 use Rattle.std.proofs.lemmas.List.{drop_more}
+use Rattle.bg_fits.specs.declared.types.Holding.{Holding}
+use Rattle.bg_fits.specs.declared.types.Holding.TheVariants.{Truths, Numbers, Elements, Others}
 use Rattle.bg_sense.proofs.Bools.{and_left, and_right}
 use Rattle.bg_scalar.specs.declared.scalar.Scalar.{Scalar}
+use Rattle.bg_scalar.specs.declared.scalar.Scalar.TheVariants as scalar
 use Rattle.bg_scalar.specs.contracts.scalar.ScalarOrd.TheImpl.{ghosts}
 use Rattle.bg_scalar.specs.Views.{entry_in}
-use Rattle.bg_certtext.specs.declared.text.Value.{Value}
-use Rattle.bg_certtext.specs.declared.text.Value.TheVariants.{Truth, Number}
+use Rattle.bg_replay.specs.Holds.{held}
 use Rattle.bg_certtext.specs.declared.text.Entry as code
 use Rattle.bg_certtext.specs.Views as text
-use Rattle.bg_certtext.specs.Views.{EntryOf, FunctionOf}
+use Rattle.bg_certtext.specs.Views.{ValueOf, Truth, Number, Element, EntryOf, FunctionOf}
 use Rattle.bg_certtext.specs.Spellable.{value_lt, value_eq, key_lt, comes_behind, are_entries, is_name, is_value, is_entry, is_function}
-use Rattle.bg_confirm.specs.Met.{scalar_of, entry_of}
+use Rattle.bg_confirm.specs.Met.{element_in, scalar_in, scalars_in}
 
 abbrev scalar_cmp : Scalar → Scalar → Ordering
 scalar_cmp x y = ghosts.cmp x y
@@ -34,48 +38,75 @@ reversed Less h = absurd (let bad : ⊥ = cc in bad)
 reversed Equal h = refl
 reversed Greater h = absurd (let bad : ⊥ = cc in bad)
 
-value_less : (x y : Value) → value_lt x y ≡ true → scalar_cmp (scalar_of x) (scalar_of y) ≡ Less
-value_less (Truth false) (Truth true) h = refl
-value_less (Truth false) (Truth false) h = absurd (let bad : ⊥ = cc in bad)
-value_less (Truth true) (Truth b) h = absurd (let bad : ⊥ = cc in bad)
-value_less (Truth a) (Number y) h = absurd (let bad : ⊥ = cc in bad)
-value_less (Number x) (Truth b) h = absurd (let bad : ⊥ = cc in bad)
-value_less (Number x) (Number y) h = ap (λ c. cond c Less (cond (int_lt y x) Greater Equal)) h
+same_int : (x : ℤ) → int_cmp x x ≡ Equal
+same_int x = reversed (int_cmp x x) (int_cmp_total.antisymm x x)
+
+same_nat : (n : ℕ) → nat_cmp n n ≡ Equal
+same_nat n = reversed (nat_cmp n n) (nat_cmp_total.antisymm n n)
+
+scalar_same : (x : Scalar) → scalar_cmp x x ≡ Equal
+scalar_same (scalar.Truth true) = refl
+scalar_same (scalar.Truth false) = refl
+scalar_same (scalar.Number x) = same_int x
+scalar_same (scalar.Element n x) = ap (λ o. ordering_then o (int_cmp x x)) (same_nat n) ∙ same_int x
+
+int_less : (x y : ℤ) → int_lt x y ≡ true → int_cmp x y ≡ Less
+int_less x y h = ap (λ c. cond c Less (cond (int_lt y x) Greater Equal)) h
+
+element_less : (h : Holding) (x y : ℤ) → int_lt x y ≡ true → scalar_cmp (element_in h x) (element_in h y) ≡ Less
+element_less Truths x y e = int_less x y e
+element_less Numbers x y e = int_less x y e
+element_less (Elements k) x y e = ap (λ o. ordering_then o (int_cmp x y)) (same_nat k) ∙ int_less x y e
+element_less Others x y e = int_less x y e
+
+value_less : (h : Holding) (x y : ValueOf) → value_lt x y ≡ true → scalar_cmp (scalar_in h x) (scalar_in h y) ≡ Less
+value_less h (Truth false) (Truth true) e = refl
+value_less h (Truth false) (Truth false) e = absurd (let bad : ⊥ = cc in bad)
+value_less h (Truth true) (Truth b) e = absurd (let bad : ⊥ = cc in bad)
+value_less h (Truth a) (Number y) e = absurd (let bad : ⊥ = cc in bad)
+value_less h (Truth a) (Element u y) e = absurd (let bad : ⊥ = cc in bad)
+value_less h (Number x) (Truth b) e = absurd (let bad : ⊥ = cc in bad)
+value_less h (Number x) (Number y) e = int_less x y e
+value_less h (Number x) (Element u y) e = absurd (let bad : ⊥ = cc in bad)
+value_less h (Element t x) (Truth b) e = absurd (let bad : ⊥ = cc in bad)
+value_less h (Element t x) (Number y) e = absurd (let bad : ⊥ = cc in bad)
+value_less h (Element t x) (Element u y) e = element_less h x y (and_right (bytes_eq t u) (int_lt x y) e)
 
 int_same : (x y : ℤ) → int_eq x y ≡ true → x ≡ y
 int_same x y e = grind arith
 
 -- values that are the same
-value_same : (x y : Value) → value_eq x y ≡ true → x ≡ y
+value_same : (x y : ValueOf) → value_eq x y ≡ true → x ≡ y
 value_same (Truth true) (Truth true) h = refl
 value_same (Truth true) (Truth false) h = absurd (let bad : ⊥ = cc in bad)
 value_same (Truth false) (Truth true) h = absurd (let bad : ⊥ = cc in bad)
 value_same (Truth false) (Truth false) h = refl
 value_same (Truth true) (Number y) h = absurd (let bad : ⊥ = cc in bad)
 value_same (Truth false) (Number y) h = absurd (let bad : ⊥ = cc in bad)
+value_same (Truth true) (Element u y) h = absurd (let bad : ⊥ = cc in bad)
+value_same (Truth false) (Element u y) h = absurd (let bad : ⊥ = cc in bad)
 value_same (Number x) (Truth b) h = absurd (let bad : ⊥ = cc in bad)
 value_same (Number x) (Number y) h = ap Number (int_same x y h)
+value_same (Number x) (Element u y) h = absurd (let bad : ⊥ = cc in bad)
+value_same (Element t x) (Truth b) h = absurd (let bad : ⊥ = cc in bad)
+value_same (Element t x) (Number y) h = absurd (let bad : ⊥ = cc in bad)
+value_same (Element t x) (Element u y) h =
+    ap (λ (w : List ℕ). Element w x) ((bytes_eq-Decides t u).0 (and_left (bytes_eq t u) (int_eq x y) h))
+    ∙ ap (Element u) (int_same x y (and_right (bytes_eq t u) (int_eq x y) h))
 
-value_equal : (x : Value) → scalar_cmp (scalar_of x) (scalar_of x) ≡ Equal
-value_equal (Truth true) = refl
-value_equal (Truth false) = refl
-value_equal (Number x) = reversed (int_cmp x x) (int_cmp_total.antisymm x x)
-
-abbrev scalars : List Value → List Scalar
-scalars xs = map scalar_of xs
-
-key_less : (xs ys : List Value) → key_lt xs ys ≡ true → args_cmp (scalars xs) (scalars ys) ≡ Less
-key_less [] [] h = absurd (let bad : ⊥ = cc in bad)
-key_less [] (y ∷ ys) h = refl
-key_less (x ∷ xs) [] h = absurd (let bad : ⊥ = cc in bad)
-key_less (x ∷ xs) (y ∷ ys) h = by (λ k. key_less xs ys k) (value_lt x y) refl h
+key_less : (hs : List Holding) (xs ys : List ValueOf) → key_lt xs ys ≡ true → args_cmp (scalars_in hs xs) (scalars_in hs ys) ≡ Less
+key_less hs [] [] e = absurd (let bad : ⊥ = cc in bad)
+key_less hs [] (y ∷ ys) e = refl
+key_less hs (x ∷ xs) [] e = absurd (let bad : ⊥ = cc in bad)
+key_less hs (x ∷ xs) (y ∷ ys) e = by (λ k. key_less (drop 1 hs) xs ys k) (value_lt x y) refl e
   where
-    by : (key_lt xs ys ≡ true → args_cmp (scalars xs) (scalars ys) ≡ Less) → (b : Bool) → value_lt x y ≡ b → (if b then true else value_eq x y && key_lt xs ys) ≡ true → ordering_then (scalar_cmp (scalar_of x) (scalar_of y)) (args_cmp (scalars xs) (scalars ys)) ≡ Less
-    by on true e g = ap (λ o. ordering_then o (args_cmp (scalars xs) (scalars ys))) (value_less x y e)
-    by on false e g =
+    by : (key_lt xs ys ≡ true → args_cmp (scalars_in (drop 1 hs) xs) (scalars_in (drop 1 hs) ys) ≡ Less) → (b : Bool) → value_lt x y ≡ b → (if b then true else value_eq x y && key_lt xs ys) ≡ true →
+        ordering_then (scalar_cmp (scalar_in (held hs 0) x) (scalar_in (held hs 0) y)) (args_cmp (scalars_in (drop 1 hs) xs) (scalars_in (drop 1 hs) ys)) ≡ Less
+    by on true f g = ap (λ o. ordering_then o (args_cmp (scalars_in (drop 1 hs) xs) (scalars_in (drop 1 hs) ys))) (value_less (held hs 0) x y f)
+    by on false f g =
         let same = value_same x y (and_left (value_eq x y) (key_lt xs ys) g) in
-        ap (λ (z : Value). ordering_then (scalar_cmp (scalar_of x) (scalar_of z)) (args_cmp (scalars xs) (scalars ys))) (sym same)
-        ∙ ap (λ o. ordering_then o (args_cmp (scalars xs) (scalars ys))) (value_equal x)
+        ap (λ (z : ValueOf). ordering_then (scalar_cmp (scalar_in (held hs 0) x) (scalar_in (held hs 0) z)) (args_cmp (scalars_in (drop 1 hs) xs) (scalars_in (drop 1 hs) ys))) (sym same)
+        ∙ ap (λ o. ordering_then o (args_cmp (scalars_in (drop 1 hs) xs) (scalars_in (drop 1 hs) ys))) (scalar_same (scalar_in (held hs 0) x))
         ∙ on (and_right (value_eq x y) (key_lt xs ys) g)
 
 -- ---- an entry in front of all others
@@ -92,41 +123,49 @@ first_in k x [] h = refl
 first_in k x (e ∷ es) h = ap (λ o. map entry_in (match_ordering o ((k, x) ∷ e ∷ es) ((e.0, x) ∷ es) (e ∷ insert_entry (λ a b. args_cmp a.items b.items) es k x))) h
 
 -- behind an entry the others are in order
-entries_on : (before : Option (List Value)) (d : Value) (es : List code.Entry) (n : ℕ) (e : code.Entry) → n < length es → are_entries before d (map text.entry_of es) ≡ true →
-    are_entries (Some (get_or es n e).key.items) d (map text.entry_of (drop (n + 1) es)) ≡ true
+entries_on : (before : Option (List ValueOf)) (d : ValueOf) (es : List code.Entry) (n : ℕ) (e : code.Entry) → n < length es → are_entries before d (map text.entry_of es) ≡ true →
+    are_entries (Some (map text.value_of (get_or es n e).key.items)) d (map text.entry_of (drop (n + 1) es)) ≡ true
 entries_on before d [] n e l h = absurd (omega arith)
-entries_on before d (x ∷ es) n e l h = by (λ k j. entries_on (Some x.key.items) d es k e j rest) n l
+entries_on before d (x ∷ es) n e l h = by (λ k j. entries_on (Some (map text.value_of x.key.items)) d es k e j rest) n l
   where
-    rest : are_entries (Some x.key.items) d (map text.entry_of es) ≡ true
-    rest = and_right (not (value_eq x.value d)) _ (and_right (comes_behind before x.key.items) _ h)
+    rest : are_entries (Some (map text.value_of x.key.items)) d (map text.entry_of es) ≡ true
+    rest = and_right (not (value_eq (text.value_of x.value) d)) _ (and_right (comes_behind before (map text.value_of x.key.items)) _ h)
 
-    by : ((n : ℕ) → n < length es → are_entries (Some (get_or es n e).key.items) d (map text.entry_of (drop (n + 1) es)) ≡ true) → (n : ℕ) → n < length (x ∷ es) → are_entries (Some (get_or (x ∷ es) n e).key.items) d (map text.entry_of (drop (n + 1) (x ∷ es))) ≡ true
+    by : ((n : ℕ) → n < length es → are_entries (Some (map text.value_of (get_or es n e).key.items)) d (map text.entry_of (drop (n + 1) es)) ≡ true) → (n : ℕ) → n < length (x ∷ es) → are_entries (Some (map text.value_of (get_or (x ∷ es) n e).key.items)) d (map text.entry_of (drop (n + 1) (x ∷ es))) ≡ true
     by on zero l = rest
     by on (suc n) l =
         let same : suc n + 1 ≡ suc (n + 1) = omega arith in
-        ap (λ (k : ℕ). are_entries (Some (get_or es n e).key.items) d (map text.entry_of (drop k (x ∷ es)))) same
+        ap (λ (k : ℕ). are_entries (Some (map text.value_of (get_or es n e).key.items)) d (map text.entry_of (drop k (x ∷ es)))) same
         ∙ on n (omega (arith, l))
 
--- what is entered already comes behind it
-before_all : (k : Vec Scalar Global) (key : List Value) (d : Value) (old : Entries) (es : List EntryOf) → k.items ≡ scalars key → map entry_in old ≡ map entry_of es → are_entries (Some key) d es ≡ true → IsBefore k old
-before_all k key d [] es i h o = tt
-before_all k key d (e ∷ old) [] i h o = absurd (let bad : ⊥ = cc in bad)
-before_all k key d (e ∷ old) (g ∷ gs) i h o =
-    let first : entry_in e ≡ entry_of g = cc in
-    let its : (e.0).items ≡ scalars g.key = ap (λ (y : List Scalar × Scalar). y.0) first in
-    ap (λ xs. args_cmp xs (e.0).items) i ∙ (ap (λ ys. args_cmp (scalars key) ys) its ∙ key_less key g.key (and_left (key_lt key g.key) _ o))
+-- entries of what is held, over scalars
+module _ (hs : List Holding) (h : Holding) where
+  abbrev pub read : EntryOf → List Scalar × Scalar
+  read e = (scalars_in hs e.key, scalar_in h e.value)
 
--- one more entry, in front of those that are entered
-pub entered : (d : Value) (es : List code.Entry) (n : ℕ) (e : code.Entry) (key : Vec Scalar Global) (x : Scalar) (old new : Entries) → n < length es → are_entries None d (map text.entry_of es) ≡ true →
-    key.items ≡ scalars (get_or es n e).key.items → x ≡ scalar_of (get_or es n e).value → new ≡ insert_entry (λ a b. args_cmp a.items b.items) old key x →
-    map entry_in old ≡ map entry_of (map text.entry_of (drop (n + 1) es)) → map entry_in new ≡ map entry_of (map text.entry_of (drop n es))
-entered d es n e key x old new l o k v put inv =
-    ap (map entry_in) put
-    ∙ (first_in key x old (before_all key (get_or es n e).key.items d old (map text.entry_of (drop (n + 1) es)) k inv (entries_on None d es n e l o))
-    ∙ (ap (λ (ys : List Scalar). (ys, x) ∷ map entry_in old) k
-    ∙ (ap (λ (y : Scalar). (scalars (get_or es n e).key.items, y) ∷ map entry_in old) v
-    ∙ (ap (λ (rs : List (List Scalar × Scalar)). (scalars (get_or es n e).key.items, scalar_of (get_or es n e).value) ∷ rs) inv
-    ∙ ap (λ (fs : List code.Entry). map entry_of (map text.entry_of fs)) (sym (drop_more es n e l))))))
+  abbrev pub all_read : List code.Entry → List (List Scalar × Scalar)
+  all_read es = map read (map text.entry_of es)
+
+  -- what is entered already comes behind it
+  before_all : (k : Vec Scalar Global) (key : List ValueOf) (d : ValueOf) (old : Entries) (es : List EntryOf) → k.items ≡ scalars_in hs key → map entry_in old ≡ map read es → are_entries (Some key) d es ≡ true → IsBefore k old
+  before_all k key d [] es i e o = tt
+  before_all k key d (x ∷ old) [] i e o = absurd (let bad : ⊥ = cc in bad)
+  before_all k key d (x ∷ old) (g ∷ gs) i e o =
+      let first : entry_in x ≡ read g = cc in
+      let its : (x.0).items ≡ scalars_in hs g.key = ap (λ (y : List Scalar × Scalar). y.0) first in
+      ap (λ xs. args_cmp xs (x.0).items) i ∙ (ap (λ ys. args_cmp (scalars_in hs key) ys) its ∙ key_less hs key g.key (and_left (key_lt key g.key) _ o))
+
+  -- one more entry, in front of those that are entered
+  pub entered : (d : ValueOf) (es : List code.Entry) (n : ℕ) (e : code.Entry) (key : Vec Scalar Global) (x : Scalar) (old new : Entries) → n < length es → are_entries None d (map text.entry_of es) ≡ true →
+      key.items ≡ scalars_in hs (map text.value_of (get_or es n e).key.items) → x ≡ scalar_in h (text.value_of (get_or es n e).value) → new ≡ insert_entry (λ a b. args_cmp a.items b.items) old key x →
+      map entry_in old ≡ all_read (drop (n + 1) es) → map entry_in new ≡ all_read (drop n es)
+  entered d es n e key x old new l o k v put inv =
+      ap (map entry_in) put
+      ∙ (first_in key x old (before_all key (map text.value_of (get_or es n e).key.items) d old (map text.entry_of (drop (n + 1) es)) k inv (entries_on None d es n e l o))
+      ∙ (ap (λ (ys : List Scalar). (ys, x) ∷ map entry_in old) k
+      ∙ (ap (λ (y : Scalar). (scalars_in hs (map text.value_of (get_or es n e).key.items), y) ∷ map entry_in old) v
+      ∙ (ap (λ (rs : List (List Scalar × Scalar)). (scalars_in hs (map text.value_of (get_or es n e).key.items), scalar_in h (text.value_of (get_or es n e).value)) ∷ rs) inv
+      ∙ ap all_read (sym (drop_more es n e l))))))
 
 -- the entries of a table that has a text are in order
 pub spelt : (g : FunctionOf) → is_function g ≡ true → are_entries None g.default g.entries ≡ true

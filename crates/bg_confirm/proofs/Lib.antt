@@ -2,6 +2,7 @@ pub mod Matching
 pub mod Candidates
 pub mod Applied
 pub mod Fitting
+pub mod Reading
 pub mod Entering
 pub mod Tabling
 pub mod Each

@@ -1,22 +1,17 @@
--- Names and types of constants, as the code compares them.
+-- Names and values of constants, as the code compares them.
 use Rattle.std.proofs.Common.{◌≡◌, ℕ, Bool, true, false, List, [], ◌∷◌, map, refl, sym, ap, ◌∙◌}
+use Rattle.std.specs.Prelude.{◌&&◌}
 use Rattle.std.proofs.lemmas.Slice.Eq.{bytes_eq-Decides}
-use Rattle.bg_ast.specs.Values.{Ty, IntTy, BoolTy, UserTy, MapTy, is_of}
-use Rattle.bg_ast.specs.Syntax.{Decl}
+use Rattle.bg_ast.specs.Resolved as r
 use Rattle.bg_ast.specs.Views.{const_of}
 use Rattle.bg_ast.specs.declared.resolved.Constant.{Constant}
-use Rattle.bg_fits.specs.Holdings.{holding_of, holdings_of}
 use Rattle.bg_fits.specs.declared.types.Holding.{Holding}
-use Rattle.bg_sense.specs.Types.{are_of, types_of}
 use Rattle.bg_sense.proofs.Bools.{both, and_left, and_right}
-use Rattle.bg_scalar.specs.Values.{val_of}
-use Rattle.bg_scalar.specs.declared.scalar.Scalar.{Scalar}
-use Rattle.bg_scalar.specs.declared.scalar.Scalar.TheVariants.{Truth, Number}
-use Rattle.bg_replay.specs.Holds.{holds}
 use Rattle.bg_certtext.specs.declared.text.Given.{Given}
 use Rattle.bg_certtext.specs.Views.{given_of}
 use Rattle.bg_confirm.specs.Pairs.{each_fits}
-use Rattle.bg_confirm.specs.Named.{same_name}
+use Rattle.bg_confirm.specs.Named.{same_name, given_fits}
+use Rattle.bg_confirm.specs.Typed.{values_fit}
 
 -- ---- names
 
@@ -44,23 +39,13 @@ names_fit (c ∷ cs) (g ∷ gs) h =
     let r : given_names gs ≡ constant_names cs = cc in
     both (same_name c g) (each_fits same_name cs gs) ((bytes_eq-Decides c.name.text.items g.name.now).1 (sym e)) (names_fit cs gs r)
 
--- ---- types
+-- ---- values
 
-one_typed : (t : Ty) (x : Scalar) → holds (holding_of t) x ≡ is_of t (val_of x)
-one_typed IntTy (Truth b) = refl
-one_typed IntTy (Number z) = refl
-one_typed BoolTy (Truth b) = refl
-one_typed BoolTy (Number z) = refl
-one_typed (UserTy u) (Truth b) = refl
-one_typed (UserTy u) (Number z) = refl
-one_typed (MapTy ks t) (Truth b) = refl
-one_typed (MapTy ks t) (Number z) = refl
-
-pub typed : (ds : List Decl) (xs : List Scalar) → each_fits holds (holdings_of ds) xs ≡ are_of (types_of ds) (map val_of xs)
-typed [] [] = refl
-typed [] (x ∷ xs) = refl
-typed (d ∷ ds) [] = refl
-typed (d ∷ ds) (x ∷ xs) = rw (one_typed d.ty x, typed ds xs) refl
+pub values_alike : (types : List r.TypeName) (hs : List Holding) (gs : List Given) → each_fits (given_fits types) hs gs ≡ values_fit types hs (map (λ g. g.value) (map given_of gs))
+values_alike types [] [] = refl
+values_alike types [] (g ∷ gs) = refl
+values_alike types (h ∷ hs) [] = refl
+values_alike types (h ∷ hs) (g ∷ gs) = ap (λ (b : Bool). given_fits types h g && b) (values_alike types hs gs)
 
 -- ---- tests of the code
 
@@ -80,7 +65,10 @@ pub unnamed_by : (cs ds : List Constant) (gs : List Given) (b : Bool) → ds ≡
 unnamed_by cs ds gs b e s f h =
     true_false (sym (s ∙ (ap (λ (l : List Constant). each_fits same_name l gs) e ∙ names_fit cs gs h)) ∙ f)
 
--- and of types
-pub typed_by : (ds : List Decl) (hs : List Holding) (xs ys : List Scalar) (b : Bool) → hs ≡ holdings_of ds → ys ≡ xs → b ≡ each_fits holds hs ys → b ≡ are_of (types_of ds) (map val_of xs)
-typed_by ds hs xs ys b e f s =
-    s ∙ (ap (λ (l : List Holding). each_fits holds l ys) e ∙ (ap (each_fits holds (holdings_of ds)) f ∙ typed ds xs))
+-- and of values
+pub typed_by : (us types : List r.TypeName) (hs its : List Holding) (gs all : List Given) (b : Bool) → us ≡ types → hs ≡ its → gs ≡ all → b ≡ each_fits (given_fits us) hs gs → b ≡ values_fit types its (map (λ g. g.value) (map given_of all))
+typed_by us types hs its gs all b d e f s =
+    s ∙ (values_alike us hs gs
+    ∙ (ap (λ (l : List r.TypeName). values_fit l hs (map (λ g. g.value) (map given_of gs))) d
+    ∙ (ap (λ (l : List Holding). values_fit types l (map (λ g. g.value) (map given_of gs))) e
+    ∙ ap (λ (l : List Given). values_fit types its (map (λ g. g.value) (map given_of l))) f)))

@@ -15,6 +15,7 @@ use Rattle.bg_block_types.specs.Typed.{blocks_in}
 use Rattle.bg_sense.specs.Eval.{functions_of, functions_to, body_of, body_value}
 use Rattle.bg_opened.specs.Programs.{bodiless}
 use Rattle.bg_scalar.specs.Values.{tables_of, MeanTables}
+use Rattle.bg_scalar.specs.declared.scalar.Scalar.{Scalar}
 use Rattle.bg_scalar.specs.Choices.{state_of}
 use Rattle.bg_replay.specs.Moments.{Around}
 use Rattle.bg_replay.specs.Said.{Said, Stops}
@@ -27,8 +28,9 @@ use Rattle.bg_opened.specs.Axioms.{of_axioms, axiom_place}
 use Rattle.bg_opened.proofs.Whole.{meets}
 use Rattle.bg_expanded.specs.Chains.{most_bodies}
 use Rattle.bg_certtext.specs.Views.{InterpOf}
-use Rattle.bg_confirm.specs.Met.{scalars_of, axioms_of, IsMet}
+use Rattle.bg_confirm.specs.Met.{scalars_in, axioms_of, constants_hold, values_in, IsMet}
 use Rattle.bg_confirm.specs.Accepted.{AreMet}
+use Rattle.bg_confirm.proofs.Fitting.{are_held}
 
 answer_is : (s : Said) (y x : Answer) → s ≡ Stops x → RunIs s y → y ≡ x
 answer_is s y x e h = subst (λ t. RunIs t y) e h
@@ -40,8 +42,8 @@ no_body (x ∷ fs) zero = refl
 no_body (x ∷ fs) (suc f) = no_body fs f
 
 module _ (p : r.Program) (i : InterpOf) (h : IsMet p i) where
-  abbrev gs : List Rattle.bg_certtext.specs.Views.GivenOf
-  gs = i.constants
+  abbrev xs : List Scalar
+  xs = scalars_in (constants_hold p) (values_in i)
 
   -- the tables as an interpretation of the axioms' own program, which has no constants
   abbrev tabled : Interp
@@ -55,7 +57,7 @@ module _ (p : r.Program) (i : InterpOf) (h : IsMet p i) where
       record {
         set = h.set;
         tables = h.tables;
-        before = scalars_of gs;
+        before = xs;
         globals = holdings_of (axioms_of p).globals;
         frame = holdings_of ds;
       }
@@ -64,21 +66,21 @@ module _ (p : r.Program) (i : InterpOf) (h : IsMet p i) where
   mean f args =
       ap (λ (b : Option Ex). body_value b (functions_to (length (axioms_of p).functions) (axioms_of p).functions tabled) tabled f args) (no_body (meaning_of p).functions f)
 
-  failing : Fails (axioms_of p) h.set axiom_place tabled (state_of (scalars_of gs) []) []
+  failing : Fails (axioms_of p) h.set axiom_place tabled (state_of xs []) []
   failing =
       record {
         meets = record { interp = record { constants = refl; tables = h.typed_tables }; unique = refl; axioms = refl };
-        state = record { globals = h.typed; frame = refl };
+        state = record { globals = are_held p.types (axioms_of p).globals (values_in i) h.typed; frame = refl };
         fails =
-            sym (blocks_same (axioms_of p) h.set tabled 0 h.met.implementation h.met.procedure (state_of (scalars_of gs) []) [] h.met.is_there h.met.is_its)
+            sym (blocks_same (axioms_of p) h.set tabled 0 h.met.implementation h.met.procedure (state_of xs []) [] h.met.is_there h.met.is_its)
             ∙ answer_is _ _ (Failed axiom_place.spot) h.met.says
-            (runs_agree (axioms_of p) tabled 0 ds around mean (declares (axioms_of p) tabled 0 ds around refl refl) 0 (blocks_in (axioms_of p) 0 h.met.implementation h.met.procedure) (moment_in (scalars_of gs) [] []));
+            (runs_agree (axioms_of p) tabled 0 ds around mean (declares (axioms_of p) tabled 0 ds around refl refl) 0 (blocks_in (axioms_of p) 0 h.met.implementation h.met.procedure) (moment_in xs [] []));
       }
 
   pub an_interpretation : IsOpenable most_bodies (meaning_of p) → (j : Interp) × Meets (meaning_of p) j
   an_interpretation o = (
-    interp_in (of_axioms (meaning_of p)) tabled (state_of (scalars_of gs) []),
-    meets most_bodies (meaning_of p) o h.set tabled (state_of (scalars_of gs) []) [] failing,
+    interp_in (of_axioms (meaning_of p)) tabled (state_of xs []),
+    meets most_bodies (meaning_of p) o h.set tabled (state_of xs []) [] failing,
   )
 
 -- the same of a certificate's interpretation

@@ -5,13 +5,11 @@ use Rattle.bg_ast.specs.Resolved as r
 use Rattle.bg_ast.specs.Syntax.{Prog, Impl, Proc}
 use Rattle.bg_ast.specs.Meaning.{meaning_of, named_of, impl_of, proc_of}
 use Rattle.bg_sense.specs.Flow.{Failed}
-use Rattle.bg_sense.specs.Types.{are_of, types_of}
 use Rattle.bg_sense.specs.Variables.{procedure_of}
 use Rattle.bg_flow.specs.Blocks as flow
 use Rattle.bg_blocks.specs.Views.{block_of}
 use Rattle.bg_blocks.specs.Whole.{AreBlocks}
 use Rattle.bg_blocks.specs.declared.block.Block.{Block}
-use Rattle.bg_scalar.specs.Values.{val_of}
 use Rattle.bg_scalar.specs.declared.scalar.Scalar.{Scalar}
 use Rattle.bg_replay.specs.Said.{Said, Stops}
 use Rattle.bg_replay.specs.Ways.{runs}
@@ -25,7 +23,8 @@ use Rattle.bg_scalar.specs.Tables.{TableOf}
 use Rattle.bg_scalar.specs.Values.{tables_of}
 use Rattle.bg_opened.specs.Openable.{IsOpenable}
 use Rattle.bg_certtext.specs.Views.{InterpOf}
-use Rattle.bg_confirm.specs.Met.{scalars_of, tables_by, bodiless_names, run_in, axioms_of, IsMet}
+use Rattle.bg_confirm.specs.Met.{scalars_in, tables_by, run_in, axioms_of, constants_hold, values_in, IsMet}
+use Rattle.bg_confirm.specs.Typed.{values_fit, functions_fit}
 use Rattle.bg_confirm.proofs.Applied.{tables_alike}
 use Rattle.bg_confirm.proofs.Candidates.{A, M, Q, alike}
 
@@ -61,16 +60,20 @@ said_is depth p made said ts xs e h =
 abbrev its_tables : r.Program → InterpOf → List TableOf
 its_tables p i = tables_by (meaning_of p).functions i.functions
 
-module _ (p : r.Program) (i : InterpOf) (said : Said) (is : said ≡ run_in (A most_bodies (meaning_of p)) (set_of []) 0 (M most_bodies (meaning_of p)) (Q most_bodies (meaning_of p)) (its_tables p i) (scalars_of i.constants)) where
+-- and the values of its constants
+abbrev its_values : r.Program → InterpOf → List Scalar
+its_values p i = scalars_in (constants_hold p) (values_in i)
+
+module _ (p : r.Program) (i : InterpOf) (said : Said) (is : said ≡ run_in (A most_bodies (meaning_of p)) (set_of []) 0 (M most_bodies (meaning_of p)) (Q most_bodies (meaning_of p)) (its_tables p i) (its_values p i)) where
   abbrev P : Prog
   P = meaning_of p
 
-  pub met : map (λ g. g.name) i.constants ≡ map (λ c. c.name.text) p.constants → map (λ g. g.name) i.functions ≡ bodiless_names p.functions → are_of (types_of (axioms_of p).globals) (map val_of (scalars_of i.constants)) ≡ true → are_tables (axioms_of p).functions (tables_of (its_tables p i)) ≡ true → said ≡ Stops (Failed axiom_place.spot) → IsMet p i
-  met n m t u e =
+  pub met : map (λ g. g.name) i.constants ≡ map (λ c. c.name.text) p.constants → values_fit p.types (constants_hold p) (values_in i) ≡ true → functions_fit p.types p.functions i.functions ≡ true → are_tables (axioms_of p).functions (tables_of (its_tables p i)) ≡ true → said ≡ Stops (Failed axiom_place.spot) → IsMet p i
+  met n t f u e =
       record {
         named = n;
-        named_functions = m;
         typed = t;
+        functions = f;
         tables = its_tables p i;
         are_its = λ f h. refl;
         typed_tables = u;
@@ -85,7 +88,7 @@ module _ (p : r.Program) (i : InterpOf) (said : Said) (is : said ≡ run_in (A m
       let its : Some (Q most_bodies P) ≡ Some h.met.procedure = ap (λ (x : Impl). procedure_of (axioms_of p) x.procedure) m ∙ h.met.is_its in
       let q : Q most_bodies P ≡ h.met.procedure = cc in
       is
-      ∙ (alike most_bodies P (set_of []) h.set (its_tables p i) (scalars_of i.constants)
-      ∙ (sym (tables_alike most_bodies P o h.set h.tables (its_tables p i) (scalars_of i.constants) h.are_its)
-      ∙ (ap (λ (x : Impl). run_in (axioms_of p) h.set 0 x (Q most_bodies P) h.tables (scalars_of i.constants)) m
-      ∙ (ap (λ (x : Proc). run_in (axioms_of p) h.set 0 h.met.implementation x h.tables (scalars_of i.constants)) q ∙ h.met.says))))
+      ∙ (alike most_bodies P (set_of []) h.set (its_tables p i) (its_values p i)
+      ∙ (sym (tables_alike most_bodies P o h.set h.tables (its_tables p i) (its_values p i) h.are_its)
+      ∙ (ap (λ (x : Impl). run_in (axioms_of p) h.set 0 x (Q most_bodies P) h.tables (its_values p i)) m
+      ∙ (ap (λ (x : Proc). run_in (axioms_of p) h.set 0 h.met.implementation x h.tables (its_values p i)) q ∙ h.met.says))))

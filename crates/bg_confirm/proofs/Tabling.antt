@@ -5,8 +5,10 @@ use Rattle.std.specs.List.{list_all}
 use Rattle.bg_sense.proofs.Bools.{and_left, and_right}
 use Rattle.std.proofs.lemmas.Bool.Decides.{nat_tests}
 use Rattle.std.proofs.lemmas.List.{map-append, drop_all, drop_more}
-use Rattle.bg_ast.specs.Values.{Ty}
+use Rattle.bg_ast.specs.Resolved as r
 use Rattle.bg_ast.specs.Meaning as m
+use Rattle.bg_ast.specs.Meaning.{named_of}
+use Rattle.bg_ast.specs.Syntax.{Fun}
 use Rattle.bg_ast.specs.Views.{fun_of}
 use Rattle.bg_ast.specs.declared.resolved.Expr.{Expr}
 use Rattle.bg_ast.specs.declared.resolved.Function as ast
@@ -43,12 +45,15 @@ spelt_at [] n g l e h = absurd (omega (arith, l))
 spelt_at (x ∷ gs) zero g l e h = ap (λ (y : text.Function). is_function (function_of y)) e ∙ and_left (is_function (function_of x)) (list_all is_function (map function_of gs)) h
 spelt_at (x ∷ gs) (suc n) g l e h = spelt_at gs n g (omega (arith, l)) e (and_right (is_function (function_of x)) (list_all is_function (map function_of gs)) h)
 
-module _ (named : ℕ → Ty) where
+module _ (types : List r.TypeName) where
+  abbrev pub one : ast.Function → Fun
+  one f = m.fun_of (named_of types) (fun_of f)
+
   abbrev pub fits_from : List ast.Function → List text.Function → Bool
-  fits_from fs gs = functions_fit named (map fun_of fs) (map function_of gs)
+  fits_from fs gs = functions_fit types (map fun_of fs) (map function_of gs)
 
   abbrev pub made_from : List ast.Function → List text.Function → List TableOf
-  made_from fs gs = tables_by (map (m.fun_of named) (map fun_of fs)) (map function_of gs)
+  made_from fs gs = tables_by (map (m.fun_of (named_of types)) (map fun_of fs)) (map function_of gs)
 
   -- ---- where no function is left
 
@@ -67,10 +72,10 @@ module _ (named : ℕ → Ty) where
   -- ---- the tables
 
   made_at : (fs : List ast.Function) (i : ℕ) (f : ast.Function) (hs : List text.Function) (b : Bool) → i < length fs → f ≡ get_or fs i f → is_some f.body ≡ b →
-      made_from (drop i fs) hs ≡ (if b then blank (m.fun_of named (fun_of f)).result ∷ made_from (drop (i + 1) fs) hs else first_table (m.fun_of named (fun_of f)).result (map function_of hs) ∷ tables_by (map (m.fun_of named) (map fun_of (drop (i + 1) fs))) (drop 1 (map function_of hs)))
+      made_from (drop i fs) hs ≡ (if b then blank (one f) ∷ made_from (drop (i + 1) fs) hs else first_table (one f) (map function_of hs) ∷ tables_by (map (m.fun_of (named_of types)) (map fun_of (drop (i + 1) fs))) (drop 1 (map function_of hs)))
   made_at fs i f hs b l at e =
       ap (λ (k : List ast.Function). made_from k hs) (drop_item fs i f l at)
-      ∙ ap (λ (c : Bool). if c then blank (m.fun_of named (fun_of f)).result ∷ made_from (drop (i + 1) fs) hs else first_table (m.fun_of named (fun_of f)).result (map function_of hs) ∷ tables_by (map (m.fun_of named) (map fun_of (drop (i + 1) fs))) (drop 1 (map function_of hs))) (body_alike (fun_of f).body ∙ (some_alike f ∙ e))
+      ∙ ap (λ (c : Bool). if c then blank (one f) ∷ made_from (drop (i + 1) fs) hs else first_table (one f) (map function_of hs) ∷ tables_by (map (m.fun_of (named_of types)) (map fun_of (drop (i + 1) fs))) (drop 1 (map function_of hs))) (body_alike (fun_of f).body ∙ (some_alike f ∙ e))
 
   one_more : (made new : List Table) (t : Table) (u : TableOf) (rest : List TableOf) → new ≡ made ++ t ∷ [] → table_in t ≡ u → tables_in new ++ rest ≡ tables_in made ++ u ∷ rest
   one_more made new t u rest e is =
@@ -81,26 +86,26 @@ module _ (named : ℕ → Ty) where
 
   -- a function with a body
   pub bodied : (fs : List ast.Function) (i : ℕ) (f : ast.Function) (hs : List text.Function) (made new : List Table) (t : Table) (whole : List TableOf) → i < length fs → f ≡ get_or fs i f → is_some f.body ≡ true →
-      new ≡ made ++ t ∷ [] → table_in t ≡ blank (m.fun_of named (fun_of f)).result → tables_in made ++ made_from (drop i fs) hs ≡ whole → tables_in new ++ made_from (drop (i + 1) fs) hs ≡ whole
+      new ≡ made ++ t ∷ [] → table_in t ≡ blank (one f) → tables_in made ++ made_from (drop i fs) hs ≡ whole → tables_in new ++ made_from (drop (i + 1) fs) hs ≡ whole
   bodied fs i f hs made new t whole l at e more is h =
-      one_more made new t (blank (m.fun_of named (fun_of f)).result) (made_from (drop (i + 1) fs) hs) more is
+      one_more made new t (blank (one f)) (made_from (drop (i + 1) fs) hs) more is
       ∙ (ap (λ (r : List TableOf). tables_in made ++ r) (sym (made_at fs i f hs true l at e)) ∙ h)
 
   -- one without, where no table is left
   pub unmatched : (fs : List ast.Function) (i : ℕ) (f : ast.Function) (gs : List text.Function) (n : ℕ) (made new : List Table) (t : Table) (whole : List TableOf) → i < length fs → f ≡ get_or fs i f → is_some f.body ≡ false → length gs ≤ n →
-      new ≡ made ++ t ∷ [] → table_in t ≡ blank (m.fun_of named (fun_of f)).result → tables_in made ++ made_from (drop i fs) (drop n gs) ≡ whole → tables_in new ++ made_from (drop (i + 1) fs) (drop n gs) ≡ whole
+      new ≡ made ++ t ∷ [] → table_in t ≡ blank (one f) → tables_in made ++ made_from (drop i fs) (drop n gs) ≡ whole → tables_in new ++ made_from (drop (i + 1) fs) (drop n gs) ≡ whole
   unmatched fs i f gs n made new t whole l at e k more is h =
-      one_more made new t (blank (m.fun_of named (fun_of f)).result) (made_from (drop (i + 1) fs) (drop n gs)) more is
-      ∙ (ap (λ (hs : List text.Function). tables_in made ++ blank (m.fun_of named (fun_of f)).result ∷ made_from (drop (i + 1) fs) hs) (drop_all n gs k)
+      one_more made new t (blank (one f)) (made_from (drop (i + 1) fs) (drop n gs)) more is
+      ∙ (ap (λ (hs : List text.Function). tables_in made ++ blank (one f) ∷ made_from (drop (i + 1) fs) hs) (drop_all n gs k)
       ∙ (ap (λ (r : List TableOf). tables_in made ++ r) (sym (made_at fs i f [] false l at e))
       ∙ (ap (λ (hs : List text.Function). tables_in made ++ made_from (drop i fs) hs) (sym (drop_all n gs k)) ∙ h)))
 
   -- one without, with the next table
   pub matched : (fs : List ast.Function) (i : ℕ) (f : ast.Function) (gs : List text.Function) (n : ℕ) (d : text.Function) (made new : List Table) (t : Table) (whole : List TableOf) → i < length fs → f ≡ get_or fs i f → is_some f.body ≡ false → n < length gs →
-      new ≡ made ++ t ∷ [] → table_in t ≡ table_of (function_of (get_or gs n d)) → tables_in made ++ made_from (drop i fs) (drop n gs) ≡ whole → tables_in new ++ made_from (drop (i + 1) fs) (drop (n + 1) gs) ≡ whole
+      new ≡ made ++ t ∷ [] → table_in t ≡ table_of (one f) (function_of (get_or gs n d)) → tables_in made ++ made_from (drop i fs) (drop n gs) ≡ whole → tables_in new ++ made_from (drop (i + 1) fs) (drop (n + 1) gs) ≡ whole
   matched fs i f gs n d made new t whole l at e k more is h =
       let g = get_or gs n d in
       let front = drop_more gs n d k in
-      one_more made new t (table_of (function_of g)) (made_from (drop (i + 1) fs) (drop (n + 1) gs)) more is
+      one_more made new t (table_of (one f) (function_of g)) (made_from (drop (i + 1) fs) (drop (n + 1) gs)) more is
       ∙ (ap (λ (r : List TableOf). tables_in made ++ r) (sym (made_at fs i f (g ∷ drop (n + 1) gs) false l at e))
       ∙ (ap (λ (hs : List text.Function). tables_in made ++ made_from (drop i fs) hs) (sym front) ∙ h))

@@ -1,5 +1,5 @@
-pub mod Met
-pub mod Typed
-pub mod Accepted
 pub mod Pairs
 pub mod Named
+pub mod Typed
+pub mod Met
+pub mod Accepted

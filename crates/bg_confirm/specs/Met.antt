@@ -1,69 +1,72 @@
 -- When the values and tables that a certificate gives constants and functions are an interpretation that meets the axioms, as a replay
 -- over scalars tells.
-use Rattle.std.specs.Prelude.{◌≡◌, ℕ, pos, Bool, true, false, if◌then◌else◌, List, [], ◌∷◌, map, drop, Some, is_some, slice_get}
-use Rattle.bg_ast.specs.Values.{Ty, BoolTy}
+use Rattle.std.specs.Prelude.{◌≡◌, ℕ, ℤ, pos, Bool, true, false, if◌then◌else◌, List, [], ◌∷◌, map, drop, Some, slice_get}
 use Rattle.bg_ast.specs.Syntax.{Fun, Proc, Impl, Prog}
 use Rattle.bg_ast.specs.Resolved as r
 use Rattle.bg_ast.specs.Meaning.{meaning_of}
 use Rattle.bg_ast.specs.Execution.{Place}
-use Rattle.bg_fits.specs.Holdings.{holdings_of}
+use Rattle.bg_fits.specs.Holdings.{holding_of, holdings_of}
+use Rattle.bg_fits.specs.declared.types.Holding.{Holding}
+use Rattle.bg_fits.specs.declared.types.Holding.TheVariants.{Truths, Elements}
 use Rattle.bg_sense.specs.Flow.{Failed}
-use Rattle.bg_sense.specs.Types.{are_of, types_of}
 use Rattle.bg_sense.specs.Tables.{has_body, are_tables}
 use Rattle.bg_sense.specs.Variables.{procedure_of}
 use Rattle.bg_flow.specs.Core.{frame_decls}
 use Rattle.bg_block_types.specs.Typed.{blocks_in}
 use Rattle.bg_scalar.specs.Tables.{TableOf}
-use Rattle.bg_scalar.specs.Values.{val_of, tables_of}
+use Rattle.bg_scalar.specs.Values.{tables_of}
 use Rattle.bg_scalar.specs.declared.scalar.Scalar.{Scalar}
 use Rattle.bg_scalar.specs.declared.scalar.Scalar.TheVariants as scalar
+use Rattle.bg_replay.specs.Holds.{held}
 use Rattle.bg_replay.specs.Said.{Said, Stops}
 use Rattle.bg_replay.specs.Ways.{runs}
 use Rattle.bg_replay.specs.Endings.{moment_in}
 use Rattle.bg_opened.specs.Exprs.{raw_bodies}
 use Rattle.bg_opened.specs.Axioms.{axiom_program, axiom_place}
 use Rattle.bg_expanded.specs.Chains.{most_bodies}
-use Rattle.bg_certtext.specs.declared.text.Value.{Value}
-use Rattle.bg_certtext.specs.declared.text.Value.TheVariants as value
-use Rattle.bg_certtext.specs.Views.{GivenOf, EntryOf, FunctionOf, InterpOf}
+use Rattle.bg_certtext.specs.Views as value
+use Rattle.bg_certtext.specs.Views.{ValueOf, EntryOf, FunctionOf, InterpOf}
+use Rattle.bg_confirm.specs.Typed.{values_fit, functions_fit}
 
--- a constant's value as the value of a variable
-abbrev pub scalar_of : Value → Scalar
-scalar_of (value.Truth b) = scalar.Truth b
-scalar_of (value.Number z) = scalar.Number z
+-- a value as one of what is held: an element has its number, and the type that is held
+abbrev pub element_in : Holding → ℤ → Scalar
+element_in (Elements k) z = scalar.Element k z
+element_in _ z = scalar.Number z
 
-abbrev pub scalars_of : List GivenOf → List Scalar
-scalars_of gs = map (λ g. scalar_of g.value) gs
+abbrev pub scalar_in : Holding → ValueOf → Scalar
+scalar_in h (value.Truth b) = scalar.Truth b
+scalar_in h (value.Number z) = scalar.Number z
+scalar_in h (value.Element name z) = element_in h z
+
+-- values as those of what is held, one by one
+abbrev pub scalars_in : List Holding → List ValueOf → List Scalar
+scalars_in hs [] = []
+scalars_in hs (x ∷ xs) = scalar_in (held hs 0) x ∷ scalars_in (drop 1 hs) xs
 
 -- a function's table over scalars
-abbrev pub entry_of : EntryOf → List Scalar × Scalar
-entry_of e = (map scalar_of e.key, scalar_of e.value)
+abbrev pub entry_of : Fun → EntryOf → List Scalar × Scalar
+entry_of f e = (scalars_in (map holding_of f.params) e.key, scalar_in (holding_of f.result) e.value)
 
-abbrev pub table_of : FunctionOf → TableOf
-table_of g = record { entries = map entry_of g.entries; default = scalar_of g.default }
+abbrev pub table_of : Fun → FunctionOf → TableOf
+table_of f g = record { entries = map (entry_of f) g.entries; default = scalar_in (holding_of f.result) g.default }
 
--- the table without entries of a function that gives this type
-abbrev pub default_in : Ty → Scalar
-default_in BoolTy = scalar.Truth false
+-- the table without entries of a function that gives what is held
+abbrev pub default_in : Holding → Scalar
+default_in Truths = scalar.Truth false
+default_in (Elements k) = scalar.Element k (pos 0)
 default_in _ = scalar.Number (pos 0)
 
-abbrev pub blank : Ty → TableOf
-blank t = record { entries = []; default = default_in t }
+abbrev pub blank : Fun → TableOf
+blank f = record { entries = []; default = default_in (holding_of f.result) }
 
-abbrev pub first_table : Ty → List FunctionOf → TableOf
-first_table t [] = blank t
-first_table t (g ∷ gs) = table_of g
+abbrev pub first_table : Fun → List FunctionOf → TableOf
+first_table f [] = blank f
+first_table f (g ∷ gs) = table_of f g
 
 -- the tables of functions: where one has no body the next of these, else one without entries
 abbrev pub tables_by : List Fun → List FunctionOf → List TableOf
 tables_by [] gs = []
-tables_by (f ∷ fs) gs =
-    if has_body f.body then blank f.result ∷ tables_by fs gs else first_table f.result gs ∷ tables_by fs (drop 1 gs)
-
--- the names of functions without a body
-abbrev pub bodiless_names : List r.Fun → List (List ℕ)
-bodiless_names [] = []
-bodiless_names (f ∷ fs) = if is_some f.body then bodiless_names fs else f.name.text ∷ bodiless_names fs
+tables_by (f ∷ fs) gs = if has_body f.body then blank f ∷ tables_by fs gs else first_table f gs ∷ tables_by fs (drop 1 gs)
 
 -- tables are these where a function has no body
 abbrev pub AreTablesOf : List Fun → List FunctionOf → List TableOf → Type 0
@@ -90,15 +93,23 @@ pub record RunsTo (p : Prog) (set : ℕ → Bool) (t : Place) (ts : List TableOf
 abbrev pub axioms_of : r.Program → Prog
 axioms_of p = axiom_program most_bodies (meaning_of p)
 
+-- what the constants hold
+abbrev pub constants_hold : r.Program → List Holding
+constants_hold p = holdings_of (axioms_of p).globals
+
+abbrev pub values_in : InterpOf → List ValueOf
+values_in i = map (λ g. g.value) i.constants
+
 -- The constants' names, in order, each with a value of its type; the names of the functions without a body, in order, each with a table of
--- its types in normal form; and from these values the axioms' own program fails at its place, where functions have these tables. It applies
--- no function with a body and has no candidates: all tables of such functions and all sets of candidates are as good.
+-- its types in normal form; an element is of a type where it has its name; and from these values the axioms' own program fails at its
+-- place, where functions have these tables. It applies no function with a body and has no candidates: all tables of such functions and all
+-- sets of candidates are as good.
 pub record IsMet (p : r.Program) (i : InterpOf) : Type 0 where
   pub named : map (λ g. g.name) i.constants ≡ map (λ c. c.name.text) p.constants
-  pub named_functions : map (λ g. g.name) i.functions ≡ bodiless_names p.functions
-  pub typed : are_of (types_of (axioms_of p).globals) (map val_of (scalars_of i.constants)) ≡ true
+  pub typed : values_fit p.types (constants_hold p) (values_in i) ≡ true
+  pub functions : functions_fit p.types p.functions i.functions ≡ true
   pub tables : List TableOf
   pub are_its : AreTablesOf (meaning_of p).functions i.functions tables
   pub typed_tables : are_tables (axioms_of p).functions (tables_of tables) ≡ true
   pub set : ℕ → Bool
-  pub met : RunsTo (axioms_of p) set axiom_place tables (scalars_of i.constants) (Stops (Failed axiom_place.spot))
+  pub met : RunsTo (axioms_of p) set axiom_place tables (scalars_in (constants_hold p) (values_in i)) (Stops (Failed axiom_place.spot))

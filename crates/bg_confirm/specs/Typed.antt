@@ -1,41 +1,54 @@
--- Whether the tables that a certificate gives are those of functions, by name and type.
-use Rattle.std.specs.Prelude.{ℕ, Bool, true, false, ◌&&◌, if◌then◌else◌, List, [], ◌∷◌, map, drop, is_some}
+-- Whether the values and tables that a certificate gives are those of constants and functions, by name and type.
+use Rattle.std.specs.Prelude.{ℕ, Bool, true, false, ◌&&◌, if◌then◌else◌, List, [], ◌∷◌, map, drop, Option, Some, None, is_some, slice_get}
 use Rattle.std.specs.List.{list_all}
 use Rattle.std.specs.Str.{bytes_eq}
-use Rattle.bg_ast.specs.Values.{Ty, is_of}
 use Rattle.bg_ast.specs.Syntax.{Fun}
 use Rattle.bg_ast.specs.Resolved as r
-use Rattle.bg_ast.specs.Meaning.{fun_of}
-use Rattle.bg_sense.specs.Types.{are_of}
-use Rattle.bg_scalar.specs.Values.{val_of}
-use Rattle.bg_certtext.specs.declared.text.Value.{Value}
-use Rattle.bg_certtext.specs.Views.{EntryOf, FunctionOf}
-use Rattle.bg_confirm.specs.Met.{scalar_of}
+use Rattle.bg_ast.specs.Meaning.{named_of, fun_of}
+use Rattle.bg_fits.specs.Holdings.{holding_of}
+use Rattle.bg_fits.specs.declared.types.Holding.{Holding}
+use Rattle.bg_fits.specs.declared.types.Holding.TheVariants.{Truths, Numbers, Elements, Others}
+use Rattle.bg_certtext.specs.Views.{ValueOf, Truth, Number, Element, EntryOf, FunctionOf}
+use Rattle.bg_confirm.specs.Pairs.{each_fits}
 
-abbrev pub value_fits : Ty → Value → Bool
-value_fits t x = is_of t (val_of (scalar_of x))
+-- the name of a type; no bytes where there is none
+abbrev pub name_of : Option r.TypeName → List ℕ
+name_of None = []
+name_of (Some d) = d.name.text
 
-abbrev pub values_fit : List Ty → List Value → Bool
-values_fit ts xs = are_of ts (map val_of (map scalar_of xs))
+-- where these types are declared
+module _ (types : List r.TypeName) where
+  -- a value is of what is held; an element has the name of its type
+  abbrev pub value_fits : Holding → ValueOf → Bool
+  value_fits Truths (Truth b) = true
+  value_fits Numbers (Number z) = true
+  value_fits (Elements k) (Element name z) = bytes_eq (name_of (slice_get types k)) name
+  value_fits _ _ = false
 
-abbrev pub entry_fits : Fun → EntryOf → Bool
-entry_fits f e = values_fit f.params e.key && value_fits f.result e.value
+  abbrev pub values_fit : List Holding → List ValueOf → Bool
+  values_fit hs xs = each_fits value_fits hs xs
 
-abbrev pub entries_fit : Fun → List EntryOf → Bool
-entries_fit f es = list_all (entry_fits f) es
+  abbrev pub entry_fits : Fun → EntryOf → Bool
+  entry_fits f e = values_fit (map holding_of f.params) e.key && value_fits (holding_of f.result) e.value
 
--- the table has the function's name, and its values are of the function's types
-abbrev pub function_fits : (ℕ → Ty) → r.Fun → FunctionOf → Bool
-function_fits named f g =
-    bytes_eq f.name.text g.name && (value_fits (fun_of named f).result g.default && entries_fit (fun_of named f) g.entries)
+  abbrev pub entries_fit : Fun → List EntryOf → Bool
+  entries_fit f es = list_all (entry_fits f) es
 
-abbrev pub first_fits : (ℕ → Ty) → r.Fun → List FunctionOf → Bool
-first_fits named f [] = false
-first_fits named f (g ∷ gs) = function_fits named f g
+  -- the values of a table are of the function's types
+  abbrev pub table_fits : Fun → FunctionOf → Bool
+  table_fits f g = value_fits (holding_of f.result) g.default && entries_fit f g.entries
 
--- the tables are those of the functions without a body, in order
-abbrev pub functions_fit : (ℕ → Ty) → List r.Fun → List FunctionOf → Bool
-functions_fit named [] [] = true
-functions_fit named [] (g ∷ gs) = false
-functions_fit named (f ∷ fs) gs =
-    if is_some f.body then functions_fit named fs gs else first_fits named f gs && functions_fit named fs (drop 1 gs)
+  -- and it has the function's name
+  abbrev pub function_fits : r.Fun → FunctionOf → Bool
+  function_fits f g = bytes_eq f.name.text g.name && table_fits (fun_of (named_of types) f) g
+
+  abbrev pub first_fits : r.Fun → List FunctionOf → Bool
+  first_fits f [] = false
+  first_fits f (g ∷ gs) = function_fits f g
+
+  -- the tables are those of the functions without a body, in order
+  abbrev pub functions_fit : List r.Fun → List FunctionOf → Bool
+  functions_fit [] [] = true
+  functions_fit [] (g ∷ gs) = false
+  functions_fit (f ∷ fs) gs =
+      if is_some f.body then functions_fit fs gs else first_fits f gs && functions_fit fs (drop 1 gs)

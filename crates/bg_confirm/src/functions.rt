@@ -1,41 +1,27 @@
 //! The names and tables that a certificate gives functions.
 ghost use Rattle.std.specs.Prelude.{◌≡◌, map};
-ghost use Rattle.bg_ast.specs.Views.{fun_of};
-ghost use Rattle.bg_ast.specs.Values as v;
 ghost use Rattle.bg_ast.specs.Meaning as m;
 ghost use Rattle.bg_ast.specs.Meaning.{type_in, named_of};
-ghost use Rattle.bg_ast.specs.Views.{type_of, type_name_of};
-ghost use Rattle.bg_certtext.specs.Views.{entry_of, function_of};
+ghost use Rattle.bg_ast.specs.Views.{type_of, type_name_of, fun_of};
+ghost use Rattle.bg_fits.specs.Holdings.{holding_of};
+ghost use Rattle.bg_certtext.specs.Views.{value_of, entry_of, function_of};
 ghost use Rattle.bg_confirm.specs.Typed.{value_fits, values_fit, entry_fits, entries_fit, function_fits, functions_fit};
-ghost use Rattle.bg_sorts.specs.Sorts.{sort_of_type};
-ghost use Rattle.bg_confirm.specs.Pairs.{each_fits};
 
+use crate::values::fits;
 use bg_ast::resolved::{Function, TypeName, WrittenType};
 use bg_certtext::{Entry, Value};
-use bg_linear::Sort;
-use bg_sorts::written_sort;
-
-/// Whether a value is one of what has this sort.
-fn is_of_sort(sort: Sort, value: Value) -> bool
-    ensures { (t : v.Ty) → sort ≡ sort_of_type t → result ≡ value_fits t value }
-{
-    match (sort, value) {
-        (Sort::Truth, Value::Truth(_)) => true,
-        (Sort::Number, Value::Number(_)) => true,
-        _ => false,
-    }
-}
+use bg_fits::written_holding;
 
 /// Whether a value is one of a type as it is written.
-fn value_fits(types: &[TypeName], ty: &WrittenType, value: Value) -> bool
-    ensures { result ≡ value_fits (type_in (named_of (map type_name_of types.now)) (type_of ty.now)) value }
+fn value_fits(types: &[TypeName], ty: &WrittenType, value: Value<'_>) -> bool
+    ensures { result ≡ value_fits (map type_name_of types.now) (holding_of (type_in (named_of (map type_name_of types.now)) (type_of ty.now))) (value_of value.entry) }
 {
-    is_of_sort(written_sort(types, ty), value)
+    fits(types, written_holding(types, ty), value)
 }
 
 /// Whether values are ones of types as they are written.
 fn values_fit(types: &[TypeName], written: &[WrittenType], values: &[Value]) -> bool
-    ensures { result ≡ values_fit (map (type_in (named_of (map type_name_of types.now))) (map type_of written.now)) values.now }
+    ensures { result ≡ values_fit (map type_name_of types.now) (map holding_of (map (type_in (named_of (map type_name_of types.now))) (map type_of written.now))) (map value_of values.now) }
 {
     if written.len() != values.len() {
         return false;
@@ -50,13 +36,13 @@ fn values_fit(types: &[TypeName], written: &[WrittenType], values: &[Value]) -> 
 
 /// Whether the arguments and the value of an entry are of a function's types.
 fn entry_fits(types: &[TypeName], f: &Function, entry: &Entry) -> bool
-    ensures { result ≡ entry_fits (m.fun_of (named_of (map type_name_of types.now)) (fun_of f.now)) (entry_of entry.now) }
+    ensures { result ≡ entry_fits (map type_name_of types.now) (m.fun_of (named_of (map type_name_of types.now)) (fun_of f.now)) (entry_of entry.now) }
 {
     values_fit(types, &f.params, &entry.key) && value_fits(types, &f.result, entry.value)
 }
 
 fn entries_fit(types: &[TypeName], f: &Function, entries: &[Entry]) -> bool
-    ensures { result ≡ entries_fit (m.fun_of (named_of (map type_name_of types.now)) (fun_of f.now)) (map entry_of entries.now) }
+    ensures { result ≡ entries_fit (map type_name_of types.now) (m.fun_of (named_of (map type_name_of types.now)) (fun_of f.now)) (map entry_of entries.now) }
 {
     for entry in entries {
         if !entry_fits(types, f, entry) {
@@ -68,7 +54,7 @@ fn entries_fit(types: &[TypeName], f: &Function, entries: &[Entry]) -> bool
 
 /// Whether a table has the function's name, and its values are of the function's types.
 fn function_fits(types: &[TypeName], f: &Function, given: &bg_certtext::Function) -> bool
-    ensures { result ≡ function_fits (named_of (map type_name_of types.now)) (fun_of f.now) (function_of given.now) }
+    ensures { result ≡ function_fits (map type_name_of types.now) (fun_of f.now) (function_of given.now) }
 {
     f.name.text.as_slice() == given.name
         && (value_fits(types, &f.result, given.default) && entries_fit(types, f, &given.entries))
@@ -80,7 +66,7 @@ pub fn functions_fit(
     functions: &[Function],
     given: &[bg_certtext::Function],
 ) -> bool
-    ensures { result ≡ functions_fit (named_of (map type_name_of types.now)) (map fun_of functions.now) (map function_of given.now) }
+    ensures { result ≡ functions_fit (map type_name_of types.now) (map fun_of functions.now) (map function_of given.now) }
 {
     let mut next = 0;
     for f in functions {

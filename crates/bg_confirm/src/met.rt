@@ -13,7 +13,7 @@ use crate::ending::{ending_from, is_failure};
 use crate::functions::functions_fit;
 use crate::names::are_for;
 use crate::tables::tables_by;
-use crate::values::{are_held, holdings_in, scalars_of};
+use crate::values::{are_given, holdings_in, scalars_in};
 use bg_ast::resolved::Resolved;
 use bg_certtext::{CertText, Interp};
 use bg_opening::axiom_program;
@@ -39,11 +39,11 @@ fn are_met(alloc: Global, program: &Resolved, interp: &Interp) -> Result<bool, A
     }
     let tables = tables_by(alloc, program, &interp.functions)?;
     let axioms = axiom_program(alloc, DEPTH, program)?;
-    let values = scalars_of(alloc, &interp.constants)?;
     let holdings = holdings_in(alloc, &axioms)?;
-    if !are_held(&holdings, &values) {
+    if !are_given(&program.types, &holdings, &interp.constants) {
         return Ok(false);
     }
+    let values = scalars_in(alloc, &holdings, &interp.constants)?;
     let ending = ending_from(alloc, &axioms, &tables, &values)?;
     Ok(is_failure(ending))
 }

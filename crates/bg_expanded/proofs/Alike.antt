@@ -29,6 +29,10 @@ alike_often t a n = alike_times (min (t * a) (2 ^ 64 - 1)) (t * a) n (alike_satu
 pub added_more : (t x rest here now next whole : ℕ) → here ≡ x + rest → IsAlike (now + t * here) whole → IsAlike next (now + t * x) → IsAlike (next + t * rest) whole
 added_more t x rest here now next whole s h k = let e = ap (λ (n : ℕ). t * n) s ∙ mul-add t x rest in omega (arith, h, k)
 
+-- more are added to as many
+pub as_many : (a b c : ℕ) → IsAlike b c → IsAlike (a + b) (a + c)
+as_many a b c h = omega (arith, h)
+
 -- two are added
 pub added_two : (t a b old mid new : ℕ) → IsAlike mid (old + t * a) → IsAlike new (mid + t * b) → IsAlike new (old + t * (a + b))
 added_two t a b old mid new h k = let e = mul-add t a b in omega (arith, h, k)

@@ -14,3 +14,4 @@ pub mod Whole
 pub mod Meant
 pub mod Openable
 pub mod PairNodes
+pub mod Tallies

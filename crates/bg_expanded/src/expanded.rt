@@ -13,7 +13,7 @@ use crate::count::{Count, add_own, nodes_in, nothing, read_at};
 use crate::pairs::add_pairs;
 use crate::sized::{add_clauses, add_exprs, add_stmts};
 use bg_ast::resolved::{Implementation, Procedure, Resolved};
-use bg_opening::{Scalar, uniques_of};
+use bg_opening::uniques_of;
 use bg_places::MOST_EXPANDED;
 use std::alloc::{AllocError, Global};
 
@@ -52,10 +52,8 @@ fn add_claims(
 ) -> Result<(), AllocError>
     ensures { OnOk result (AddsNodes table.now count.old count.new (λ o. nodes_of (all_opened o (exs_of (claims (program_of program.now)))))) }
 {
-    let numbers = uniques_of(alloc, &program.types, &program.constants, Scalar::Int)?;
-    let truths = uniques_of(alloc, &program.types, &program.constants, Scalar::Bool)?;
-    add_pairs(count, numbers.len());
-    add_pairs(count, truths.len());
+    let told = uniques_of(alloc, &program.types, &program.constants)?;
+    add_pairs(alloc, count, &told)?;
     add_exprs(count, table, &program.axioms)
 }
 
@@ -104,10 +102,10 @@ fn is_any_of(
     Ok(false)
 }
 
-/// Whether the claims on constants together, that unique ones differ and the axioms, or an implementation, have too many expression nodes, once the bodies of functions stand in the place of
-/// their applications: an implementation those of its body, of its procedure's clauses, and for each call of the callee's clauses. No
-/// body is put in to count them; no pair of unique
-/// constants is made; time and memory are linear in the program's text.
+/// Whether the claims on constants together, that unique ones differ and the axioms, or an implementation, have too many expression
+/// nodes, once the bodies of functions stand in the place of their applications: an implementation those of its body, of its procedure's
+/// clauses, and for each call of the callee's clauses. No body is put in to count them, and no pair of unique constants is made; time and
+/// memory are linear in the program's text.
 ///
 /// Only want of memory is an error.
 pub fn is_any_too_large(alloc: Global, program: &Resolved) -> Result<bool, AllocError>

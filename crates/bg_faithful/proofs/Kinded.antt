@@ -1,5 +1,5 @@
--- A typed expression over scalars has the kind of its type.
-use Rattle.std.proofs.Common.{◌≡◌, ℕ, zero, suc, true, false, List, [], ◌∷◌, map, Option, Some, None, refl, sym, ap, ◌∙◌, subst, inl, inr}
+-- A typed expression over truth values and whole numbers has the kind of its type.
+use Rattle.std.proofs.Common.{◌≡◌, ℕ, zero, suc, true, List, [], ◌∷◌, map, Option, Some, None, refl, sym, ap, ◌∙◌, subst, inl, inr}
 use Rattle.std.specs.Prelude.{◌⊎◌, slice_get}
 use Rattle.bg_ast.specs.Values.{Ty, IntTy, BoolTy, UserTy, MapTy}
 use Rattle.bg_ast.specs.Syntax.{Global, Local, Op, And, Or, Implies, Iff, Equal, Unequal, Less, AtMost, Greater, AtLeast, Plus, Minus, Times, Ex, Number, Fact, Constant, Read, Not, Negative, Binary, Apply, Select, Update, Old}
@@ -10,9 +10,9 @@ use Rattle.bg_linear.specs.declared.scalar.Kind.{Kind}
 use Rattle.bg_linear.specs.declared.scalar.Kind.TheVariants as kind
 use Rattle.bg_linear.specs.Sorts.{kind_at, is_truth, is_number, number_only, truth_if, both_truths, related_kind, equal_kind, sum_kind, product_kind, kind_by, kind_ex}
 use Rattle.bg_sorts.specs.Sorts.{sort_of_type}
-use Rattle.bg_faithful.proofs.Scalars.{AreScalars}
+use Rattle.bg_faithful.proofs.Scalars.{AreBasic}
 
--- the kind of what has this type, which is one of a scalar
+-- the kind of what has this type, which is `int` or `bool`
 abbrev pub HasKind : Ty → Option Kind → Type 0
 HasKind BoolTy k = k ≡ Some kind.Truth
 HasKind IntTy k = is_number k ≡ true
@@ -99,14 +99,14 @@ constant_kind sorts (Old e) h = absurd h
 typed_kind : (t u : Ty) (k : Option Kind) → t ≡ u → HasKind u k → HasKind t k
 typed_kind t u k e h = subst (λ x. HasKind x k) (sym e) h
 
-kind_read : (incs : List Ty) (j : ℕ) (t : Ty) → AreScalars incs → slice_get incs j ≡ Some t → HasKind t (kind_at (slice_get (map sort_of_type incs) j))
+kind_read : (incs : List Ty) (j : ℕ) (t : Ty) → AreBasic incs → slice_get incs j ≡ Some t → HasKind t (kind_at (slice_get (map sort_of_type incs) j))
 kind_read [] j t h e = absurd (let bad : ⊥ = cc in bad)
 kind_read (BoolTy ∷ incs) zero t h e =
     let same : t ≡ BoolTy = cc in typed_kind t BoolTy (Some kind.Truth) same refl
 kind_read (IntTy ∷ incs) zero t h e =
     let same : t ≡ IntTy = cc in typed_kind t IntTy (Some kind.Number) same refl
-kind_read (UserTy u ∷ incs) zero t h e = absurd (let bad : false ≡ true = h.0 in let no : ⊥ = cc in no)
-kind_read (MapTy ks u ∷ incs) zero t h e = absurd (let bad : false ≡ true = h.0 in let no : ⊥ = cc in no)
+kind_read (UserTy u ∷ incs) zero t h e = absurd h.0
+kind_read (MapTy ks u ∷ incs) zero t h e = absurd h.0
 kind_read (x ∷ incs) (suc j) t h e = kind_read incs j t h.1 e
 
 -- a sign between expressions, of which these are the kinds
@@ -137,7 +137,7 @@ constant_side sorts op a b h e = on (subst (λ o. HasConstantSide o a b) e h)
     on (inl c) = inl (constant_kind sorts a c)
     on (inr c) = inr (constant_kind sorts b c)
 
-module _ (incs : List Ty) (scalar : AreScalars incs) where
+module _ (incs : List Ty) (scalar : AreBasic incs) where
   abbrev sorts : List Sort
   sorts = map sort_of_type incs
 

@@ -2,7 +2,7 @@
 use Rattle.std.proofs.Common.{◌≡◌, ℕ, zero, suc, Bool, true, List, [], ◌∷◌, ◌++◌, map, Option, Some, refl, subst}
 use Rattle.std.specs.Prelude.{slice_get}
 use Rattle.std.specs.List.{list_all}
-use Rattle.bg_ast.specs.Values.{Ty}
+use Rattle.bg_ast.specs.Values.{Ty, IntTy, BoolTy, UserTy, MapTy}
 use Rattle.bg_ast.specs.Syntax.{Var, Global, Local, Clause, Decl, Proc, Prog}
 use Rattle.bg_sense.specs.Types.{types_of}
 use Rattle.bg_sense.specs.Variables.{type_in}
@@ -16,6 +16,17 @@ IsScalar t = is_scalar_type true t ≡ true
 abbrev pub AreScalars : List Ty → Type 0
 AreScalars [] = Unit {0}
 AreScalars (t ∷ ts) = IsScalar t × AreScalars ts
+
+-- `int` or `bool`
+abbrev pub IsBasic : Ty → Type 0
+IsBasic IntTy = Unit {0}
+IsBasic BoolTy = Unit {0}
+IsBasic (UserTy u) = ⊥
+IsBasic (MapTy ks t) = ⊥
+
+abbrev pub AreBasic : List Ty → Type 0
+AreBasic [] = Unit {0}
+AreBasic (t ∷ ts) = IsBasic t × AreBasic ts
 
 pub scalars_append : (ts us : List Ty) → AreScalars ts → AreScalars us → AreScalars (ts ++ us)
 scalars_append [] us h k = k

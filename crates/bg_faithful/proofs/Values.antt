@@ -1,11 +1,11 @@
--- Typed values of scalars are numbers and truth values, and such values are typed.
-use Rattle.std.proofs.Common.{◌≡◌, ℕ, ℤ, suc, Bool, true, false, List, [], ◌∷◌, map, refl, ap}
+-- Typed values of `int` and `bool` are numbers and truth values, and such values are typed.
+use Rattle.std.proofs.Common.{◌≡◌, ℕ, ℤ, suc, Bool, true, List, [], ◌∷◌, map, refl, ap}
 use Rattle.bg_ast.specs.Values.{Ty, IntTy, BoolTy, UserTy, MapTy, Val, Num, Truth, Element, Default, Entry, number_of, truth_of}
 use Rattle.bg_sense.specs.Types.{are_of}
 use Rattle.bg_sense.specs.Eval.{value_at}
 use Rattle.bg_linear.specs.Sorts.{scalar_values}
 use Rattle.bg_sorts.specs.Sorts.{sort_of_type}
-use Rattle.bg_faithful.proofs.Scalars.{AreScalars}
+use Rattle.bg_faithful.proofs.Scalars.{AreBasic}
 
 -- the numbers and the truth values at the places of a list
 abbrev pub numbers_of : List Val → ℕ → ℤ
@@ -14,7 +14,7 @@ numbers_of vs j = number_of (value_at vs j)
 abbrev pub truths_of : List Val → ℕ → Bool
 truths_of vs j = truth_of (value_at vs j)
 
-pub values_read : (ts : List Ty) (vs : List Val) → AreScalars ts → are_of ts vs ≡ true → vs ≡ scalar_values (numbers_of vs) (truths_of vs) (map sort_of_type ts)
+pub values_read : (ts : List Ty) (vs : List Val) → AreBasic ts → are_of ts vs ≡ true → vs ≡ scalar_values (numbers_of vs) (truths_of vs) (map sort_of_type ts)
 values_read [] [] h e = refl
 values_read [] (v ∷ vs) h e = absurd (let bad : ⊥ = cc in bad)
 values_read (t ∷ ts) [] h e = absurd (let bad : ⊥ = cc in bad)
@@ -28,12 +28,12 @@ values_read (IntTy ∷ ts) (Truth b ∷ vs) h e = absurd (let bad : ⊥ = cc in 
 values_read (IntTy ∷ ts) (Element u z ∷ vs) h e = absurd (let bad : ⊥ = cc in bad)
 values_read (IntTy ∷ ts) (Default d ∷ vs) h e = absurd (let bad : ⊥ = cc in bad)
 values_read (IntTy ∷ ts) (Entry k v w ∷ vs) h e = absurd (let bad : ⊥ = cc in bad)
-values_read (UserTy u ∷ ts) (v ∷ vs) h e = absurd (let no : false ≡ true = h.0 in let bad : ⊥ = cc in bad)
-values_read (MapTy ks u ∷ ts) (v ∷ vs) h e = absurd (let no : false ≡ true = h.0 in let bad : ⊥ = cc in bad)
+values_read (UserTy u ∷ ts) (v ∷ vs) h e = absurd h.0
+values_read (MapTy ks u ∷ ts) (v ∷ vs) h e = absurd h.0
 
-pub values_typed : (ts : List Ty) (numbers : ℕ → ℤ) (truths : ℕ → Bool) → AreScalars ts → are_of ts (scalar_values numbers truths (map sort_of_type ts)) ≡ true
+pub values_typed : (ts : List Ty) (numbers : ℕ → ℤ) (truths : ℕ → Bool) → AreBasic ts → are_of ts (scalar_values numbers truths (map sort_of_type ts)) ≡ true
 values_typed [] numbers truths h = refl
 values_typed (BoolTy ∷ ts) numbers truths h = values_typed ts (λ j. numbers (suc j)) (λ j. truths (suc j)) h.1
 values_typed (IntTy ∷ ts) numbers truths h = values_typed ts (λ j. numbers (suc j)) (λ j. truths (suc j)) h.1
-values_typed (UserTy u ∷ ts) numbers truths h = absurd (let no : false ≡ true = h.0 in let bad : ⊥ = cc in bad)
-values_typed (MapTy ks u ∷ ts) numbers truths h = absurd (let no : false ≡ true = h.0 in let bad : ⊥ = cc in bad)
+values_typed (UserTy u ∷ ts) numbers truths h = absurd h.0
+values_typed (MapTy ks u ∷ ts) numbers truths h = absurd h.0

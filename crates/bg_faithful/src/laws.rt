@@ -1,4 +1,4 @@
-//! Laws of implementations over truth values and whole numbers, which are proved of the definitions alone.
+//! Laws of implementations over scalars, which are proved of the definitions alone.
 ghost use Rattle.std.specs.Prelude.{◌≡◌, ℕ, true, List, [], Some, Ok, slice_get, IsTrue};
 ghost use Rattle.bg_ast.specs.Syntax.{Prog, Impl, Proc};
 ghost use Rattle.bg_ast.specs.Values.{Val};
@@ -45,7 +45,7 @@ pub fn typed_values_begin_with_a_state()
         (values : List Val) → are_of (incarnations_in p k m q) values ≡ true → IsState p k (first_state p (frame_decls m q) values) }
 {}
 
-/// An interpretation without constants that has a typed table for each function meets a program over truth values and whole numbers.
+/// An interpretation without constants that has a typed table for each function meets a program over scalars.
 pub fn tables_meet_programs_over_scalars()
     ensures { (p : Prog) (i : Interp) → is_over_scalars true p ≡ true → i.constants ≡ [] → IsTrue (are_tables p.functions i.tables) → Meets p i }
 {}

@@ -13,7 +13,7 @@ use Rattle.bg_read_off.specs.Leaves.{AreCongruent}
 use Rattle.bg_term_table.specs.declared.instance.Instance as code
 use Rattle.bg_term_table.specs.Instances.{instance_of, instances_of}
 use Rattle.bg_scalar.specs.declared.scalar.Scalar.{Scalar}
-use Rattle.bg_scalar.specs.declared.scalar.Scalar.TheVariants.{Truth, Number}
+use Rattle.bg_scalar.specs.declared.scalar.Scalar.TheVariants.{Truth, Number, Element}
 use Rattle.bg_scalar.specs.Values.{val_of}
 use Rattle.bg_finish.specs.Finished.{Each, IsFalse}
 use Rattle.bg_finish.specs.Rows.{RowOf, IsRow, AreRows}
@@ -23,8 +23,14 @@ use Rattle.bg_finish.proofs.Rowed.{its_row, its_term, args_worth, own_value}
 val_known : (y z : Scalar) → val_of y ≡ val_of z → y ≡ z
 val_known (Truth a) (Truth c) e = let q : a ≡ c = cc in ap (λ u. Truth u) q
 val_known (Truth a) (Number c) e = absurd (let bad : ⊥ = cc in bad)
+val_known (Truth a) (Element u c) e = absurd (let bad : ⊥ = cc in bad)
 val_known (Number a) (Truth c) e = absurd (let bad : ⊥ = cc in bad)
 val_known (Number a) (Number c) e = let q : a ≡ c = cc in ap (λ u. Number u) q
+val_known (Number a) (Element u c) e = absurd (let bad : ⊥ = cc in bad)
+val_known (Element t a) (Truth c) e = absurd (let bad : ⊥ = cc in bad)
+val_known (Element t a) (Number c) e = absurd (let bad : ⊥ = cc in bad)
+val_known (Element t a) (Element u c) e =
+    let q : t ≡ u = cc in let r : a ≡ c = cc in ap (λ k. Element k a) q ∙ ap (λ z. Element u z) r
 
 pub vals_known : (xs ys : List Scalar) → map val_of xs ≡ map val_of ys → xs ≡ ys
 vals_known [] [] e = refl

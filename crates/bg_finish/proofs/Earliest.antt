@@ -13,7 +13,7 @@ use Rattle.bg_sense.proofs.MapLaws.{val_same}
 use Rattle.bg_term_table.specs.declared.instance.Instance.{Instance}
 use Rattle.bg_term_table.specs.declared.instance.Instance.TheVariants.{Congruent}
 use Rattle.bg_scalar.specs.declared.scalar.Scalar.{Scalar}
-use Rattle.bg_scalar.specs.declared.scalar.Scalar.TheVariants.{Truth, Number}
+use Rattle.bg_scalar.specs.declared.scalar.Scalar.TheVariants.{Truth, Number, Element}
 use Rattle.bg_scalar.specs.Values.{val_of}
 use Rattle.bg_finish.specs.Finished.{Each}
 use Rattle.bg_finish.specs.Rows.{RowOf}
@@ -21,19 +21,26 @@ use Rattle.bg_finish.specs.Firsts.{KeyOf, scalar_cmp, args_cmp, key_cmp, key_of,
 
 -- ---- keys that compare equal are equal
 
-scalar_exact : (x y : Scalar) → scalar_cmp x y ≡ Equal → x ≡ y
-scalar_exact (Number a) (Number b) h = ap (λ z. Number z) (exact_signed a b h)
-scalar_exact (Number a) (Truth b) h = absurd (let bad : ⊥ = cc in bad)
-scalar_exact (Truth a) (Number b) h = absurd (let bad : ⊥ = cc in bad)
-scalar_exact (Truth true) (Truth true) h = refl
-scalar_exact (Truth false) (Truth false) h = refl
-scalar_exact (Truth true) (Truth false) h = absurd (let bad : ⊥ = cc in bad)
-scalar_exact (Truth false) (Truth true) h = absurd (let bad : ⊥ = cc in bad)
-
 first_equal : (o p : Ordering) → ordering_then o p ≡ Equal → (o ≡ Equal) × (p ≡ Equal)
 first_equal Less p h = absurd (let bad : ⊥ = cc in bad)
 first_equal Equal p h = (refl, h)
 first_equal Greater p h = absurd (let bad : ⊥ = cc in bad)
+
+scalar_exact : (x y : Scalar) → scalar_cmp x y ≡ Equal → x ≡ y
+scalar_exact (Number a) (Number b) h = ap (λ z. Number z) (exact_signed a b h)
+scalar_exact (Number a) (Truth b) h = absurd (let bad : ⊥ = cc in bad)
+scalar_exact (Number a) (Element u b) h = absurd (let bad : ⊥ = cc in bad)
+scalar_exact (Truth a) (Number b) h = absurd (let bad : ⊥ = cc in bad)
+scalar_exact (Truth a) (Element u b) h = absurd (let bad : ⊥ = cc in bad)
+scalar_exact (Element t a) (Number b) h = absurd (let bad : ⊥ = cc in bad)
+scalar_exact (Element t a) (Truth b) h = absurd (let bad : ⊥ = cc in bad)
+scalar_exact (Element t a) (Element u b) h =
+    let e = first_equal (nat_cmp t u) (int_cmp a b) h in
+    ap (λ k. Element k a) (exact_unsigned t u e.0) ∙ ap (λ z. Element u z) (exact_signed a b e.1)
+scalar_exact (Truth true) (Truth true) h = refl
+scalar_exact (Truth false) (Truth false) h = refl
+scalar_exact (Truth true) (Truth false) h = absurd (let bad : ⊥ = cc in bad)
+scalar_exact (Truth false) (Truth true) h = absurd (let bad : ⊥ = cc in bad)
 
 equal_is : (o : Ordering) → is_eq o ≡ true → o ≡ Equal
 equal_is Less h = absurd (let bad : ⊥ = cc in bad)
@@ -58,7 +65,7 @@ reversed Less h = absurd (let bad : ⊥ = cc in bad)
 reversed Equal h = refl
 reversed Greater h = absurd (let bad : ⊥ = cc in bad)
 
-nat_same : (m : ℕ) → nat_cmp m m ≡ Equal
+pub nat_same : (m : ℕ) → nat_cmp m m ≡ Equal
 nat_same m = reversed (nat_cmp m m) (nat_cmp_total.antisymm m m)
 
 int_same : (z : ℤ) → int_cmp z z ≡ Equal
@@ -66,6 +73,7 @@ int_same z = reversed (int_cmp z z) (int_cmp_total.antisymm z z)
 
 scalar_equal : (x : Scalar) → scalar_cmp x x ≡ Equal
 scalar_equal (Number a) = int_same a
+scalar_equal (Element t a) = ap (λ o. ordering_then o (int_cmp a a)) (nat_same t) ∙ int_same a
 scalar_equal (Truth true) = refl
 scalar_equal (Truth false) = refl
 
@@ -250,8 +258,14 @@ module _ (m : BTreeMap (ℕ × Vec Scalar Global) (ℕ × Scalar)) (es : List In
       val_known : (y z : Scalar) → val_of y ≡ val_of z → y ≡ z
       val_known (Truth a) (Truth c) e = let q : a ≡ c = cc in ap (λ u. Truth u) q
       val_known (Truth a) (Number c) e = absurd (let bad : ⊥ = cc in bad)
+      val_known (Truth a) (Element u c) e = absurd (let bad : ⊥ = cc in bad)
       val_known (Number a) (Truth c) e = absurd (let bad : ⊥ = cc in bad)
       val_known (Number a) (Number c) e = let q : a ≡ c = cc in ap (λ u. Number u) q
+      val_known (Number a) (Element u c) e = absurd (let bad : ⊥ = cc in bad)
+      val_known (Element t a) (Truth c) e = absurd (let bad : ⊥ = cc in bad)
+      val_known (Element t a) (Number c) e = absurd (let bad : ⊥ = cc in bad)
+      val_known (Element t a) (Element u c) e =
+          let q : t ≡ u = cc in let w : a ≡ c = cc in ap (λ k. Element k a) q ∙ ap (λ z. Element u z) w
 
       on : Found (at.0, at.1.items) 0 rs p x → (c : Bool) → val_eq (val_of x) (val_of r.value) ≡ c → AreApart (rs ++ r ∷ []) (if c then es else es ++ Congruent p b ∷ [])
       on f true h =

@@ -1,11 +1,12 @@
 -- One entry more in a table.
-use Rattle.std.proofs.Common.{◌≡◌, ℤ, Bool, true, false, cond, List, [], ◌∷◌, map, refl, sym, ap, ◌∙◌, subst}
-use Rattle.std.specs.Prelude.{if◌then◌else◌, not, ◌&&◌, int_lt}
+use Rattle.std.proofs.Common.{◌≡◌, arith, ℕ, ℤ, Bool, true, false, cond, List, [], ◌∷◌, map, refl, sym, ap, ◌∙◌, subst}
+use Rattle.std.specs.Prelude.{if◌then◌else◌, not, ◌&&◌, ◌==◌, int_lt}
 use Rattle.std.specs.declared.cmp.Ordering.{Ordering}
 use Rattle.std.specs.declared.cmp.Ordering.TheVariants.{Less, Equal, Greater}
-use Rattle.std.specs.Ordering.{ordering_reverse, int_cmp, ordering_then, match_ordering}
-use Rattle.std.proofs.lemmas.Cmp.{int_cmp_total}
-use Rattle.bg_ast.specs.Values.{Val, Ty, IntTy, BoolTy, UserTy, MapTy, is_of, is_int, is_bool, val_eq}
+use Rattle.std.specs.Ordering.{ordering_reverse, nat_cmp, int_cmp, ordering_then, match_ordering}
+use Rattle.std.proofs.lemmas.Cmp.{nat_cmp_total, int_cmp_total}
+use Rattle.std.proofs.lemmas.Bool.Decides.{nat_tests}
+use Rattle.bg_ast.specs.Values.{Val, Ty, IntTy, BoolTy, UserTy, MapTy, is_of, is_int, is_bool, is_user, val_eq}
 use Rattle.bg_ast.specs.Syntax.{Fun}
 use Rattle.bg_sense.specs.Eval.{vals_eq, entry_for}
 use Rattle.bg_sense.specs.Tables.{val_lt, vals_lt, is_before, are_entries}
@@ -14,11 +15,11 @@ use Rattle.bg_sense.proofs.Bools.{and_left, and_right, both}
 use Rattle.bg_sense.proofs.MapLaws.{val_eq_refl}
 use Rattle.bg_sense.proofs.Order.{vals_same}
 use Rattle.bg_scalar.specs.declared.scalar.Scalar.{Scalar}
-use Rattle.bg_scalar.specs.declared.scalar.Scalar.TheVariants.{Truth, Number}
+use Rattle.bg_scalar.specs.declared.scalar.Scalar.TheVariants.{Truth, Number, Element}
 use Rattle.bg_scalar.specs.Values.{val_of, entry_of}
 use Rattle.bg_finish.specs.Firsts.{scalar_cmp, args_cmp}
 use Rattle.bg_finish.specs.Filled.{with_entry}
-use Rattle.bg_finish.proofs.Earliest.{args_exact, args_equal}
+use Rattle.bg_finish.proofs.Earliest.{args_exact, args_equal, nat_same}
 use Rattle.bg_finish.proofs.Congruences.{vals_known}
 
 abbrev pub Entries : Type 0
@@ -67,7 +68,15 @@ then_reversed Greater p = refl
 scalar_turned : (x y : Scalar) → scalar_cmp x y ≡ ordering_reverse (scalar_cmp y x)
 scalar_turned (Number a) (Number b) = int_cmp_total.antisymm a b
 scalar_turned (Number a) (Truth b) = refl
+scalar_turned (Number a) (Element u b) = refl
 scalar_turned (Truth a) (Number b) = refl
+scalar_turned (Truth a) (Element u b) = refl
+scalar_turned (Element t a) (Number b) = refl
+scalar_turned (Element t a) (Truth b) = refl
+scalar_turned (Element t a) (Element u b) =
+    ap (λ o. ordering_then o (int_cmp a b)) (nat_cmp_total.antisymm t u)
+    ∙ ap (ordering_then (ordering_reverse (nat_cmp u t))) (int_cmp_total.antisymm a b)
+    ∙ then_reversed (nat_cmp u t) (int_cmp b a)
 scalar_turned (Truth true) (Truth true) = refl
 scalar_turned (Truth true) (Truth false) = refl
 scalar_turned (Truth false) (Truth true) = refl
@@ -139,10 +148,48 @@ not_both BoolTy h k = let bad : ⊥ = cc in bad
 not_both (UserTy u) h k = let bad : ⊥ = cc in bad
 not_both (MapTy ks t) h k = let bad : ⊥ = cc in bad
 
+-- a type that has elements has neither
+no_truths : (t : Ty) (u : ℕ) → is_user t u ≡ true → is_bool t ≡ true → ⊥
+no_truths IntTy u h k = let bad : ⊥ = cc in bad
+no_truths BoolTy u h k = let bad : ⊥ = cc in bad
+no_truths (UserTy n) u h k = let bad : ⊥ = cc in bad
+no_truths (MapTy ks t) u h k = let bad : ⊥ = cc in bad
+
+no_numbers : (t : Ty) (u : ℕ) → is_user t u ≡ true → is_int t ≡ true → ⊥
+no_numbers IntTy u h k = let bad : ⊥ = cc in bad
+no_numbers BoolTy u h k = let bad : ⊥ = cc in bad
+no_numbers (UserTy n) u h k = let bad : ⊥ = cc in bad
+no_numbers (MapTy ks t) u h k = let bad : ⊥ = cc in bad
+
+one_number : (n u v : ℕ) → (n == u) ≡ true → (n == v) ≡ true → u ≡ v
+one_number n u v h k = grind (arith, nat_tests)
+
+-- elements of one type have its number
+one_type : (t : Ty) (u v : ℕ) → is_user t u ≡ true → is_user t v ≡ true → u ≡ v
+one_type IntTy u v h k = absurd (let bad : ⊥ = cc in bad)
+one_type BoolTy u v h k = absurd (let bad : ⊥ = cc in bad)
+one_type (UserTy n) u v h k = one_number n u v h k
+one_type (MapTy ks t) u v h k = absurd (let bad : ⊥ = cc in bad)
+
+number_self : (n : ℕ) → (n == n) ≡ true
+number_self n = grind (arith, nat_tests)
+
+-- the numbers of types are alike: the order is that of the elements
+by_numbers : (u v : ℕ) (a b : ℤ) → u ≡ v → ordering_then (nat_cmp u v) (int_cmp a b) ≡ Less → (u == v && int_lt a b) ≡ true
+by_numbers u v a b same q =
+    both (u == v) (int_lt a b) (ap (λ w. u == w) (sym same) ∙ number_self u)
+    (int_less a b
+    (ap (λ o. ordering_then o (int_cmp a b)) (sym (ap (nat_cmp u) (sym same) ∙ nat_same u)) ∙ q))
+
 scalar_less : (t : Ty) (x y : Scalar) → is_of t (val_of x) ≡ true → is_of t (val_of y) ≡ true → scalar_cmp x y ≡ Less → val_lt (val_of x) (val_of y) ≡ true
 scalar_less t (Number a) (Number b) h k q = int_less a b q
 scalar_less t (Number a) (Truth b) h k q = absurd (not_both t k h)
+scalar_less t (Number a) (Element v b) h k q = absurd (no_numbers t v k h)
 scalar_less t (Truth a) (Number b) h k q = absurd (not_both t h k)
+scalar_less t (Truth a) (Element v b) h k q = absurd (no_truths t v k h)
+scalar_less t (Element u a) (Number b) h k q = absurd (no_numbers t u h k)
+scalar_less t (Element u a) (Truth b) h k q = absurd (no_truths t u h k)
+scalar_less t (Element u a) (Element v b) h k q = by_numbers u v a b (one_type t u v h k) q
 scalar_less t (Truth false) (Truth true) h k q = refl
 scalar_less t (Truth false) (Truth false) h k q = absurd (let bad : ⊥ = cc in bad)
 scalar_less t (Truth true) (Truth true) h k q = absurd (let bad : ⊥ = cc in bad)

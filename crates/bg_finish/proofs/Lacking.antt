@@ -4,15 +4,12 @@ use Rattle.std.specs.Prelude.{slice_get}
 use Rattle.bg_ast.specs.Values.{Ty, IntTy, BoolTy, MapTy, is_of}
 use Rattle.bg_ast.specs.Syntax.{Ex, Exs, Number, Fact, Constant, Read, Local, Global, Not, Negative, Binary, And, Or, Implies, Iff, Equal, Unequal, Less, AtMost, Greater, AtLeast, Plus, Minus, Times, Apply, Select, Update, Old, NoMore, More, Fun, Op}
 use Rattle.bg_sense.specs.Types.{are_of}
-use Rattle.bg_sense.specs.Typing.{Sig, HaveTypes, OpHasType, key_ty}
-use Rattle.bg_sense.proofs.Bools.{and_left, and_right, both}
+use Rattle.bg_sense.specs.Typing.{Sig, HasType, HaveTypes, OpHasType, key_ty}
+use Rattle.bg_sense.proofs.Bools.{and_right, both}
 use Rattle.bg_terms.specs.Terms.{Head, Applies, Selects, Updates, Differs, Term}
-use Rattle.bg_terms.specs.Alike.{HasFlatType, scalar_ty}
+use Rattle.bg_terms.specs.Alike.{HasFlatType}
 use Rattle.bg_terms.specs.Typed.{HaveFlatTypes, HeadHasType, type_of, types_with, sig_with}
-use Rattle.bg_terms.proofs.Linear.{over_scalars}
 use Rattle.bg_terms.proofs.Typed.{at_back, at_map}
-use Rattle.bg_read_off.specs.Leaves as leaves
-use Rattle.bg_read_off.proofs.Finished.{its_own_type}
 use Rattle.bg_scalar.specs.declared.scalar.Scalar.{Scalar}
 use Rattle.bg_scalar.specs.Worths.{NoScalars, worths}
 use Rattle.bg_scalar.specs.Values.{val_of}
@@ -55,17 +52,49 @@ module _ (tys : List Ty) where
   flat_scalar (Old x) t h = absurd h
 
   abbrev here : Sig
-  here = sig_with [] [] (map scalar_ty tys)
+  here = sig_with [] [] tys
+
+  -- and have their types over values of these types
+
+  op_typed : (o : Op) (A B C D : Ty → Type 0) (t : Ty) → ((u : Ty) → A u → C u) → ((u : Ty) → B u → D u) → OpHasType o A B t → OpHasType o C D t
+  op_typed And A B C D t f g h = (h.0, f BoolTy h.1, g BoolTy h.2)
+  op_typed Or A B C D t f g h = (h.0, f BoolTy h.1, g BoolTy h.2)
+  op_typed Implies A B C D t f g h = (h.0, f BoolTy h.1, g BoolTy h.2)
+  op_typed Iff A B C D t f g h = (h.0, f BoolTy h.1, g BoolTy h.2)
+  op_typed Equal A B C D t f g h = (h.0, (h.1.0, f h.1.0 h.1.1, g h.1.0 h.1.2))
+  op_typed Unequal A B C D t f g h = (h.0, (h.1.0, f h.1.0 h.1.1, g h.1.0 h.1.2))
+  op_typed Less A B C D t f g h = (h.0, f IntTy h.1, g IntTy h.2)
+  op_typed AtMost A B C D t f g h = (h.0, f IntTy h.1, g IntTy h.2)
+  op_typed Greater A B C D t f g h = (h.0, f IntTy h.1, g IntTy h.2)
+  op_typed AtLeast A B C D t f g h = (h.0, f IntTy h.1, g IntTy h.2)
+  op_typed Plus A B C D t f g h = (h.0, f IntTy h.1, g IntTy h.2)
+  op_typed Minus A B C D t f g h = (h.0, f IntTy h.1, g IntTy h.2)
+  op_typed Times A B C D t f g h = (h.0, f IntTy h.1, g IntTy h.2)
+
+  flat_typed : (x : Ex) (t : Ty) → HasFlatType tys x t → HasType x here t
+  flat_typed (Number z) t h = h
+  flat_typed (Fact b) t h = h
+  flat_typed (Constant k) t h = absurd h
+  flat_typed (Read (Local j)) t h = h
+  flat_typed (Read (Global j)) t h = absurd h
+  flat_typed (Not x) t h = (h.0, flat_typed x BoolTy h.1)
+  flat_typed (Negative x) t h = (h.0, flat_typed x IntTy h.1)
+  flat_typed (Binary o a b) t h =
+      op_typed o (HasFlatType tys a) (HasFlatType tys b) (HasType a here) (HasType b here) t (flat_typed a) (flat_typed b) h
+  flat_typed (Apply f es) t h = absurd h
+  flat_typed (Select m es) t h = absurd h
+  flat_typed (Update m es e) t h = absurd h
+  flat_typed (Old x) t h = absurd h
 
   flats_scalar : (xs : Exs) (ps : List Ty) → HaveFlatTypes tys xs ps → are_scalar xs ≡ true
   flats_scalar NoMore ps h = refl
   flats_scalar (More x xs) [] h = absurd h
   flats_scalar (More x xs) (p ∷ ps) h = both (is_scalar x) (are_scalar xs) (flat_scalar x p h.0) (flats_scalar xs ps h.1)
 
-  flats_typed : (xs : Exs) (ps : List Ty) → HaveFlatTypes tys xs ps → HaveTypes xs here (map scalar_ty ps)
-  flats_typed NoMore ps h = ap (map scalar_ty) h
+  flats_typed : (xs : Exs) (ps : List Ty) → HaveFlatTypes tys xs ps → HaveTypes xs here ps
+  flats_typed NoMore ps h = h
   flats_typed (More x xs) [] h = absurd h
-  flats_typed (More x xs) (p ∷ ps) h = (over_scalars tys x p h.0, flats_typed xs ps h.1)
+  flats_typed (More x xs) (p ∷ ps) h = (flat_typed x p h.0, flats_typed xs ps h.1)
 
 -- arguments of a typed term have types
 args_types : (fs : List Fun) (tys : List Ty) (h : Head) (xs : Exs) (t : Ty) → HeadHasType fs tys h xs t → (ps : List Ty) × HaveFlatTypes tys xs ps
@@ -73,11 +102,6 @@ args_types fs tys (Applies f) xs t h = (h.0.params, h.1.1.1)
 args_types fs tys (Selects ks u) xs t h = (MapTy ks u ∷ map key_ty ks, h.1)
 args_types fs tys (Updates ks u) xs t h = (MapTy ks u ∷ u ∷ map key_ty ks, h.1)
 args_types fs tys (Differs ks u j) xs t h = (MapTy ks u ∷ MapTy ks u ∷ [], h.1.1.1)
-
-same_types : (tys : List Ty) → leaves.are_scalar tys ≡ true → map scalar_ty tys ≡ tys
-same_types [] h = refl
-same_types (t ∷ tys) h =
-    ap (λ u. u ∷ map scalar_ty tys) (its_own_type t (and_left _ (leaves.are_scalar tys) h)) ∙ ap (λ l. t ∷ l) (same_types tys (and_right _ (leaves.are_scalar tys) h))
 
 value_missing : (tys : List Ty) (values : List Scalar) (j : ℕ) (t : Ty) → are_of tys (map val_of values) ≡ true → slice_get tys j ≡ Some t → slice_get values j ≡ None → ⊥
 value_missing [] values j t h e f = let bad : ⊥ = cc in bad
@@ -97,16 +121,10 @@ nothing_lacks fs incs ts values ds n count leaf l = ⊎_elim no_scalar missing l
     missing e =
         value_missing (types_with incs ts) values (n + l.number) l.term.ty leaf.values (at_back incs (map type_of ts) l.number n (sym count) ∙ at_map type_of ts l.number l.term l.is_there) (drop_missing values n l.number e)
 
-    sees : Sees (sig_with [] [] (map scalar_ty (types_with incs ts))) (seen_at values)
-    sees =
-        record {
-          tables = refl;
-          globals = refl;
-          before = refl;
-          frame = ap (λ us. are_of us (map val_of values)) (same_types (types_with incs ts) leaf.scalar) ∙ leaf.values;
-        }
+    sees : Sees (sig_with [] [] (types_with incs ts)) (seen_at values)
+    sees = record { tables = refl; globals = refl; before = refl; frame = leaf.values }
 
     no_scalar : worths l.term.args (seen_at values) ≡ NoScalars → ⊥
     no_scalar e =
         let p = args_types fs (types_with incs ts) l.term.head l.term.args l.term.ty (leaf.terms l.number l.term l.is_there) in
-        subst (HaveWorths (map scalar_ty p.0)) e (have_worths l.term.args (seen_at values) (sig_with [] [] (map scalar_ty (types_with incs ts))) (map scalar_ty p.0) (flats_scalar (types_with incs ts) l.term.args p.0 p.1) (flats_typed (types_with incs ts) l.term.args p.0 p.1) sees)
+        subst (HaveWorths p.0) e (have_worths l.term.args (seen_at values) (sig_with [] [] (types_with incs ts)) p.0 (flats_scalar (types_with incs ts) l.term.args p.0 p.1) (flats_typed (types_with incs ts) l.term.args p.0 p.1) sees)

@@ -1,4 +1,4 @@
--- What a leaf comes to, whose terms are applications of functions on truth values and whole numbers.
+-- What a leaf comes to, whose terms are applications of functions on truth values, whole numbers and elements of user types.
 use Rattle.std.specs.Prelude.{◌≡◌, ℕ, ◌<◌, true, false, List, [], ◌∷◌, length, map, Some, slice_get, IsTrue}
 use Rattle.bg_base.specs.declared.exact.OutOfRange.{OutOfRange}
 use Rattle.bg_ast.specs.Values as v
@@ -13,7 +13,7 @@ use Rattle.bg_terms.specs.Flat.{HaveNoBodies}
 use Rattle.bg_terms.specs.Typed.{TermsTyped, types_with}
 use Rattle.bg_terms.specs.Tables.{IsReadOff}
 use Rattle.bg_terms.specs.Instances.{Instance, instance_ex}
-use Rattle.bg_read_off.specs.Leaves.{are_scalar, AreCongruent, silent}
+use Rattle.bg_read_off.specs.Leaves.{AreCongruent, silent}
 use Rattle.bg_term_table.specs.Instances.{instances_of}
 use Rattle.bg_scalar.specs.declared.scalar.Scalar.{Scalar}
 use Rattle.bg_scalar.specs.Worths.{Seen, Are, Leave, worths}
@@ -26,12 +26,11 @@ use Rattle.bg_finish.specs.declared.kind.Finish.TheVariants as come
 abbrev pub default_of : Fun → Val
 default_of f = default_for f.result
 
--- terms of functions without a body are typed, they and the incarnations are truth values and whole numbers and have values of their
--- types, and these are the defaults of the functions
+-- terms of functions without a body are typed, they and the incarnations have values of their types, and these are the defaults of the
+-- functions
 pub record IsScalarLeaf (fs : List Fun) (incs : List Ty) (ts : List Term) (s given : List Val) : Type 0 where
   pub bodiless : HaveNoBodies fs
   pub terms : TermsTyped fs incs ts
-  pub scalar : are_scalar (types_with incs ts) ≡ true
   pub values : are_of (types_with incs ts) s ≡ true
   pub defaults : given ≡ map default_of fs
 

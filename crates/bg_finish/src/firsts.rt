@@ -32,10 +32,17 @@ pub fn is_same(x: Scalar, y: Scalar) -> bool
         Scalar::Truth(a) => match y {
             Scalar::Truth(b) => a == b,
             Scalar::Number(_) => false,
+            Scalar::Element(_, _) => false,
         },
         Scalar::Number(a) => match y {
             Scalar::Truth(_) => false,
             Scalar::Number(b) => a == b,
+            Scalar::Element(_, _) => false,
+        },
+        Scalar::Element(t, a) => match y {
+            Scalar::Truth(_) => false,
+            Scalar::Number(_) => false,
+            Scalar::Element(u, b) => t == u && a == b,
         },
     }
 }

@@ -1,4 +1,4 @@
-//! Leaves over functions on truth values and whole numbers: tables of the functions, or congruences that are false.
+//! Leaves over functions on truth values, whole numbers and elements: tables of the functions, or congruences that are false.
 #![tactic(auto)]
 
 mod firsts;

@@ -1,4 +1,4 @@
--- No function of a program over truth values and whole numbers has a body.
+-- No function of a program over truth values, whole numbers and elements has a body.
 use Rattle.std.proofs.Common.{◌≡◌, ℕ, zero, suc, Bool, true, false, List, [], ◌∷◌, Option, Some, None, refl}
 use Rattle.std.specs.Prelude.{◌&&◌, not, slice_get}
 use Rattle.std.specs.List.{list_all}

@@ -13,7 +13,7 @@ use Rattle.bg_ast.proofs.Lists.{type_of-Map}
 use Rattle.bg_fits.specs.Scalars.{is_empty}
 use Rattle.bg_fits.specs.Holdings.{holding_of}
 use Rattle.bg_fits.specs.declared.types.Holding.{Holding}
-use Rattle.bg_fits.specs.declared.types.Holding.TheVariants.{Others}
+use Rattle.bg_fits.specs.declared.types.Holding.TheVariants.{Elements, Others}
 
 no_map_is : (named : ℕ → v.Ty) (bs : List IndexTypes) (t : v.Ty) → holding_of (map_type named (indexed_of (map index_view bs)) t) ≡ (if is_empty bs then holding_of t else Others)
 no_map_is named [] t = refl
@@ -34,8 +34,8 @@ last_synonym n i at ds b c l h k =
     let e : suc n - i ≡ suc (suc n - (i + 1)) = omega arith in
     h (named_within (suc n - (i + 1)) ds) ∙ (rw e at k)
 
--- a chain that is longer than there are types
-pub no_synonym : (n i at : ℕ) (ds : List r.TypeName) (b : Holding) → suc n ≤ i → holding_of (named_within (suc n - i) ds at) ≡ b → Others ≡ b
+-- a chain that is longer than there are types ends in a type that stands for itself
+pub no_synonym : (n i at : ℕ) (ds : List r.TypeName) (b : Holding) → suc n ≤ i → holding_of (named_within (suc n - i) ds at) ≡ b → Elements at ≡ b
 no_synonym n i at ds b l k =
     let e : suc n - i ≡ 0 = omega arith in
     rw e at k

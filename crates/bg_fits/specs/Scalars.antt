@@ -1,7 +1,8 @@
--- Programs over truth values and whole numbers, and functions on them without a body: what passes a test of types and one of expressions.
+-- Programs over truth values, whole numbers and elements of user types, and functions on them without a body: what passes a test of
+-- types and one of expressions.
 use Rattle.std.specs.Prelude.{ℕ, nat_lt, Bool, true, false, not, ◌&&◌, List, [], ◌∷◌, Option, Some, None}
 use Rattle.std.specs.List.{list_all}
-use Rattle.bg_ast.specs.Values.{Ty, IntTy, BoolTy}
+use Rattle.bg_ast.specs.Values.{Ty, IntTy, BoolTy, UserTy, MapTy}
 use Rattle.bg_ast.specs.Syntax.{Ex, Number, Fact, Read, Not, Negative, Binary, Old, Apply, Exs, NoMore, More, Clause, Guard, Star, Test, St, Skip, Then, Label, Assert, Assume, Havoc, Assign, Invoke, If, While, Break, Goto, Return, Decl, Fun, Proc, Impl, Prog}
 use Rattle.bg_sense.specs.Tables.{has_body}
 
@@ -70,11 +71,12 @@ passes ty ex p =
     decls_pass ty ex p.globals
     && (is_empty p.constants && (list_all (fun_passes ty) p.functions && (is_empty p.axioms && (list_all (proc_passes p.candidates ty ex) p.procedures && list_all (impl_passes p.candidates ty ex) p.implementations))))
 
--- `bool`, and `int` where numbers may stand
+-- `bool`, and `int` and user types where numbers may stand
 abbrev pub is_scalar_type : (numbers : Bool) → Ty → Bool
 is_scalar_type numbers BoolTy = true
 is_scalar_type numbers IntTy = numbers
-is_scalar_type numbers _ = false
+is_scalar_type numbers (UserTy u) = numbers
+is_scalar_type numbers (MapTy ks t) = false
 
 abbrev mutual
   -- truth values, variables, `old`, operators and applications of functions, and numbers where they may stand
@@ -94,6 +96,7 @@ abbrev mutual
   are_scalar numbers NoMore = true
   are_scalar numbers (More e es) = is_scalar numbers e && are_scalar numbers es
 
--- a program over truth values, and over whole numbers where they may stand, and functions on them without a body
+-- a program over truth values, and over whole numbers and elements of user types where numbers may stand, and functions on them
+-- without a body
 abbrev pub is_over_scalars : (numbers : Bool) → Prog → Bool
 is_over_scalars numbers p = passes (is_scalar_type numbers) (is_scalar numbers) p

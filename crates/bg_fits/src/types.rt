@@ -1,4 +1,4 @@
-//! Declarations of truth values and whole numbers.
+//! What declared variables hold: truth values, whole numbers, elements of a user type.
 ghost use Rattle.std.specs.Prelude.{◌≡◌, ◌++◌, ℕ, map, slice_get, if◌then◌else◌, OnOk};
 ghost use Rattle.bg_ast.specs.Values as v;
 ghost use Rattle.bg_ast.specs.Meaning.{type_in, synonym_or, named_of, decl_of};
@@ -8,20 +8,22 @@ ghost use Rattle.bg_fits.specs.Holdings.{holding_of, holding_by, holdings_of};
 use bg_ast::resolved::{Declared, TypeName, WrittenType};
 use std::alloc::AllocError;
 
-/// What a variable of a type holds: truth values, whole numbers, or something else.
-#[derive(Clone, Copy)]
+/// What a variable of a type holds: truth values, whole numbers, elements of the user type with this number, or something else.
+#[derive(Clone, Copy, PartialEq, Eq)]
 pub enum Holding {
     Truths,
     Numbers,
+    Elements(u32),
     Others,
 }
 
-/// What a type is: `bool`, `int`, a declared one, or another, perhaps in parentheses.
+/// What a type is: `bool`, `int`, a declared one, the user type with this number, or another, perhaps in parentheses.
 #[derive(Clone, Copy)]
 pub enum Kind {
     Truth,
     Number,
     Named(u32),
+    Element(u32),
     Other,
 }
 
@@ -52,9 +54,9 @@ fn step(types: &[TypeName], k: u32) -> Kind
     ensures { (named : ℕ → v.Ty) → holding_by named result ≡ holding_of (synonym_or (v.UserTy k) (type_in named) (slice_get (map type_name_of types.now) k)) }
 {
     match types.get(k as usize) {
-        None => Kind::Other,
+        None => Kind::Element(k),
         Some(d) => match &d.synonym {
-            None => Kind::Other,
+            None => Kind::Element(k),
             Some(ty) => kind_of(ty),
         },
     }
@@ -69,23 +71,32 @@ fn named_holding(types: &[TypeName], k: u32) -> Holding
         match step(types, at) {
             Kind::Truth => return Holding::Truths,
             Kind::Number => return Holding::Numbers,
+            Kind::Element(u) => return Holding::Elements(u),
             Kind::Other => return Holding::Others,
             Kind::Named(next) => at = next,
         }
     }
-    Holding::Others
+    Holding::Elements(at)
+}
+
+/// What is held by what has this type as it is written, where these types are declared: what it stands for tells it.
+pub fn written_holding(types: &[TypeName], ty: &WrittenType) -> Holding
+    ensures { result ≡ holding_of (type_in (named_of (map type_name_of types.now)) (type_of ty.now)) }
+{
+    match kind_of(ty) {
+        Kind::Truth => Holding::Truths,
+        Kind::Number => Holding::Numbers,
+        Kind::Element(u) => Holding::Elements(u),
+        Kind::Other => Holding::Others,
+        Kind::Named(k) => named_holding(types, k),
+    }
 }
 
 /// What a variable holds, by what its type stands for.
 fn held_by(types: &[TypeName], d: &Declared) -> Holding
     ensures { result ≡ holding_of (decl_of (named_of (map type_name_of types.now)) (declared_of d.now)).ty }
 {
-    match kind_of(&d.ty) {
-        Kind::Truth => Holding::Truths,
-        Kind::Number => Holding::Numbers,
-        Kind::Other => Holding::Others,
-        Kind::Named(k) => named_holding(types, k),
-    }
+    written_holding(types, &d.ty)
 }
 
 /// Adds what each variable holds, by what its type stands for where these types are declared.

@@ -11,7 +11,7 @@ use Rattle.bg_terms.specs.Typed.{sig_with}
 use Rattle.bg_numbered.specs.Fair.{IsHandled, AreHandled}
 use Rattle.bg_numbered.proofs.Numbered.{side_types}
 use Rattle.bg_flatten.specs.Makes.{FineCmds, FineEdges, FineBlocks}
-use Rattle.bg_flatten.specs.Mapless.{are_mapless, GiveNoMaps}
+use Rattle.bg_flat.specs.Mapless.{are_mapless, GiveNoMaps}
 
 nothing : (j : ℕ) (t : Ty) → slice_get [] j ≡ Some t → ⊥
 nothing j t e = cc

@@ -10,7 +10,7 @@ ghost use Rattle.bg_flatten.specs.Makes.{FineBlocks};
 ghost use Rattle.bg_flatten.specs.Flattens.{AreFlattened};
 ghost use Rattle.bg_flatten.specs.Numbered.{terms_of, flat_of};
 ghost use Rattle.bg_flatten.specs.Plain.{PlainBlocks};
-ghost use Rattle.bg_flatten.specs.Mapless.{are_mapless, GiveNoMaps};
+ghost use Rattle.bg_flat.specs.Mapless.{are_mapless, GiveNoMaps};
 
 /// Typed blocks are made flat, where there are no constants, and neither an incarnation is a map nor what a function gives.
 pub fn typed_blocks_are_fine()

@@ -8,7 +8,6 @@ use Rattle.bg_front.specs.declared.later.Spot as code
 
 -- the tokens that aren't judged yet, wherever they stand; a line goes when its construct is judged
 abbrev pub is_unjudged : Kind → Bool
-is_unjudged kinds.Type = true
 is_unjudged kinds.OpenBracket = true
 is_unjudged _ = false
 

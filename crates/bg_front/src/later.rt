@@ -18,8 +18,6 @@ fn is_unjudged(kind: Kind) -> bool
     ensures { result ≡ is_unjudged kind }
 {
     match kind {
-        // declared types
-        Kind::Type => true,
         // maps
         Kind::OpenBracket => true,
         _ => false,

@@ -7,7 +7,7 @@ use Rattle.bg_ast.specs.Resolved as r
 use Rattle.bg_ast.specs.Views.{declared_of, type_name_of}
 use Rattle.bg_ast.specs.Meaning.{named_of, decl_of}
 use Rattle.bg_fits.specs.declared.types.Holding.{Holding}
-use Rattle.bg_fits.specs.declared.types.Holding.TheVariants.{Truths, Numbers, Others}
+use Rattle.bg_fits.specs.declared.types.Holding.TheVariants.{Truths, Numbers, Elements, Others}
 use Rattle.bg_fits.specs.Holdings.{holdings_of}
 use Rattle.bg_guess.specs.Claims.{Subjects}
 use Rattle.bg_guess.specs.declared.frame.Frame as frame
@@ -65,6 +65,7 @@ abbrev pub places_of_numbers : ℕ → List Holding → List ℕ
 places_of_numbers k [] = []
 places_of_numbers k (Numbers ∷ hs) = k ∷ places_of_numbers (suc k) hs
 places_of_numbers k (Truths ∷ hs) = places_of_numbers (suc k) hs
+places_of_numbers k (Elements u ∷ hs) = places_of_numbers (suc k) hs
 places_of_numbers k (Others ∷ hs) = places_of_numbers (suc k) hs
 
 -- the globals of type int

@@ -91,6 +91,7 @@ fn places_of_numbers(alloc: Global, held: &[Holding]) -> Result<Vec<u32>, AllocE
         match held[k] {
             Holding::Numbers => made.push(number(k)?)?,
             Holding::Truths => {}
+            Holding::Elements(_) => {}
             Holding::Others => {}
         }
     }

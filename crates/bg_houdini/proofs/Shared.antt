@@ -40,6 +40,7 @@ use Rattle.bg_places.proofs.place.Group.TheSendSync as group
 use Rattle.bg_places.proofs.place.Place.TheSendSync as place
 use Rattle.bg_places.specs.contracts.place.Place as place_row
 use Rattle.bg_places.proofs.place.Spot.TheSendSync as spot
+use Rattle.bg_fits.proofs.types.Holding.TheSendSync as holding
 use Rattle.bg_linear.proofs.scalar.Sort.TheSendSync as sort
 use Rattle.bg_tree.proofs.outcome.Budget.TheSendSync as budget
 use Rattle.bg_forms.proofs.form.Form.TheLaws.TheKnot as knot_form
@@ -144,7 +145,7 @@ passive_block_sync : IsSync passive_block.the_row
 passive_block_sync = search (passive_cmd_sync, edge_sync, parts) depth 60 fits 20000
 
 pub prepared_sync : (a : NamedLft) → IsSync (prepared.the_row a)
-prepared_sync a = search (block_sync, term_sync, passive_block_sync, sort.the_sync, atoms_field, parts) depth 60 fits 20000
+prepared_sync a = search (block_sync, term_sync, passive_block_sync, holding.the_sync, sort.the_sync, atoms_field, parts) depth 60 fits 20000
 
 pub judging_sync : (a : NamedLft) → IsSync (judging.the_row a)
 judging_sync a = search (resolved_sync, prepared_sync, place.the_sync, budget.the_field_sync, parts) depth 60 fits 20000
@@ -194,7 +195,7 @@ passive_block_send : IsSend passive_block.the_row
 passive_block_send = search (passive_cmd_send, edge_send, leaving) depth 60 fits 20000
 
 pub prepared_send : (a : NamedLft) → IsSend (prepared.the_row a)
-prepared_send a = search (block_send, term_send, passive_block_send, sort.the_send, atoms_send, leaving) depth 60 fits 20000
+prepared_send a = search (block_send, term_send, passive_block_send, holding.the_send, sort.the_send, atoms_send, leaving) depth 60 fits 20000
 
 -- what the closure captures that prepares a piece
 pub preparing_sync : (name : List ℕ) (a b c : NamedLft) → IsSync (TupleAt name ((shr_ref_field a heap.the_row tt).row ∷ (shr_ref_field b resolved.the_row tt).row ∷ (shr_slice_field c (vec_row.the_row variable_row.the_row heap.the_row ghosts) tt).row ∷ []))

@@ -49,7 +49,7 @@ pub record Owes (budget : Budget) (p : Prog) : Type 0 where
   pub passing : (k : ℕ) (used set : Candidates) (proof : Proof) → TaskPasses p k used proof → Subset used set → TaskFails p k set → ⊥
   pub failing : (k : ℕ) (set : Candidates) (reason : Reason) → TaskFinds budget p k set false reason → TaskFails p k set
 
--- a typed program over truth values and whole numbers with numbers of its own, each implementation prepared, the tasks in order, and how
+-- a typed program over scalars with numbers of its own, each implementation prepared, the tasks in order, and how
 -- many candidates there are; with what is owed, which is so for each such program
 pub record IsJudging (j : Judging) : Type 0 where
   pub typed : IsTyped (meaning_in j)

@@ -108,7 +108,7 @@ fn listed(alloc: Global, program: &Resolved) -> Result<Vec<Place>, AllocError>
     with_candidate(alloc, &all)
 }
 
-/// The checker of a typed program over truth values and whole numbers with numbers of its own, where these are what its procedures modify.
+/// The checker of a typed program over scalars with numbers of its own, where these are what its procedures modify.
 /// Its implementations are prepared by at most so many workers.
 ///
 /// Only want of memory is an error; 2^32 places with a candidate count as such, and so do 2^32 incarnations or atoms of an implementation.

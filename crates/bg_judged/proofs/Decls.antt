@@ -8,10 +8,10 @@ use Rattle.bg_text.specs.Types.{attr_marks, ids_marks, type_marks, group_marks}
 use Rattle.bg_text.specs.Types.{All as Each, IfThere}
 use Rattle.bg_text.specs.Statements.{sts_marks}
 use Rattle.bg_text.specs.Spelling.{ex_marks}
-use Rattle.bg_text.specs.Declarations.{unique_marks, fun_arg_marks, fun_result_marks, fun_end_marks, in_parens, sig_marks, spec_marks, vars_marks, body_marks, tail_marks, decl_marks}
+use Rattle.bg_text.specs.Declarations.{new_type_marks, unique_marks, fun_arg_marks, fun_result_marks, fun_end_marks, in_parens, sig_marks, spec_marks, vars_marks, body_marks, tail_marks, decl_marks}
 use Rattle.bg_spaces.specs.Declarations.{result_groups}
 use Rattle.bg_resolve.specs.Program.{result_type}
-use Rattle.bg_judged.proofs.Marks.{flat, braced, Judged, assoc, never, Reads, on_each, on_commas}
+use Rattle.bg_judged.proofs.Marks.{flat, braced, Judged, assoc, Reads, on_each, on_commas}
 use Rattle.bg_judged.proofs.Exprs.{shut_ex, on_ex}
 use Rattle.bg_judged.proofs.Groups.{TypeGood, GroupGood, on_ty, on_attrs, on_ids, on_group}
 use Rattle.bg_judged.proofs.Clauses.{Says, ClauseGood, on_clause}
@@ -37,9 +37,13 @@ TailGood specs b = Each SpecGood specs × IfThere BodyGood b
 abbrev pub ArgGood : t.FunArg → Type 0
 ArgGood a = TypeGood a.ty
 
+-- a type that is declared stands for itself, or for one that may stand
+abbrev pub NewTypeGood : t.NewType → Type 0
+NewTypeGood d = IfThere TypeGood d.synonym
+
 -- a declaration made of what may stand
 abbrev pub DeclGood : t.Decl → Type 0
-DeclGood (t.Types p attrs ds) = ⊥
+DeclGood (t.Types p attrs ds) = Each NewTypeGood ds
 DeclGood (t.Constants c) = TypeGood c.group.ty
 DeclGood (t.Function f) = Each ArgGood f.args × TypeGood (result_type f.result) × IfThere Says f.body
 DeclGood (t.Axiom p attrs e) = Says e
@@ -109,6 +113,23 @@ on_head ys x s more rest h =
     let a = assoc (flat false) (attrs ++ named) more rest h in
     let b = on_attrs ys (named ++ (more ++ rest)) (assoc (flat false) attrs named (more ++ rest) a) in
     on_sig s (more ++ rest) b.1
+
+on_synonym : (o : Option t.Ty) (rest : List Mark) → Judged (flat false) (if_there (λ e. sign kinds.Sets ∷ type_marks e) o ++ rest) → IfThere TypeGood o × Judged (flat false) rest
+on_synonym None rest h = (tt, h)
+on_synonym (Some e) rest h = on_ty e rest h.1
+
+on_new_type : Reads false new_type_marks NewTypeGood
+on_new_type d rest h = on_synonym d.synonym rest h.1
+
+on_types : (p : Pos) (attrs : List t.Attr) (ds : List t.NewType) (rest : List Mark) → Judged (flat false) (decl_marks (t.Types p attrs ds) ++ rest) → Each NewTypeGood ds × Judged (flat false) rest
+on_types p ys ds rest h =
+    let attrs = each attr_marks ys in
+    let types = commas new_type_marks ds in
+    let last = sign kinds.Semicolon ∷ [] in
+    let a = assoc (flat false) (attrs ++ types) last rest h.1 in
+    let b = on_attrs ys (types ++ (last ++ rest)) (assoc (flat false) attrs types (last ++ rest) a) in
+    let c = on_commas false new_type_marks NewTypeGood on_new_type ds (last ++ rest) b in
+    (c.0, c.1.1)
 
 on_unique : (b : Bool) (rest : List Mark) → Judged (flat false) (unique_marks b ++ rest) → Judged (flat false) rest
 on_unique true rest h = h.1
@@ -181,7 +202,7 @@ on_axiom p ys e rest h =
     (λ s. c.0 s refl, c.1.1)
 
 pub on_decl : Reads false decl_marks DeclGood
-on_decl (t.Types p attrs ds) rest h = never (h.0 refl)
+on_decl (t.Types p attrs ds) rest h = on_types p attrs ds rest h
 on_decl (t.Constants c) rest h = on_constants c rest h
 on_decl (t.Function f) rest h = on_function f rest h
 on_decl (t.Axiom p attrs e) rest h = on_axiom p attrs e rest h

@@ -1,38 +1,37 @@
 -- Types, attributes and groups of names: what their tokens allow.
-use Rattle.std.proofs.Common.{◌≡◌, ℕ, true, false, List, [], ◌∷◌, ◌++◌, refl, subst}
+use Rattle.std.proofs.Common.{◌≡◌, ℕ, true, false, List, [], ◌∷◌, ◌++◌, refl}
 use Rattle.bg_text.specs.declared.token.Kind.TheVariants as kinds
 use Rattle.bg_text.specs.Trees as t
 use Rattle.bg_text.specs.Marks.{Mark, sign, id_mark, each}
 use Rattle.bg_text.specs.Types.{type_marks, arg_marks, attr_marks, ids_marks, group_marks}
 use Rattle.bg_ast.specs.Values as v
 use Rattle.bg_ast.specs.Meaning as m
-use Rattle.bg_names.specs.Faults.{Fault}
-use Rattle.bg_names.specs.Spaces.{use_faults}
-use Rattle.bg_names.specs.Exprs.{ty_faults, named_ty}
+use Rattle.bg_names.specs.Spaces.{place, or_zero}
+use Rattle.bg_names.specs.Exprs.{named_ty}
 use Rattle.bg_fits.specs.Scalars.{is_scalar_type}
 use Rattle.bg_judged.proofs.Marks.{flat, Judged, assoc, never, Reads, on_each, on_commas}
 use Rattle.bg_judged.proofs.Exprs.{on_ex}
 
--- where no type is declared, a type without faults of names is one that may stand
+-- each declared type is one that may stand
+abbrev pub AreGood : (ℕ → v.Ty) → Type 0
+AreGood named = (k : ℕ) → is_scalar_type true (named k) ≡ true
+
+-- a written type is one that may stand, where each declared one is
 abbrev pub TypeGood : t.Ty → Type 0
-TypeGood e = (types : List (List ℕ)) → types ≡ [] → (named : ℕ → v.Ty) → ty_faults types e ≡ [] → is_scalar_type true (m.type_in named (named_ty types e)) ≡ true
+TypeGood e = (types : List (List ℕ)) (named : ℕ → v.Ty) → AreGood named → is_scalar_type true (m.type_in named (named_ty types e)) ≡ true
 
 abbrev pub GroupGood : t.Group → Type 0
 GroupGood g = TypeGood g.ty
 
-some_fault : {A : Type 0} (f : Fault) → f ∷ [] ≡ [] → A
-some_fault f h = absurd (let bad : ⊥ = cc in bad)
-
 pub on_ty : Reads false type_marks TypeGood
-on_ty (t.IntType p) rest h = (λ types none named ok. refl, h.1)
-on_ty (t.BoolType p) rest h = (λ types none named ok. refl, h.1)
-on_ty (t.NamedType p x) rest h =
-    (λ types none named ok. some_fault _ (subst (λ l. use_faults l (record { pos = p; text = x }) ≡ []) none ok), h.1)
+on_ty (t.IntType p) rest h = (λ types named all. refl, h.1)
+on_ty (t.BoolType p) rest h = (λ types named all. refl, h.1)
+on_ty (t.NamedType p x) rest h = (λ types named all. all (or_zero (place types x)), h.1)
 on_ty (t.InParens p e) rest h =
     let a = on_ty e (sign kinds.Close ∷ rest) (assoc (flat false) (type_marks e) (sign kinds.Close ∷ []) rest h.1) in
-    (λ types none named ok. a.0 types none named ok, a.1.1)
+    (λ types named all. a.0 types named all, a.1.1)
 on_ty (t.MapType t.NoIndex e) rest h =
-    let a = on_ty e rest h in (λ types none named ok. a.0 types none named ok, a.1)
+    let a = on_ty e rest h in (λ types named all. a.0 types named all, a.1)
 on_ty (t.MapType (t.Index p ts is) e) rest h = never (h.0 refl)
 
 on_arg : Reads true arg_marks (λ a. Unit {0})

@@ -4,7 +4,6 @@ pub mod Groups
 pub mod Clauses
 pub mod Stmts
 pub mod Decls
-pub mod Spaces
 pub mod Programs
 pub mod Guesses
 pub mod Judging

@@ -1,7 +1,7 @@
 -- What the tokens of a program allow its meaning to hold.
-use Rattle.std.proofs.Common.{◌≡◌, ℕ, ◌+◌, Bool, true, false, List, [], ◌∷◌, ◌++◌, map, flat_map, length, Option, Some, None, refl, sym, subst, append-nil, if◌then◌else◌}
+use Rattle.std.proofs.Common.{◌≡◌, ℕ, zero, suc, ◌+◌, Bool, true, false, List, [], ◌∷◌, ◌++◌, map, flat_map, length, Option, Some, None, refl, sym, subst, append-nil, if◌then◌else◌}
 use Rattle.std.specs.List.{list_all}
-use Rattle.std.specs.Prelude.{◌&&◌, ◌||◌, not}
+use Rattle.std.specs.Prelude.{◌&&◌, slice_get}
 use Rattle.bg_base.specs.declared.pos.Pos.{Pos}
 use Rattle.bg_text.specs.Tokens.{Tok}
 use Rattle.bg_text.specs.Trees as t
@@ -12,16 +12,12 @@ use Rattle.bg_text.specs.Declarations.{decl_marks}
 use Rattle.bg_ast.specs.Values as v
 use Rattle.bg_ast.specs.Resolved as r
 use Rattle.bg_ast.specs.Meaning as m
-use Rattle.bg_names.specs.declared.error.FaultKind.TheVariants as kinds
-use Rattle.bg_names.specs.Faults.{fault, unless}
-use Rattle.bg_names.specs.Spaces.{Scope, names_of, use_faults, repeats}
-use Rattle.bg_names.specs.Exprs.{ty_faults, named_ty, named_ex}
+use Rattle.bg_names.specs.Spaces.{Scope, names_of}
+use Rattle.bg_names.specs.Exprs.{named_ty, named_ex}
 use Rattle.bg_names.specs.Clauses.{named_clause}
-use Rattle.bg_bodies.specs.Bodies.{sts_faults, sts_labels, named_sts}
-use Rattle.bg_spaces.specs.Declarations.{Spaces, spaces_of, are_candidates, param_ids, result_ids, result_groups, group_faults, sig_faults, repeated, scope_in, declared_as, named_group, named_groups, named_requires, named_ensures, specs_count}
-use Rattle.bg_resolve.specs.Program.{has_body as is_there}
-use Rattle.bg_resolve.specs.Program.{type_pos, candidate_faults, arg_ids, has_arg_name, arg_faults, result_type, function_scope, body_faults, function_faults, arg_type, named_function, axiom_scope, decl_faults, plain_faults, spec_faults, vars_faults, option_faults, code_faults, frame_ids, inside, requires_scope, ensures_scope, named_vars, named_globals, constant_as, named_constants, named_functions, named_axioms, named_procedures, named_code, named_option, named_implementations, in_turn, named}
-use Rattle.bg_named.proofs.ExprsBits.{split_nil}
+use Rattle.bg_bodies.specs.Bodies.{named_sts}
+use Rattle.bg_spaces.specs.Declarations.{Spaces, spaces_of, are_candidates, param_ids, result_ids, result_groups, scope_in, declared_as, named_group, named_groups, named_requires, named_ensures, specs_count}
+use Rattle.bg_resolve.specs.Program.{result_type, function_scope, arg_type, named_function, axiom_scope, plain_faults, frame_ids, inside, requires_scope, ensures_scope, named_vars, named_new, named_types, named_globals, constant_as, named_constants, named_functions, named_axioms, named_procedures, named_code, named_option, named_implementations, in_turn, named}
 use Rattle.bg_named.proofs.SpacesEntries.{each_append}
 use Rattle.bg_named.proofs.ProgramsEach.{gathered, gathered_in_turn}
 use Rattle.bg_meant.proofs.Bodies.{NamesCandidates}
@@ -31,35 +27,70 @@ use Rattle.bg_sense.proofs.Bools.{both}
 use Rattle.bg_fits.specs.Scalars.{clause_passes, st_passes, decl_passes, decls_pass, proc_passes, impl_passes, is_scalar_type}
 use Rattle.bg_opened.specs.Judged.{is_judged_ex, const_judged, body_judged, fun_judged, is_judged}
 use Rattle.bg_judged.proofs.Marks.{flat, Judged, of_tokens, on_each}
-use Rattle.bg_judged.proofs.Groups.{GroupGood, TypeGood}
+use Rattle.bg_judged.proofs.Groups.{AreGood, TypeGood, GroupGood}
 use Rattle.bg_judged.proofs.Clauses.{Says, clause_good}
-use Rattle.bg_judged.proofs.Decls.{SpecGood, VarsGood, BodyGood, ArgGood, DeclGood, on_decl}
-use Rattle.bg_judged.proofs.Spaces.{types_none}
+use Rattle.bg_judged.proofs.Decls.{SpecGood, VarsGood, BodyGood, ArgGood, NewTypeGood, DeclGood, on_decl}
 
 pass_map : {A B : Type 0} (p : B → Bool) (f : A → B) (xs : List A) → Each (λ y. p (f y) ≡ true) xs → list_all p (map f xs) ≡ true
 pass_map p f [] h = refl
 pass_map p f (y ∷ ys) h = both (p (f y)) (list_all p (map f ys)) h.0 (pass_map p f ys h.1)
 
-module _ (g : Spaces) (none : g.types ≡ []) (many : ℕ) (names_fit : (frame : List (List ℕ)) (sees old : Bool) → NamesCandidates many (scope_in g frame sees old)) (types : ℕ → v.Ty) where
+-- ---- declared types
+
+-- what a declared type stands for may stand, where each declared one may
+abbrev NewGood : r.TypeName → Type 0
+NewGood d = (k : ℕ) (known : ℕ → v.Ty) → AreGood known → is_scalar_type true (m.synonym_by (v.UserTy k) (m.type_in known) d.synonym) ≡ true
+
+new_good : (g : Spaces) (d : t.NewType) → NewTypeGood d → NewGood (named_new g d)
+new_good g d good k known all = by d.synonym good
+  where
+    by : (o : Option t.Ty) → IfThere TypeGood o → is_scalar_type true (m.synonym_by (v.UserTy k) (m.type_in known) (option_of (named_ty g.types) o)) ≡ true
+    by None h = refl
+    by (Some e) h = h g.types known all
+
+news_good : (g : Spaces) (ds : List t.NewType) → Each NewTypeGood ds → Each NewGood (map (named_new g) ds)
+news_good g [] good = tt
+news_good g (d ∷ ds) good = (new_good g d good.0, news_good g ds good.1)
+
+types_good : (g : Spaces) (d : t.Decl) → DeclGood d → Each NewGood (named_types g d)
+types_good g (t.Types p attrs ds) good = news_good g ds good
+types_good g (t.Constants c) good = tt
+types_good g (t.Function f) good = tt
+types_good g (t.Axiom p attrs e) good = tt
+types_good g (t.Globals x) good = tt
+types_good g (t.Procedure q) good = tt
+types_good g (t.Implementation q) good = tt
+
+at_good : (known : ℕ → v.Ty) → AreGood known → (j : ℕ) (ds : List r.TypeName) → Each NewGood ds → (k : ℕ) → is_scalar_type true (m.synonym_or (v.UserTy j) (m.type_in known) (slice_get ds k)) ≡ true
+at_good known all j [] good k = refl
+at_good known all j (d ∷ ds) good zero = good.0 j known all
+at_good known all j (d ∷ ds) good (suc k) = at_good known all j ds good.1 k
+
+-- with synonyms unfolded as often as one likes
+within_good : (n : ℕ) (ds : List r.TypeName) → Each NewGood ds → AreGood (m.named_within n ds)
+within_good zero ds good k = refl
+within_good (suc n) ds good k = at_good (m.named_within n ds) (within_good n ds good) k ds good k
+
+-- ---- the other parts
+
+module _ (g : Spaces) (many : ℕ) (names_fit : (frame : List (List ℕ)) (sees old : Bool) → NamesCandidates many (scope_in g frame sees old)) (types : ℕ → v.Ty) (all : AreGood types) where
   abbrev pub DeclaredGood : r.Declared → Type 0
   DeclaredGood d = decl_passes (is_scalar_type true) is_judged_ex (m.decl_of types d) ≡ true
 
-  names_good : (e : t.Ty) → TypeGood e → ty_faults g.types e ≡ [] → (xs : List t.Id) → Each DeclaredGood (map (declared_as g e) xs)
-  names_good e good ok [] = tt
-  names_good e good ok (y ∷ ys) =
-      (both (is_scalar_type true (m.type_in types (declared_as g e y).ty)) true (good g.types none types ok) refl, names_good e good ok ys)
+  names_good : (e : t.Ty) → TypeGood e → (xs : List t.Id) → Each DeclaredGood (map (declared_as g e) xs)
+  names_good e good [] = tt
+  names_good e good (y ∷ ys) =
+      (both (is_scalar_type true (m.type_in types (declared_as g e y).ty)) true (good g.types types all) refl, names_good e good ys)
 
-  groups_good : (gs : List t.Group) → Each GroupGood gs → flat_map (group_faults g) gs ≡ [] → Each DeclaredGood (named_groups g gs)
-  groups_good [] good ok = tt
-  groups_good (x ∷ xs) good ok =
-      let parts = split_nil (group_faults g x) (flat_map (group_faults g) xs) ok in
-      each_append DeclaredGood (named_group g x) (named_groups g xs) (names_good x.ty good.0 parts.0 x.names) (groups_good xs good.1 parts.1)
+  groups_good : (gs : List t.Group) → Each GroupGood gs → Each DeclaredGood (named_groups g gs)
+  groups_good [] good = tt
+  groups_good (x ∷ xs) good =
+      each_append DeclaredGood (named_group g x) (named_groups g xs) (names_good x.ty good.0 x.names) (groups_good xs good.1)
 
-  vars_good : (vs : List t.Vars) → Each VarsGood vs → flat_map (vars_faults g) vs ≡ [] → Each DeclaredGood (flat_map (named_vars g) vs)
-  vars_good [] good ok = tt
-  vars_good (x ∷ xs) good ok =
-      let parts = split_nil (vars_faults g x) (flat_map (vars_faults g) xs) ok in
-      each_append DeclaredGood (named_vars g x) (flat_map (named_vars g) xs) (groups_good x.groups good.0 parts.0) (vars_good xs good.1 parts.1)
+  vars_good : (vs : List t.Vars) → Each VarsGood vs → Each DeclaredGood (flat_map (named_vars g) vs)
+  vars_good [] good = tt
+  vars_good (x ∷ xs) good =
+      each_append DeclaredGood (named_vars g x) (flat_map (named_vars g) xs) (groups_good x.groups good.0) (vars_good xs good.1)
 
   requires_good : (s : Scope) → NamesCandidates many s → (n : ℕ) (specs : List t.Spec) → Each SpecGood specs → list_all (clause_passes many is_judged_ex) (map m.clause_of (named_requires s n specs)) ≡ true
   requires_good s p n [] good = refl
@@ -84,20 +115,13 @@ module _ (g : Spaces) (none : g.types ≡ []) (many : ℕ) (names_fit : (frame :
   declared_pass : (ds : List r.Declared) → Each DeclaredGood ds → decls_pass (is_scalar_type true) is_judged_ex (map (m.decl_of types) ds) ≡ true
   declared_pass ds good = pass_map (decl_passes (is_scalar_type true) is_judged_ex) (m.decl_of types) ds good
 
-  code_good : (n : ℕ) (p : Pos) (q : t.Id) (s : t.Sig) (b : t.Body) → BodyGood b → code_faults g q s b ≡ [] → ImplGood (named_code g n p q s b)
-  code_good n p q s b good ok =
-      let all = split_nil ((repeats [] (frame_ids s b) ++ flat_map (vars_faults g) b.locals) ++ repeats [] (sts_labels b.stmts)) (sts_faults (inside g q s b) [] false [] [] b.stmts) ok in
-      let front = split_nil (repeats [] (frame_ids s b) ++ flat_map (vars_faults g) b.locals) (repeats [] (sts_labels b.stmts)) all.0 in
-      let vars = split_nil (repeats [] (frame_ids s b)) (flat_map (vars_faults g) b.locals) front.0 in
-      both (decls_pass (is_scalar_type true) is_judged_ex (map (m.decl_of types) (flat_map (named_vars g) b.locals))) (st_passes many is_judged_ex (m.sts_of (named_sts (inside g q s b) n 0 [] [] b.stmts))) (declared_pass (flat_map (named_vars g) b.locals) (vars_good b.locals good.0 vars.1)) (good.1 (inside g q s b) many (names_fit (names_of (frame_ids s b)) true true) n 0 [] [])
+  code_good : (n : ℕ) (p : Pos) (q : t.Id) (s : t.Sig) (b : t.Body) → BodyGood b → ImplGood (named_code g n p q s b)
+  code_good n p q s b good =
+      both (decls_pass (is_scalar_type true) is_judged_ex (map (m.decl_of types) (flat_map (named_vars g) b.locals))) (st_passes many is_judged_ex (m.sts_of (named_sts (inside g q s b) n 0 [] [] b.stmts))) (declared_pass (flat_map (named_vars g) b.locals) (vars_good b.locals good.0)) (good.1 (inside g q s b) many (names_fit (names_of (frame_ids s b)) true true) n 0 [] [])
 
-  option_good : (n : ℕ) (p : Pos) (q : t.Id) (s : t.Sig) (o : Option t.Body) → IfThere BodyGood o → option_faults g q s o ≡ [] → Each ImplGood (named_option g n p q s o)
-  option_good n p q s None good ok = tt
-  option_good n p q s (Some b) good ok = (code_good n p q s b good ok, tt)
-
-  -- a declaration made of what may stand, without faults of names
-  abbrev pub Kept : t.Decl → Type 0
-  Kept d = DeclGood d × (decl_faults g d ≡ [])
+  option_good : (n : ℕ) (p : Pos) (q : t.Id) (s : t.Sig) (o : Option t.Body) → IfThere BodyGood o → Each ImplGood (named_option g n p q s o)
+  option_good n p q s None good = tt
+  option_good n p q s (Some b) good = (code_good n p q s b good, tt)
 
   abbrev pub ConstGood : r.Const → Type 0
   ConstGood c = const_judged (m.const_of types c) ≡ true
@@ -108,145 +132,125 @@ module _ (g : Spaces) (none : g.types ≡ []) (many : ℕ) (names_fit : (frame :
   abbrev pub AxiomGood : r.Ex → Type 0
   AxiomGood e = is_judged_ex (m.ex_of e) ≡ true
 
-  constants_good : (c : t.Consts) → TypeGood c.group.ty → ty_faults g.types c.group.ty ≡ [] → (xs : List t.Id) → Each ConstGood (map (constant_as g c) xs)
-  constants_good c good ok [] = tt
-  constants_good c good ok (y ∷ ys) = (good g.types none types ok, constants_good c good ok ys)
+  constants_good : (c : t.Consts) → TypeGood c.group.ty → (xs : List t.Id) → Each ConstGood (map (constant_as g c) xs)
+  constants_good c good [] = tt
+  constants_good c good (y ∷ ys) = (good g.types types all, constants_good c good ys)
 
   unless_candidates : (c : t.Consts) → Each ConstGood (map (constant_as g c) c.group.names) → (b : Bool) → Each ConstGood (if b then [] else map (constant_as g c) c.group.names)
   unless_candidates c good true = tt
   unless_candidates c good false = good
 
-  args_good : (named_all : Bool) (xs : List t.FunArg) → Each ArgGood xs → flat_map (arg_faults g named_all) xs ≡ [] → list_all (is_scalar_type true) (map (m.type_in types) (map (arg_type g) xs)) ≡ true
-  args_good b [] good ok = refl
-  args_good b (x ∷ xs) good ok =
-      let parts = split_nil (arg_faults g b x) (flat_map (arg_faults g b) xs) ok in
-      let own = split_nil (unless (not b || has_arg_name x) (fault kinds.UnnamedArgument (type_pos x.ty) [])) (ty_faults g.types x.ty) parts.0 in
-      both (is_scalar_type true (m.type_in types (arg_type g x))) _ (good.0 g.types none types own.1) (args_good b xs good.1 parts.1)
+  args_good : (xs : List t.FunArg) → Each ArgGood xs → list_all (is_scalar_type true) (map (m.type_in types) (map (arg_type g) xs)) ≡ true
+  args_good [] good = refl
+  args_good (x ∷ xs) good =
+      both (is_scalar_type true (m.type_in types (arg_type g x))) _ (good.0 g.types types all) (args_good xs good.1)
 
   body_good : (s : Scope) (o : Option t.Ex) → IfThere Says o → body_judged (m.body_of (option_of (named_ex s) o)) ≡ true
   body_good s None good = refl
   body_good s (Some e) good = good s
 
-  function_good : (f : t.Fun) → DeclGood (t.Function f) → function_faults g f ≡ [] → FunGood (named_function g f)
-  function_good f good ok =
-      let names = repeats [] (flat_map arg_ids f.args) in
-      let args = flat_map (arg_faults g (is_there f.body)) f.args in
-      let result = ty_faults g.types (result_type f.result) in
-      let front = (split_nil ((names ++ args) ++ result) (body_faults (function_scope g f) f.body) ok).0 in
-      let types_ok = split_nil (names ++ args) result front in
+  function_good : (f : t.Fun) → DeclGood (t.Function f) → FunGood (named_function g f)
+  function_good f good =
       let ty = is_scalar_type true in
       let ending = m.type_in types (named_ty g.types (result_type f.result)) in
       let body = m.body_of (option_of (named_ex (function_scope g f)) f.body) in
-      both (list_all ty (map (m.type_in types) (map (arg_type g) f.args))) (ty ending && body_judged body) (args_good (is_there f.body) f.args good.0 (split_nil names args types_ok.0).1)
-      (both (ty ending) (body_judged body) (good.1 g.types none types types_ok.1) (body_good (function_scope g f) f.body good.2))
+      both (list_all ty (map (m.type_in types) (map (arg_type g) f.args))) (ty ending && body_judged body) (args_good f.args good.0)
+      (both (ty ending) (body_judged body) (good.1 g.types types all) (body_good (function_scope g f) f.body good.2))
 
-  constants_kept : (d : t.Decl) → Kept d → Each ConstGood (named_constants g d)
+  constants_kept : (d : t.Decl) → DeclGood d → Each ConstGood (named_constants g d)
   constants_kept (t.Types p attrs ds) k = tt
   constants_kept (t.Constants c) k =
-      let ok = split_nil (group_faults g c.group) (flat_map (candidate_faults c) c.group.names) k.1 in
-      unless_candidates c (constants_good c k.0 ok.0 c.group.names) (are_candidates c)
+      unless_candidates c (constants_good c k c.group.names) (are_candidates c)
   constants_kept (t.Function f) k = tt
   constants_kept (t.Axiom p attrs e) k = tt
   constants_kept (t.Globals x) k = tt
   constants_kept (t.Procedure q) k = tt
   constants_kept (t.Implementation q) k = tt
 
-  functions_kept : (d : t.Decl) → Kept d → Each FunGood (named_functions g d)
+  functions_kept : (d : t.Decl) → DeclGood d → Each FunGood (named_functions g d)
   functions_kept (t.Types p attrs ds) k = tt
   functions_kept (t.Constants c) k = tt
-  functions_kept (t.Function f) k = (function_good f k.0 k.1, tt)
+  functions_kept (t.Function f) k = (function_good f k, tt)
   functions_kept (t.Axiom p attrs e) k = tt
   functions_kept (t.Globals x) k = tt
   functions_kept (t.Procedure q) k = tt
   functions_kept (t.Implementation q) k = tt
 
-  axioms_kept : (d : t.Decl) → Kept d → Each AxiomGood (named_axioms g d)
+  axioms_kept : (d : t.Decl) → DeclGood d → Each AxiomGood (named_axioms g d)
   axioms_kept (t.Types p attrs ds) k = tt
   axioms_kept (t.Constants c) k = tt
   axioms_kept (t.Function f) k = tt
-  axioms_kept (t.Axiom p attrs e) k = (k.0 (axiom_scope g), tt)
+  axioms_kept (t.Axiom p attrs e) k = (k (axiom_scope g), tt)
   axioms_kept (t.Globals x) k = tt
   axioms_kept (t.Procedure q) k = tt
   axioms_kept (t.Implementation q) k = tt
 
-  globals_kept : (d : t.Decl) → Kept d → Each DeclaredGood (named_globals g d)
+  globals_kept : (d : t.Decl) → DeclGood d → Each DeclaredGood (named_globals g d)
   globals_kept (t.Types p attrs ds) k = tt
   globals_kept (t.Constants c) k = tt
   globals_kept (t.Function f) k = tt
   globals_kept (t.Axiom p attrs e) k = tt
-  globals_kept (t.Globals x) k = groups_good x.groups k.0 k.1
+  globals_kept (t.Globals x) k = groups_good x.groups k
   globals_kept (t.Procedure q) k = tt
   globals_kept (t.Implementation q) k = tt
 
-  procedures_kept : (n : ℕ) (d : t.Decl) → Kept d → Each ProcGood (named_procedures g n d)
+  procedures_kept : (n : ℕ) (d : t.Decl) → DeclGood d → Each ProcGood (named_procedures g n d)
   procedures_kept n (t.Types p attrs ds) k = tt
   procedures_kept n (t.Constants c) k = tt
   procedures_kept n (t.Function f) k = tt
   procedures_kept n (t.Axiom p attrs e) k = tt
   procedures_kept n (t.Globals x) k = tt
   procedures_kept n (t.Procedure q) k =
-      let all = split_nil (sig_faults g q.sig ++ flat_map (spec_faults g q.sig) q.specs) (option_faults g q.name q.sig q.body) k.1 in
-      let front = split_nil (sig_faults g q.sig) (flat_map (spec_faults g q.sig) q.specs) all.0 in
-      let signature = split_nil (flat_map (group_faults g) q.sig.params) (flat_map (group_faults g) (result_groups q.sig.results)) front.0 in
-      let params = declared_pass (named_groups g q.sig.params) (groups_good q.sig.params k.0.0.0 signature.0) in
-      let results = declared_pass (named_groups g (result_groups q.sig.results)) (groups_good (result_groups q.sig.results) k.0.0.1 signature.1) in
-      let before = requires_good (requires_scope g q.sig) (names_fit (names_of (param_ids q.sig)) true false) n q.specs k.0.1.0 in
-      let after = ensures_good (ensures_scope g q.sig) (names_fit (names_of (param_ids q.sig ++ result_ids q.sig)) true true) n q.specs k.0.1.0 in
+      let params = declared_pass (named_groups g q.sig.params) (groups_good q.sig.params k.0.0) in
+      let results = declared_pass (named_groups g (result_groups q.sig.results)) (groups_good (result_groups q.sig.results) k.0.1) in
+      let before = requires_good (requires_scope g q.sig) (names_fit (names_of (param_ids q.sig)) true false) n q.specs k.1.0 in
+      let after = ensures_good (ensures_scope g q.sig) (names_fit (names_of (param_ids q.sig ++ result_ids q.sig)) true true) n q.specs k.1.0 in
       (both _ _ params (both _ _ results (both _ _ before after)), tt)
   procedures_kept n (t.Implementation q) k = tt
 
-  implementations_kept : (n : ℕ) (d : t.Decl) → Kept d → Each ImplGood (named_implementations g n d)
+  implementations_kept : (n : ℕ) (d : t.Decl) → DeclGood d → Each ImplGood (named_implementations g n d)
   implementations_kept n (t.Types p attrs ds) k = tt
   implementations_kept n (t.Constants c) k = tt
   implementations_kept n (t.Function f) k = tt
   implementations_kept n (t.Axiom p attrs e) k = tt
   implementations_kept n (t.Globals x) k = tt
   implementations_kept n (t.Procedure q) k =
-      let all = split_nil (sig_faults g q.sig ++ flat_map (spec_faults g q.sig) q.specs) (option_faults g q.name q.sig q.body) k.1 in
-      option_good (n + specs_count q.specs) q.pos q.name q.sig q.body k.0.1.1 all.1
-  implementations_kept n (t.Implementation q) k =
-      let all = split_nil (use_faults g.procedures q.name ++ sig_faults g q.sig) (code_faults g q.name q.sig q.body) k.1 in
-      (code_good n q.pos q.name q.sig q.body k.0.1 all.1, tt)
+      option_good (n + specs_count q.specs) q.pos q.name q.sig q.body k.1.1
+  implementations_kept n (t.Implementation q) k = (code_good n q.pos q.name q.sig q.body k.1, tt)
 
-  kept_all : (ds : List t.Decl) → Each DeclGood ds → flat_map (decl_faults g) ds ≡ [] → Each Kept ds
-  kept_all [] good ok = tt
-  kept_all (d ∷ ds) good ok =
-      let parts = split_nil (decl_faults g d) (flat_map (decl_faults g) ds) ok in
-      ((good.0, parts.0), kept_all ds good.1 parts.1)
-
-  pub globals_pass : (ds : List t.Decl) → Each Kept ds → decls_pass (is_scalar_type true) is_judged_ex (map (m.decl_of types) (flat_map (named_globals g) ds)) ≡ true
+  pub globals_pass : (ds : List t.Decl) → Each DeclGood ds → decls_pass (is_scalar_type true) is_judged_ex (map (m.decl_of types) (flat_map (named_globals g) ds)) ≡ true
   globals_pass ds kept =
-      declared_pass (flat_map (named_globals g) ds) (gathered DeclaredGood Kept (named_globals g) globals_kept ds kept)
+      declared_pass (flat_map (named_globals g) ds) (gathered DeclaredGood DeclGood (named_globals g) globals_kept ds kept)
 
-  pub constants_pass : (ds : List t.Decl) → Each Kept ds → list_all const_judged (map (m.const_of types) (flat_map (named_constants g) ds)) ≡ true
+  pub constants_pass : (ds : List t.Decl) → Each DeclGood ds → list_all const_judged (map (m.const_of types) (flat_map (named_constants g) ds)) ≡ true
   constants_pass ds kept =
-      pass_map const_judged (m.const_of types) (flat_map (named_constants g) ds) (gathered ConstGood Kept (named_constants g) constants_kept ds kept)
+      pass_map const_judged (m.const_of types) (flat_map (named_constants g) ds) (gathered ConstGood DeclGood (named_constants g) constants_kept ds kept)
 
-  pub functions_pass : (ds : List t.Decl) → Each Kept ds → list_all fun_judged (map (m.fun_of types) (flat_map (named_functions g) ds)) ≡ true
+  pub functions_pass : (ds : List t.Decl) → Each DeclGood ds → list_all fun_judged (map (m.fun_of types) (flat_map (named_functions g) ds)) ≡ true
   functions_pass ds kept =
-      pass_map fun_judged (m.fun_of types) (flat_map (named_functions g) ds) (gathered FunGood Kept (named_functions g) functions_kept ds kept)
+      pass_map fun_judged (m.fun_of types) (flat_map (named_functions g) ds) (gathered FunGood DeclGood (named_functions g) functions_kept ds kept)
 
-  pub axioms_pass : (ds : List t.Decl) → Each Kept ds → list_all is_judged_ex (map m.ex_of (flat_map (named_axioms g) ds)) ≡ true
+  pub axioms_pass : (ds : List t.Decl) → Each DeclGood ds → list_all is_judged_ex (map m.ex_of (flat_map (named_axioms g) ds)) ≡ true
   axioms_pass ds kept =
-      pass_map is_judged_ex m.ex_of (flat_map (named_axioms g) ds) (gathered AxiomGood Kept (named_axioms g) axioms_kept ds kept)
+      pass_map is_judged_ex m.ex_of (flat_map (named_axioms g) ds) (gathered AxiomGood DeclGood (named_axioms g) axioms_kept ds kept)
 
-  pub procedures_pass : (ds : List t.Decl) → Each Kept ds → list_all (proc_passes many (is_scalar_type true) is_judged_ex) (map (m.proc_of types) (in_turn (named_procedures g) 0 ds)) ≡ true
+  pub procedures_pass : (ds : List t.Decl) → Each DeclGood ds → list_all (proc_passes many (is_scalar_type true) is_judged_ex) (map (m.proc_of types) (in_turn (named_procedures g) 0 ds)) ≡ true
   procedures_pass ds kept =
-      pass_map (proc_passes many (is_scalar_type true) is_judged_ex) (m.proc_of types) (in_turn (named_procedures g) 0 ds) (gathered_in_turn ProcGood Kept (named_procedures g) procedures_kept 0 ds kept)
+      pass_map (proc_passes many (is_scalar_type true) is_judged_ex) (m.proc_of types) (in_turn (named_procedures g) 0 ds) (gathered_in_turn ProcGood DeclGood (named_procedures g) procedures_kept 0 ds kept)
 
-  pub implementations_pass : (ds : List t.Decl) → Each Kept ds → list_all (impl_passes many (is_scalar_type true) is_judged_ex) (map (m.impl_of types) (in_turn (named_implementations g) 0 ds)) ≡ true
+  pub implementations_pass : (ds : List t.Decl) → Each DeclGood ds → list_all (impl_passes many (is_scalar_type true) is_judged_ex) (map (m.impl_of types) (in_turn (named_implementations g) 0 ds)) ≡ true
   implementations_pass ds kept =
-      pass_map (impl_passes many (is_scalar_type true) is_judged_ex) (m.impl_of types) (in_turn (named_implementations g) 0 ds) (gathered_in_turn ImplGood Kept (named_implementations g) implementations_kept 0 ds kept)
+      pass_map (impl_passes many (is_scalar_type true) is_judged_ex) (m.impl_of types) (in_turn (named_implementations g) 0 ds) (gathered_in_turn ImplGood DeclGood (named_implementations g) implementations_kept 0 ds kept)
 
 program_good : (ds : List t.Decl) → Each DeclGood ds → plain_faults ds ≡ [] → is_judged (m.meaning_of (named ds)) ≡ true
 program_good ds good ok =
     let g = spaces_of ds in
-    let none = types_none ds good in
     let many = length (named ds).candidates in
     let fit = names_candidates ds ok in
-    let types = m.named_of (named ds).types in
-    let kept = kept_all g none many fit types ds good (split_nil (repeated ds) (flat_map (decl_faults g) ds) ok).1 in
-    both _ _ (globals_pass g none many fit types ds kept) (both _ _ (constants_pass g none many fit types ds kept) (both _ _ (functions_pass g none many fit types ds kept) (both _ _ (axioms_pass g none many fit types ds kept) (both _ _ (procedures_pass g none many fit types ds kept) (implementations_pass g none many fit types ds kept)))))
+    let news = flat_map (named_types g) ds in
+    let types = m.named_of news in
+    let all : AreGood types = within_good (suc (length news)) news (gathered NewGood DeclGood (named_types g) (types_good g) ds good) in
+    both _ _ (globals_pass g many fit types all ds good) (both _ _ (constants_pass g many fit types all ds good) (both _ _ (functions_pass g many fit types all ds good) (both _ _ (axioms_pass g many fit types all ds good) (both _ _ (procedures_pass g many fit types all ds good) (implementations_pass g many fit types all ds good)))))
 
 -- where each token is judged, the meaning is made of judged parts
 pub tokens_good : (ts : List Tok) (ds : List t.Decl) → AreJudged ts → Words ts (each decl_marks ds) → plain_faults ds ≡ [] → is_judged (m.meaning_of (named ds)) ≡ true

@@ -10,7 +10,7 @@ ghost use Rattle.bg_front.specs.Later.{AreJudged};
 ghost use Rattle.bg_front.specs.Programs.{IsMeaningOf, IsProgramOf};
 
 /// A program of which each token is judged is one of judged parts: its variables, constants, parameters and results, those of its functions
-/// among them, are truth values and whole numbers, and no map is read or changed.
+/// among them, are truth values, whole numbers and elements of user types, and no map is read or changed.
 pub fn judged_tokens_spell_judged_programs()
     ensures { (bytes : List ℕ) (ts : List Tok) (p : Program) → IsMeaningOf bytes ts p → AreJudged ts → is_judged (meaning_of p) ≡ true }
 {}

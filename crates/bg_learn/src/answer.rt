@@ -48,18 +48,20 @@ fn proof(e: &mut Engine<'_>, conflict: Reason) -> Result<Cert, AllocError> {
 /// holds. Never more nodes count than the limits allow; where more rows are tightened nothing is proposed; and time and memory are
 /// bounded by the limits and the formula. Clauses are learned from conflicts (Silva and Sakallah 1996), over atoms that are bounds of
 /// columns of a simplex (Dutertre and de Moura 2006); equalities that hold at the root are solved, and after some lemmas the dilemma
-/// rule (Sheeran and Stålmarck 1998) brings bounds and equalities (Karr 1976) that the ways of a branch have in common.
+/// rule (Sheeran and Stålmarck 1998) brings bounds and equalities (Karr 1976) that the ways of a branch have in common. The terms' values
+/// begin at their targets, whole numbers by the terms' numbers, 0 behind the list's end: so values that are found are mostly near them.
 pub fn propose(
     alloc: Global,
     f: &Clauses,
     set: &[bool],
+    targets: &[i128],
     limits: Limits,
 ) -> Result<Proposal, AllocError> {
     if f.atoms.len() > MOST_ATOMS {
         return Ok(Proposal::Nothing);
     }
     let mut e = new_engine(alloc, f, limits)?;
-    let end = search(&mut e, set)?;
+    let end = search(&mut e, set, targets)?;
     if e.counts.tightened > limits.rows {
         return Ok(Proposal::Nothing);
     }

@@ -2,6 +2,7 @@
 //! that are bounds of columns, with a simplex below. Nothing is proved of what it proposes; proved is that each call ends, and is safe.
 #![tactic(auto)]
 
+mod aim;
 mod answer;
 mod leaf;
 mod pairs;

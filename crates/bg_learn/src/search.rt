@@ -77,8 +77,8 @@ fn turn(e: &mut Engine<'_>) -> Result<Option<End>, AllocError> {
 }
 
 /// Searches until it is known, or the budget is used up.
-pub fn search(e: &mut Engine<'_>, set: &[bool]) -> Result<End, AllocError> {
-    if let Some(conflict) = start(e, set)? {
+pub fn search(e: &mut Engine<'_>, set: &[bool], targets: &[i128]) -> Result<End, AllocError> {
+    if let Some(conflict) = start(e, set, targets)? {
         return Ok(End::Closed(conflict));
     }
     for _ in 0..e.limits.nodes.saturating_mul(TURNS_PER_LEMMA) {

@@ -1,5 +1,6 @@
 //! The start: the clauses and units of the formula, the equalities that hold at the root, and the columns of its rows.
 
+use crate::aim::aim;
 use crate::pairs::solve_equalities;
 use bg_formula::{Atom, Literal};
 use bg_simplex::{Lit, Multiple};
@@ -190,8 +191,13 @@ fn add_all(e: &mut Engine<'_>, set: &[bool]) -> Result<Option<Reason>, AllocErro
     }
 }
 
-/// Brings the search to the root: all that follows from the formula and the set without a decision is true. Answers why it can't be.
-pub fn start(e: &mut Engine<'_>, set: &[bool]) -> Result<Option<Reason>, AllocError> {
+/// Brings the search to the root: all that follows from the formula and the set without a decision is true, and the terms' values begin
+/// at their targets. Answers why it can't be.
+pub fn start(
+    e: &mut Engine<'_>,
+    set: &[bool],
+    targets: &[i128],
+) -> Result<Option<Reason>, AllocError> {
     let found = add_all(e, set)?;
     if found.is_some() {
         return Ok(found);
@@ -201,6 +207,7 @@ pub fn start(e: &mut Engine<'_>, set: &[bool]) -> Result<Option<Reason>, AllocEr
     if found.is_some() {
         return Ok(found);
     }
+    aim(e, targets)?;
     e.trail.rows = 0;
     propagate(e)
 }

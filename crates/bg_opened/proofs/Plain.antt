@@ -1,4 +1,4 @@
--- Expressions in which no function is applied that has a body, and programs of these: they are over truth values and whole numbers.
+-- Expressions in which no function is applied that has a body, and programs of these: they are over truth values, whole numbers and elements.
 use Rattle.std.proofs.Common.{◌≡◌, ℕ, Bool, true, false, List, [], ◌∷◌, refl}
 use Rattle.std.specs.Prelude.{◌&&◌, not}
 use Rattle.std.specs.List.{list_all}

@@ -1,4 +1,4 @@
--- Programs that are judged: over truth values and whole numbers, with constants, functions, and axioms.
+-- Programs that are judged: over truth values, whole numbers and elements of user types, with constants, functions, and axioms.
 use Rattle.std.specs.Prelude.{Bool, true, false, ◌&&◌, Option, Some, None}
 use Rattle.std.specs.List.{list_all}
 use Rattle.bg_ast.specs.Syntax.{Ex, Exs, Number, Fact, Constant, Read, Not, Negative, Binary, Apply, Old, NoMore, More, Const, Fun, Prog}

@@ -25,7 +25,7 @@ pub fn opened_programs_have_the_same_places()
     ensures { (depth : ℕ) (p : Prog) → places (opened_program depth p) ≡ places p }
 {}
 
-/// An opened program is over truth values, whole numbers and functions on them without a body, typed, and its names are resolved.
+/// An opened program is over truth values, whole numbers, elements of user types and functions on them without a body, typed, and its names are resolved.
 pub fn opened_programs_are_over_scalars()
     ensures scalars { (depth : ℕ) (p : Prog) → IsOpenable depth p → is_over_scalars true (opened_program depth p) ≡ true }
     ensures typed { (depth : ℕ) (p : Prog) → IsOpenable depth p → IsTyped (opened_program depth p) }

@@ -6,6 +6,5 @@ pub mod Unapplied
 pub mod There
 pub mod Statements
 pub mod Bodies
-pub mod HeadForms
 pub mod UniqueSteps
 pub mod OpenedWhole

@@ -2,4 +2,4 @@ pub mod Views
 pub mod Desks
 pub mod Applied
 pub mod Axioms
-pub mod Scalars
+pub mod Constants

@@ -11,13 +11,11 @@ pub mod laws;
 mod nodes;
 mod passes;
 mod puts;
-mod scalars;
 mod stmts;
 mod types;
 mod uniques;
 mod whole;
 
 pub use axioms::axiom_program;
-pub use scalars::Scalar;
 pub use uniques::uniques_of;
 pub use whole::open_program;

@@ -1,4 +1,5 @@
 pub mod Limits
 pub mod Marks
 pub mod Near
+pub mod Nearest
 pub mod Upto

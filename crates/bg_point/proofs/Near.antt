@@ -1,10 +1,11 @@
 -- One more near value.
-use Rattle.std.proofs.Common.{◌≡◌, ℕ, zero, suc, ◌<◌, Bool, true, false, not, ◌&&◌, ◌||◌, List, [], ◌∷◌, ◌++◌, length, map, take, drop, get_or, ℤ, pos, negsuc, ◌+ℤ◌, ◌*ℤ◌, ◌≤ℤ◌, ◌<ℤ◌, ◌⊎◌, inl, inr, refl, sym, ap, ◌∙◌, arith, cond, nat_eq, subst}
-use Rattle.std.specs.Prelude.{Option, Some, None, Ok, int_le}
+use Rattle.std.proofs.Common.{◌≡◌, ℕ, zero, suc, ◌<◌, Bool, true, false, not, ◌&&◌, ◌||◌, List, [], ◌∷◌, ◌++◌, length, map, take, drop, get_or, ℤ, pos, ◌+ℤ◌, ◌-ℤ◌, ◌*ℤ◌, ◌≤ℤ◌, ◌<ℤ◌, ◌⊎◌, inl, inr, refl, sym, ap, ◌∙◌, arith, cond, nat_eq, subst}
+use Rattle.std.specs.Prelude.{Option, Some, None, Ok, int_lt, int_le}
+use Rattle.std.specs.Ordering.{int_eq}
 use Rattle.std.proofs.lemmas.Bool.{and_parts, and_from, not-true, or_cases, eqb-true, eq-eqb}
 use Rattle.std.proofs.lemmas.Int.{ints}
 use Rattle.bg_rows.specs.declared.entry.Entry.{Entry}
-use Rattle.bg_rows.specs.Entries.{is_zero, total, mentions}
+use Rattle.bg_rows.specs.Entries.{total, mentions}
 use Rattle.bg_rows.specs.Rows.{RowOf, Meets, holds, IsNormal}
 use Rattle.bg_rows.specs.Steps.{row_at}
 use Rattle.bg_elim.specs.Kept.{is_in, no_twice, none_before}
@@ -164,100 +165,96 @@ apart_drop (z ∷ ys) (suc i) y n lt h = apart_drop ys i y (and_parts (not (is_i
 
 -- ---- near values stay near
 
-toward_before : (order : List ℕ) (y : ℕ) (w : ℤ) (r : RowOf) → bounds_toward order y w r ≡ true → none_before order y r ≡ true
-toward_before order y (pos n) r h = (and_parts (none_before order y r) _ h).0
-toward_before order y (negsuc n) r h = (and_parts (none_before order y r) _ h).0
+toward_before : (order : List ℕ) (y : ℕ) (t w : ℤ) (r : RowOf) → bounds_toward order y t w r ≡ true → none_before order y r ≡ true
+toward_before order y t w r h = by_side (int_lt t w) h
+  where
+    by_side : (b : Bool) → cond b (bounds_below order y r) (bounds_above order y r) ≡ true → none_before order y r ≡ true
+    by_side true g = (and_parts (none_before order y r) _ g).0
+    by_side false g = (and_parts (none_before order y r) _ g).0
 
 holds_off : (v : ℕ → ℤ) (x y : ℕ) (z w : ℤ) (r : RowOf) → nat_eq y x ≡ false → mentions x r.entries ≡ false → holds (with_value (with_value v x z) y w) r ≡ holds (with_value v y w) r
 holds_off v x y z w r n m =
     ap (λ (f : ℕ → ℤ). holds f r) (changes_turn v x y z w n) ∙ ap (λ t. int_le t r.bound) (total_off (with_value v y w) x z r.entries m)
 
-keeps_same : (order : List ℕ) (v : ℕ → ℤ) (i y : ℕ) (z : ℤ) (o : Option RowOf) → no_twice order ≡ true → i < length order → is_in y (drop (suc i) order) ≡ true → keeps_out order v y o ≡ true → keeps_out order (with_value v (get_or order i 0) z) y o ≡ true
-keeps_same order v i y z None n lt h k = absurd (cc)
-keeps_same order v i y z (Some r) n lt h k =
+keeps_same : (targets : ℕ → ℤ) (order : List ℕ) (v : ℕ → ℤ) (i y : ℕ) (z : ℤ) (o : Option RowOf) → no_twice order ≡ true → i < length order → is_in y (drop (suc i) order) ≡ true → keeps_out targets order v y o ≡ true → keeps_out targets order (with_value v (get_or order i 0) z) y o ≡ true
+keeps_same targets order v i y z None n lt h k = absurd (cc)
+keeps_same targets order v i y z (Some r) n lt h k =
     let x = get_or order i 0 in
-    let p = and_parts (bounds_toward order y (v y) r) _ k in
-    let b = before_drop order i y r n lt h (toward_before order y (v y) r p.0) in
+    let p = and_parts (bounds_toward order y (targets y) (v y) r) _ k in
+    let b = before_drop order i y r n lt h (toward_before order y (targets y) (v y) r p.0) in
     let e : with_value v x z y ≡ v y = change_there v x y z b.1 in
-    let f : holds (with_value (with_value v x z) y (nearer (v y))) r ≡ holds (with_value v y (nearer (v y))) r = holds_off v x y z (nearer (v y)) r b.1 b.0 in
-    subst (λ (w : ℤ). (bounds_toward order y w r && not (holds (with_value (with_value v x z) y (nearer w)) r)) ≡ true) (sym e)
-    (and_from (bounds_toward order y (v y) r) _ p.0 (ap not f ∙ p.1))
+    let f : holds (with_value (with_value v x z) y (nearer (targets y) (v y))) r ≡ holds (with_value v y (nearer (targets y) (v y))) r = holds_off v x y z (nearer (targets y) (v y)) r b.1 b.0 in
+    subst (λ (w : ℤ). (bounds_toward order y (targets y) w r && not (holds (with_value (with_value v x z) y (nearer (targets y) w)) r)) ≡ true) (sym e)
+    (and_from (bounds_toward order y (targets y) (v y) r) _ p.0 (ap not f ∙ p.1))
 
-near_same : (order : List ℕ) (rows : List RowOf) (v : ℕ → ℤ) (i y : ℕ) (z : ℤ) (reason : ℕ) → no_twice order ≡ true → i < length order → is_in y (drop (suc i) order) ≡ true → is_near order rows v y reason ≡ true → is_near order rows (with_value v (get_or order i 0) z) y reason ≡ true
-near_same order rows v i y z reason n lt h k = by_case (or_cases (is_zero (v y)) (keeps_out order v y (row_at rows reason)) k)
+or_right : (a b : Bool) → b ≡ true → (a || b) ≡ true
+or_right true b g = refl
+or_right false b g = g
+
+near_same : (targets : ℕ → ℤ) (order : List ℕ) (rows : List RowOf) (v : ℕ → ℤ) (i y : ℕ) (z : ℤ) (reason : ℕ) → no_twice order ≡ true → i < length order → is_in y (drop (suc i) order) ≡ true → is_near targets order rows v y reason ≡ true → is_near targets order rows (with_value v (get_or order i 0) z) y reason ≡ true
+near_same targets order rows v i y z reason n lt h k = by_case (or_cases (int_eq (v y) (targets y)) (keeps_out targets order v y (row_at rows reason)) k)
   where
-    or_right : (a b : Bool) → b ≡ true → (a || b) ≡ true
-    or_right true b g = refl
-    or_right false b g = g
-
-    by_case : (is_zero (v y) ≡ true) ⊎ (keeps_out order v y (row_at rows reason) ≡ true) → is_near order rows (with_value v (get_or order i 0) z) y reason ≡ true
+    by_case : (int_eq (v y) (targets y) ≡ true) ⊎ (keeps_out targets order v y (row_at rows reason) ≡ true) → is_near targets order rows (with_value v (get_or order i 0) z) y reason ≡ true
     by_case (inl g) =
-        let e : is_zero (with_value v (get_or order i 0) z y) ≡ true = ap is_zero (change_there v (get_or order i 0) y z (apart_drop order i y n lt h)) ∙ g in
+        let e : int_eq (with_value v (get_or order i 0) z y) (targets y) ≡ true = ap (λ (w : ℤ). int_eq w (targets y)) (change_there v (get_or order i 0) y z (apart_drop order i y n lt h)) ∙ g in
         rw e refl
-    by_case (inr g) = or_right (is_zero (with_value v (get_or order i 0) z y)) _ (keeps_same order v i y z (row_at rows reason) n lt h g)
+    by_case (inr g) = or_right (int_eq (with_value v (get_or order i 0) z y) (targets y)) _ (keeps_same targets order v i y z (row_at rows reason) n lt h g)
 
 -- each spot's variable stands behind
 abbrev pub AllBehind : List ℕ → List Spot → Type 0
 AllBehind ys [] = Unit {0}
 AllBehind ys (s ∷ ss) = (is_in s.variable ys ≡ true) × AllBehind ys ss
 
-pub all_near_same : (order : List ℕ) (rows : List RowOf) (v : ℕ → ℤ) (i : ℕ) (z : ℤ) (ss : List Spot) → no_twice order ≡ true → i < length order → AllBehind (drop (suc i) order) ss → all_near order rows v ss ≡ true → all_near order rows (with_value v (get_or order i 0) z) ss ≡ true
-all_near_same order rows v i z [] n lt b k = refl
-all_near_same order rows v i z (s ∷ ss) n lt b k =
-    let p = and_parts (is_near order rows v s.variable s.reason) _ k in
-    and_from (is_near order rows (with_value v (get_or order i 0) z) s.variable s.reason) _ (near_same order rows v i s.variable z s.reason n lt b.0 p.0) (all_near_same order rows v i z ss n lt b.1 p.1)
+pub all_near_same : (targets : ℕ → ℤ) (order : List ℕ) (rows : List RowOf) (v : ℕ → ℤ) (i : ℕ) (z : ℤ) (ss : List Spot) → no_twice order ≡ true → i < length order → AllBehind (drop (suc i) order) ss → all_near targets order rows v ss ≡ true → all_near targets order rows (with_value v (get_or order i 0) z) ss ≡ true
+all_near_same targets order rows v i z [] n lt b k = refl
+all_near_same targets order rows v i z (s ∷ ss) n lt b k =
+    let p = and_parts (is_near targets order rows v s.variable s.reason) _ k in
+    and_from (is_near targets order rows (with_value v (get_or order i 0) z) s.variable s.reason) _ (near_same targets order rows v i s.variable z s.reason n lt b.0 p.0) (all_near_same targets order rows v i z ss n lt b.1 p.1)
 
-pub all_near_last : (order : List ℕ) (rows : List RowOf) (v : ℕ → ℤ) (ss : List Spot) (s : Spot) → all_near order rows v ss ≡ true → is_near order rows v s.variable s.reason ≡ true → all_near order rows v (ss ++ (s ∷ [])) ≡ true
-all_near_last order rows v [] s h k = and_from (is_near order rows v s.variable s.reason) true k refl
-all_near_last order rows v (t ∷ ss) s h k =
-    let p = and_parts (is_near order rows v t.variable t.reason) _ h in
-    and_from (is_near order rows v t.variable t.reason) _ p.0 (all_near_last order rows v ss s p.1 k)
+pub all_near_last : (targets : ℕ → ℤ) (order : List ℕ) (rows : List RowOf) (v : ℕ → ℤ) (ss : List Spot) (s : Spot) → all_near targets order rows v ss ≡ true → is_near targets order rows v s.variable s.reason ≡ true → all_near targets order rows v (ss ++ (s ∷ [])) ≡ true
+all_near_last targets order rows v [] s h k = and_from (is_near targets order rows v s.variable s.reason) true k refl
+all_near_last targets order rows v (t ∷ ss) s h k =
+    let p = and_parts (is_near targets order rows v t.variable t.reason) _ h in
+    and_from (is_near targets order rows v t.variable t.reason) _ p.0 (all_near_last targets order rows v ss s p.1 k)
 
 -- ---- the new value is near
 
 less_not : (z w : ℤ) → w <ℤ z → z ≤ℤ w → ⊥
 less_not z w h k = omega (arith, ints, h, k)
 
-near_below : (order : List ℕ) (rows : List RowOf) (v : ℕ → ℤ) (x n : ℕ) (reason : ℕ) (r : RowOf) → IsNormal r → row_at rows reason ≡ Some r → bounds_below order x r ≡ true → limit v x r ≡ Ok (pos (suc n)) → is_near order rows (with_value v x (pos (suc n))) x reason ≡ true
-near_below order rows v x n reason r nr at b l =
-    let no : Meets (with_value v x (pos n)) r → ⊥ = λ m. less_not (pos (suc n)) (pos n) (omega (arith, ints)) ((limit_below v x r (pos (suc n)) (pos n) nr (below_is order x r b) l).0 m) in
-    let f : holds (with_value (with_value v x (pos (suc n))) x (pos n)) r ≡ false = ap (λ (g : ℕ → ℤ). holds g r) (change_again v x (pos (suc n)) (pos n)) ∙ holds_not (with_value v x (pos n)) r no in
-    let k : keeps_out order (with_value v x (pos (suc n))) x (Some r) ≡ true =
-    subst (λ (w : ℤ). (bounds_toward order x w r && not (holds (with_value (with_value v x (pos (suc n))) x (nearer w)) r)) ≡ true) (sym (change_here v x (pos (suc n))))
-    (and_from (bounds_below order x r) _ b (ap not f)) in
-    rw at (or_right (is_zero (with_value v x (pos (suc n)) x)) _ k)
-  where
-    or_right : (a b : Bool) → b ≡ true → (a || b) ≡ true
-    or_right true b g = refl
-    or_right false b g = g
+near_below : (targets : ℕ → ℤ) (order : List ℕ) (rows : List RowOf) (v : ℕ → ℤ) (x : ℕ) (z : ℤ) (reason : ℕ) (r : RowOf) → IsNormal r → row_at rows reason ≡ Some r → bounds_below order x r ≡ true → limit v x r ≡ Ok z → targets x <ℤ z → is_near targets order rows (with_value v x z) x reason ≡ true
+near_below targets order rows v x z reason r nr at b l lt =
+    let w = z -ℤ pos 1 in
+    let no : Meets (with_value v x w) r → ⊥ = λ m. less_not z w (omega (arith, ints)) ((limit_below v x r z w nr (below_is order x r b) l).0 m) in
+    let f : holds (with_value (with_value v x z) x w) r ≡ false = ap (λ (g : ℕ → ℤ). holds g r) (change_again v x z w) ∙ holds_not (with_value v x w) r no in
+    let s : int_lt (targets x) z ≡ true = grind (arith, ints, lt) in
+    let k : keeps_out targets order (with_value v x z) x (Some r) ≡ true =
+    subst (λ (u : ℤ). (bounds_toward order x (targets x) u r && not (holds (with_value (with_value v x z) x (nearer (targets x) u)) r)) ≡ true) (sym (change_here v x z))
+    (rw s (and_from (bounds_below order x r) _ b (ap not f))) in
+    rw at (or_right (int_eq (with_value v x z x) (targets x)) _ k)
 
-near_above : (order : List ℕ) (rows : List RowOf) (v : ℕ → ℤ) (x n : ℕ) (reason : ℕ) (r : RowOf) → IsNormal r → row_at rows reason ≡ Some r → bounds_above order x r ≡ true → limit v x r ≡ Ok (negsuc n) → (w : ℤ) → nearer (negsuc n) ≡ w → negsuc n <ℤ w → is_near order rows (with_value v x (negsuc n)) x reason ≡ true
-near_above order rows v x n reason r nr at b l w e lt =
-    let no : Meets (with_value v x w) r → ⊥ = λ m. less_not w (negsuc n) lt ((limit_above v x r (negsuc n) w nr (above_is order x r b) l).0 m) in
-    let f : holds (with_value (with_value v x (negsuc n)) x w) r ≡ false = ap (λ (g : ℕ → ℤ). holds g r) (change_again v x (negsuc n) w) ∙ holds_not (with_value v x w) r no in
-    let g : holds (with_value (with_value v x (negsuc n)) x (nearer (negsuc n))) r ≡ false = ap (λ (u : ℤ). holds (with_value (with_value v x (negsuc n)) x u) r) e ∙ f in
-    let k : keeps_out order (with_value v x (negsuc n)) x (Some r) ≡ true =
-    subst (λ (w : ℤ). (bounds_toward order x w r && not (holds (with_value (with_value v x (negsuc n)) x (nearer w)) r)) ≡ true) (sym (change_here v x (negsuc n)))
-    (and_from (bounds_above order x r) _ b (ap not g)) in
-    rw at (or_right (is_zero (with_value v x (negsuc n) x)) _ k)
-  where
-    or_right : (a b : Bool) → b ≡ true → (a || b) ≡ true
-    or_right true b g = refl
-    or_right false b g = g
+near_above : (targets : ℕ → ℤ) (order : List ℕ) (rows : List RowOf) (v : ℕ → ℤ) (x : ℕ) (z : ℤ) (reason : ℕ) (r : RowOf) → IsNormal r → row_at rows reason ≡ Some r → bounds_above order x r ≡ true → limit v x r ≡ Ok z → z <ℤ targets x → is_near targets order rows (with_value v x z) x reason ≡ true
+near_above targets order rows v x z reason r nr at b l lt =
+    let w = z +ℤ pos 1 in
+    let no : Meets (with_value v x w) r → ⊥ = λ m. less_not w z (omega (arith, ints)) ((limit_above v x r z w nr (above_is order x r b) l).0 m) in
+    let f : holds (with_value (with_value v x z) x w) r ≡ false = ap (λ (g : ℕ → ℤ). holds g r) (change_again v x z w) ∙ holds_not (with_value v x w) r no in
+    let s : int_lt (targets x) z ≡ false = grind (arith, ints, lt) in
+    let t : int_lt z (targets x) ≡ true = grind (arith, ints, lt) in
+    let k : keeps_out targets order (with_value v x z) x (Some r) ≡ true =
+    subst (λ (u : ℤ). (bounds_toward order x (targets x) u r && not (holds (with_value (with_value v x z) x (nearer (targets x) u)) r)) ≡ true) (sym (change_here v x z))
+    (rw (s, t) (and_from (bounds_above order x r) _ b (ap not f))) in
+    rw at (or_right (int_eq (with_value v x z x) (targets x)) _ k)
 
-pub near_new : (order : List ℕ) (rows : List RowOf) (v : ℕ → ℤ) (x n : ℕ) (span : Span) (z : ℤ) (reason : ℕ) → ((m : ℕ) (r : RowOf) → row_at rows m ≡ Some r → IsNormal r) → IsSpan order rows v x n span → IsNearest span z reason → is_near order rows (with_value v x z) x reason ≡ true
-near_new order rows v x n span z reason normal s (inl e) =
-    let f : is_zero (with_value v x z x) ≡ true = ap is_zero (change_here v x z ∙ e) in
+pub near_new : (targets : ℕ → ℤ) (order : List ℕ) (rows : List RowOf) (v : ℕ → ℤ) (x n : ℕ) (span : Span) (z : ℤ) (reason : ℕ) → ((m : ℕ) (r : RowOf) → row_at rows m ≡ Some r → IsNormal r) → IsSpan order rows v x n span → IsNearest (targets x) span z reason → is_near targets order rows (with_value v x z) x reason ≡ true
+near_new targets order rows v x n span z reason normal s (inl e) =
+    let f : int_eq (with_value v x z x) (targets x) ≡ true = ap (λ (w : ℤ). int_eq w (targets x)) (change_here v x z ∙ e) ∙ same_is (targets x) in
     rw f refl
-near_new order rows v x n span (pos zero) reason normal s (inr (inl k)) = absurd (omega (arith, ints, k.0))
-near_new order rows v x n span (pos (suc m)) reason normal s (inr (inl k)) =
-    let q = s.low (mark_of (pos (suc m)) reason) k.1 in
-    near_below order rows v x m reason q.0 (normal reason q.0 q.1) q.1 q.2 q.3
-near_new order rows v x n span (negsuc m) reason normal s (inr (inl k)) = absurd (omega (arith, ints, k.0))
-near_new order rows v x n span (pos m) reason normal s (inr (inr k)) = absurd (omega (arith, ints, k.0))
-near_new order rows v x n span (negsuc zero) reason normal s (inr (inr k)) =
-    let q = s.up (mark_of (negsuc zero) reason) k.1 in
-    near_above order rows v x zero reason q.0 (normal reason q.0 q.1) q.1 q.2 q.3 (pos 0) refl (omega (arith, ints))
-near_new order rows v x n span (negsuc (suc m)) reason normal s (inr (inr k)) =
-    let q = s.up (mark_of (negsuc (suc m)) reason) k.1 in
-    near_above order rows v x (suc m) reason q.0 (normal reason q.0 q.1) q.1 q.2 q.3 (negsuc m) refl (omega (arith, ints))
+  where
+    same_is : (t : ℤ) → int_eq t t ≡ true
+    same_is t = grind (arith, ints)
+near_new targets order rows v x n span z reason normal s (inr (inl k)) =
+    let q = s.low (mark_of z reason) k.1 in
+    near_below targets order rows v x z reason q.0 (normal reason q.0 q.1) q.1 q.2 q.3 k.0
+near_new targets order rows v x n span z reason normal s (inr (inr k)) =
+    let q = s.up (mark_of z reason) k.1 in
+    near_above targets order rows v x z reason q.0 (normal reason q.0 q.1) q.1 q.2 q.3 k.0

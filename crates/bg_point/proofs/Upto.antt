@@ -40,9 +40,9 @@ pub record Ordered (order : List ℕ) (rows : List RowOf) : Type 0 where
   pub agree : (v : ℕ → ℤ) (x : ℕ) → MeetBehind v order x rows → BoundsAgree v order x rows
 
 -- the variables from place p on have near values, which meet the rows on them
-pub record Upto (order : List ℕ) (rows : List RowOf) (p : ℕ) (spots : List Spot) : Type 0 where
+pub record Upto (targets : ℕ → ℤ) (order : List ℕ) (rows : List RowOf) (p : ℕ) (spots : List Spot) : Type 0 where
   pub variables : map (λ s. s.variable) spots ≡ reverse (drop p order)
-  pub near : all_near order rows (value_of spots) spots ≡ true
+  pub near : all_near targets order rows (value_of spots) spots ≡ true
   pub meets : (n : ℕ) (r : RowOf) → row_at rows n ≡ Some r → free (take p order) r ≡ true → Meets (value_of spots) r
 
 -- ---- tests
@@ -144,8 +144,8 @@ bare_met : (v : ℕ → ℤ) (ts : List Entry) (b : ℤ) → ts ≡ [] → (is_e
 bare_met v [] b e h = grind (arith, ints, h)
 bare_met v (t ∷ ts) b e h = absurd (cc)
 
-pub at_start : (order : List ℕ) (rows : List RowOf) → Ordered order rows → Upto order rows (length order) []
-at_start order rows o = record {
+pub at_start : (targets : ℕ → ℤ) (order : List ℕ) (rows : List RowOf) → Ordered order rows → Upto targets order rows (length order) []
+at_start targets order rows o = record {
   variables = sym (ap reverse (drop_all (length order) order (omega arith)));
   near = refl;
   meets = λ n r e f.
@@ -161,8 +161,8 @@ only_free order i r n lt =
     ∙ sym (free_last (take i order) (get_or order i 0) r)
     ∙ ap (λ (z : List ℕ). free z r) (sym (take_more order i 0 lt) ∙ ap (λ k. take k order) (add-one i))
 
-pub are_near : (order : List ℕ) (rows : List RowOf) (i : ℕ) (spots : List Spot) → Ordered order rows → i < length order → Upto order rows (suc i) spots → AreNear order rows (get_or order i 0) spots
-are_near order rows i spots o lt u =
+pub are_near : (targets : ℕ → ℤ) (order : List ℕ) (rows : List RowOf) (i : ℕ) (spots : List Spot) → Ordered order rows → i < length order → Upto targets order rows (suc i) spots → AreNear targets order rows (get_or order i 0) spots
+are_near targets order rows i spots o lt u =
     let v = value_of spots in
     let x = get_or order i 0 in
     let m : (n : ℕ) (r : RowOf) → row_at rows n ≡ Some r → only_behind order x r ≡ true → Meets v r = λ n r e h. u.meets n r e (sym (only_free order i r o.once lt) ∙ h) in
@@ -196,20 +196,20 @@ at_least None z b f h = absurd h
 at_least (Some m) z b f h = let k = f m refl in omega (arith, ints, k, h)
 
 -- what the next value is
-pub record IsNextValue (order : List ℕ) (rows : List RowOf) (v : ℕ → ℤ) (x : ℕ) (s : Spot) : Type 0 where
+pub record IsNextValue (targets : ℕ → ℤ) (order : List ℕ) (rows : List RowOf) (v : ℕ → ℤ) (x : ℕ) (s : Spot) : Type 0 where
   pub variable : s.variable ≡ x
   pub span : Span
   pub is_span : IsSpan order rows v x (length rows) span
   pub within : Within span s.value
-  pub nearest : IsNearest span s.value s.reason
+  pub nearest : IsNearest (targets x) span s.value s.reason
 
 at_lt : (rows : List RowOf) (n : ℕ) (r : RowOf) → row_at rows n ≡ Some r → n < length rows
 at_lt [] n r h = absurd (cc)
 at_lt (q ∷ rows) zero r h = omega arith
 at_lt (q ∷ rows) (suc n) r h = let k = at_lt rows n r h in omega arith
 
-met_now : (order : List ℕ) (rows : List RowOf) (i : ℕ) (spots : List Spot) (span : Span) (z : ℤ) → Ordered order rows → i < length order → Upto order rows (suc i) spots → IsSpan order rows (value_of spots) (get_or order i 0) (length rows) span → Within span z → (n : ℕ) (r : RowOf) → row_at rows n ≡ Some r → free (take i order) r ≡ true → Meets (with_value (value_of spots) (get_or order i 0) z) r
-met_now order rows i spots span z o lt u s w n r e f =
+met_now : (targets : ℕ → ℤ) (order : List ℕ) (rows : List RowOf) (i : ℕ) (spots : List Spot) (span : Span) (z : ℤ) → Ordered order rows → i < length order → Upto targets order rows (suc i) spots → IsSpan order rows (value_of spots) (get_or order i 0) (length rows) span → Within span z → (n : ℕ) (r : RowOf) → row_at rows n ≡ Some r → free (take i order) r ≡ true → Meets (with_value (value_of spots) (get_or order i 0) z) r
+met_now targets order rows i spots span z o lt u s w n r e f =
     let v = value_of spots in
     let x = get_or order i 0 in
     let nr = o.normal n r e in
@@ -225,8 +225,8 @@ met_now order rows i spots span z o lt u s w n r e f =
     let k = u.meets n r e g in
     omega (arith, ints, total_off v x z r.entries m, k))
 
-pub next_upto : (order : List ℕ) (rows : List RowOf) (i : ℕ) (spots : List Spot) (s : Spot) → Ordered order rows → i < length order → Upto order rows (suc i) spots → IsNextValue order rows (value_of spots) (get_or order i 0) s → Upto order rows i (spots ++ (s ∷ []))
-next_upto order rows i spots s o lt u q =
+pub next_upto : (targets : ℕ → ℤ) (order : List ℕ) (rows : List RowOf) (i : ℕ) (spots : List Spot) (s : Spot) → Ordered order rows → i < length order → Upto targets order rows (suc i) spots → IsNextValue targets order rows (value_of spots) (get_or order i 0) s → Upto targets order rows i (spots ++ (s ∷ []))
+next_upto targets order rows i spots s o lt u q =
     let v = value_of spots in
     let x = get_or order i 0 in
     let z = s.value in
@@ -234,12 +234,12 @@ next_upto order rows i spots s o lt u q =
     let away2 : is_in s.variable (map (λ s. s.variable) spots) ≡ false = ap (λ y. is_in y (map (λ s. s.variable) spots)) q.variable ∙ away in
     let w : value_of (spots ++ (s ∷ [])) ≡ with_value v x z = value_last spots s away2 ∙ ap (λ y. with_value v y z) q.variable in
     let all : AllBehind (drop (suc i) order) spots = behind_from (drop (suc i) order) spots (λ y h. sym (in_reverse y (drop (suc i) order)) ∙ ap (is_in y) (sym u.variables) ∙ h) in
-    let old = all_near_same order rows v i z spots o.once lt all u.near in
-    let new : is_near order rows (with_value v x z) s.variable s.reason ≡ true = ap (λ y. is_near order rows (with_value v x z) y s.reason) q.variable ∙ near_new order rows v x (length rows) q.span z s.reason o.normal q.is_span q.nearest in
+    let old = all_near_same targets order rows v i z spots o.once lt all u.near in
+    let new : is_near targets order rows (with_value v x z) s.variable s.reason ≡ true = ap (λ y. is_near targets order rows (with_value v x z) y s.reason) q.variable ∙ near_new targets order rows v x (length rows) q.span z s.reason o.normal q.is_span q.nearest in
     record {
       variables = map_last spots ∙ ap (λ (ys : List ℕ). ys ++ (s.variable ∷ [])) u.variables ∙ ap (λ y. reverse (drop (suc i) order) ++ (y ∷ [])) q.variable ∙ sym (reverse_more x (drop (suc i) order)) ∙ ap reverse (sym (drop-cons order i 0 lt));
-      near = subst (λ (f : ℕ → ℤ). all_near order rows f (spots ++ (s ∷ [])) ≡ true) (sym w) (all_near_last order rows (with_value v x z) spots s old new);
-      meets = λ n r e f. subst (λ (g : ℕ → ℤ). Meets g r) (sym w) (met_now order rows i spots q.span z o lt u q.is_span q.within n r e f);
+      near = subst (λ (f : ℕ → ℤ). all_near targets order rows f (spots ++ (s ∷ [])) ≡ true) (sym w) (all_near_last targets order rows (with_value v x z) spots s old new);
+      meets = λ n r e f. subst (λ (g : ℕ → ℤ). Meets g r) (sym w) (met_now targets order rows i spots q.span z o lt u q.is_span q.within n r e f);
     }
   where
     map_last : (ss : List Spot) → map (λ s. s.variable) (ss ++ (s ∷ [])) ≡ map (λ s. s.variable) ss ++ (s.variable ∷ [])
@@ -248,8 +248,8 @@ next_upto order rows i spots s o lt u q =
 
 -- ---- no value
 
-pub next_gap : (order : List ℕ) (rows : List RowOf) (i : ℕ) (spots : List Spot) (span : Span) (l k : ℤ) (low up : ℕ) → Ordered order rows → i < length order → Upto order rows (suc i) spots → IsSpan order rows (value_of spots) (get_or order i 0) (length rows) span → span.low ≡ Some (mark_of l low) → span.up ≡ Some (mark_of k up) → k <ℤ l → IsGap order rows spots (get_or order i 0) k low up
-next_gap order rows i spots span l k low up o lt u s el eu less =
+pub next_gap : (targets : ℕ → ℤ) (order : List ℕ) (rows : List RowOf) (i : ℕ) (spots : List Spot) (span : Span) (l k : ℤ) (low up : ℕ) → Ordered order rows → i < length order → Upto targets order rows (suc i) spots → IsSpan order rows (value_of spots) (get_or order i 0) (length rows) span → span.low ≡ Some (mark_of l low) → span.up ≡ Some (mark_of k up) → k <ℤ l → IsGap targets order rows spots (get_or order i 0) k low up
+next_gap targets order rows i spots span l k low up o lt u s el eu less =
     let v = value_of spots in
     let x = get_or order i 0 in
     let a = s.low (mark_of l low) el in
@@ -258,13 +258,13 @@ next_gap order rows i spots span l k low up o lt u s el eu less =
     let nb : Meets (with_value v x (k +ℤ pos 1)) b.0 → ⊥ = λ m. let h = (limit_above v x b.0 k (k +ℤ pos 1) (o.normal up b.0 b.1) (above_is order x b.0 b.2) b.3).0 m in omega (arith, ints, h) in
     let ka : keeps_above order v x k (Some a.0) ≡ true = and_from (bounds_below order x a.0) _ a.2 (ap not (holds_not (with_value v x k) a.0 na)) in
     let kb : keeps_below order v x (k +ℤ pos 1) (Some b.0) ≡ true = and_from (bounds_above order x b.0) _ b.2 (ap not (holds_not (with_value v x (k +ℤ pos 1)) b.0 nb)) in
-    record { near = are_near order rows i spots o lt u; above = rw a.1 ka; below = rw b.1 kb }
+    record { near = are_near targets order rows i spots o lt u; above = rw a.1 ka; below = rw b.1 kb }
 
-pub next_far : (order : List ℕ) (rows : List RowOf) (i : ℕ) (spots : List Spot) (n : ℕ) (e : OutOfRange) → Ordered order rows → i < length order → Upto order rows (suc i) spots → IsRefused order rows (value_of spots) (get_or order i 0) n e → IsFar order rows spots (get_or order i 0) n e
-next_far order rows i spots n e o lt u r = record { near = are_near order rows i spots o lt u; refused = r.0; first = r.1 }
+pub next_far : (targets : ℕ → ℤ) (order : List ℕ) (rows : List RowOf) (i : ℕ) (spots : List Spot) (n : ℕ) (e : OutOfRange) → Ordered order rows → i < length order → Upto targets order rows (suc i) spots → IsRefused order rows (value_of spots) (get_or order i 0) n e → IsFar targets order rows spots (get_or order i 0) n e
+next_far targets order rows i spots n e o lt u r = record { near = are_near targets order rows i spots o lt u; refused = r.0; first = r.1 }
 
-pub at_end : (order : List ℕ) (rows : List RowOf) (spots : List Spot) → Upto order rows 0 spots → IsPoint order rows spots
-at_end order rows spots u = record { variables = u.variables; near = u.near; meets = all_from (value_of spots) rows (λ n r e. u.meets n r e refl) }
+pub at_end : (targets : ℕ → ℤ) (order : List ℕ) (rows : List RowOf) (spots : List Spot) → Upto targets order rows 0 spots → IsPoint targets order rows spots
+at_end targets order rows spots u = record { variables = u.variables; near = u.near; meets = all_from (value_of spots) rows (λ n r e. u.meets n r e refl) }
 
 -- ---- the rows that code holds
 
@@ -293,24 +293,24 @@ turn_of order p q x h le e g =
     let lt : q < length order = omega arith in
     record { is = omega arith; below = lt; here = g ∙ get_same order q x 0 lt }
 
-pub value_step : (order : List ℕ) (rows : List RowOf) (p x i : ℕ) (spots : List Spot) (s : Spot) → Ordered order rows → Turn order p x i → Upto order rows p spots → IsNext order rows (value_of spots) x (NextValue s) → Upto order rows i (spots ++ (s ∷ []))
-value_step order rows p x i spots s o t u n =
-    let w = subst (λ k. Upto order rows k spots) t.is u in
-    let m = subst (λ y. IsNext order rows (value_of spots) y (NextValue s)) t.here n in
-    next_upto order rows i spots s o t.below w (record { variable = m.0; span = m.1.0; is_span = m.1.1; within = m.1.2; nearest = m.1.3 })
+pub value_step : (targets : ℕ → ℤ) (order : List ℕ) (rows : List RowOf) (p x i : ℕ) (spots : List Spot) (s : Spot) → Ordered order rows → Turn order p x i → Upto targets order rows p spots → IsNext targets order rows (value_of spots) x (NextValue s) → Upto targets order rows i (spots ++ (s ∷ []))
+value_step targets order rows p x i spots s o t u n =
+    let w = subst (λ k. Upto targets order rows k spots) t.is u in
+    let m = subst (λ y. IsNext targets order rows (value_of spots) y (NextValue s)) t.here n in
+    next_upto targets order rows i spots s o t.below w (record { variable = m.0; span = m.1.0; is_span = m.1.1; within = m.1.2; nearest = m.1.3 })
 
-pub gap_step : (order : List ℕ) (rows : List RowOf) (p x i : ℕ) (spots : List Spot) (g : Gap) → Ordered order rows → Turn order p x i → Upto order rows p spots → IsNext order rows (value_of spots) x (NextEmpty g) → IsGap order rows spots g.variable g.below g.low g.up
-gap_step order rows p x i spots g o t u n =
-    let w = subst (λ k. Upto order rows k spots) t.is u in
-    let m = subst (λ y. IsNext order rows (value_of spots) y (NextEmpty g)) t.here n in
-    subst (λ y. IsGap order rows spots y g.below g.low g.up) (sym m.0)
-    (next_gap order rows i spots m.1.0 m.1.2.0 g.below g.low g.up o t.below w m.1.1 m.1.2.1 m.1.2.2 m.1.2.3)
+pub gap_step : (targets : ℕ → ℤ) (order : List ℕ) (rows : List RowOf) (p x i : ℕ) (spots : List Spot) (g : Gap) → Ordered order rows → Turn order p x i → Upto targets order rows p spots → IsNext targets order rows (value_of spots) x (NextEmpty g) → IsGap targets order rows spots g.variable g.below g.low g.up
+gap_step targets order rows p x i spots g o t u n =
+    let w = subst (λ k. Upto targets order rows k spots) t.is u in
+    let m = subst (λ y. IsNext targets order rows (value_of spots) y (NextEmpty g)) t.here n in
+    subst (λ y. IsGap targets order rows spots y g.below g.low g.up) (sym m.0)
+    (next_gap targets order rows i spots m.1.0 m.1.2.0 g.below g.low g.up o t.below w m.1.1 m.1.2.1 m.1.2.2 m.1.2.3)
 
-pub far_step : (order : List ℕ) (rows : List RowOf) (p x i : ℕ) (spots : List Spot) (f : Far) → Ordered order rows → Turn order p x i → Upto order rows p spots → IsNext order rows (value_of spots) x (Refused f) → IsFar order rows spots f.variable f.row f.operation
-far_step order rows p x i spots f o t u n =
-    let w = subst (λ k. Upto order rows k spots) t.is u in
-    let m = subst (λ y. IsNext order rows (value_of spots) y (Refused f)) t.here n in
-    subst (λ y. IsFar order rows spots y f.row f.operation) (sym m.0) (next_far order rows i spots f.row f.operation o t.below w m.1)
+pub far_step : (targets : ℕ → ℤ) (order : List ℕ) (rows : List RowOf) (p x i : ℕ) (spots : List Spot) (f : Far) → Ordered order rows → Turn order p x i → Upto targets order rows p spots → IsNext targets order rows (value_of spots) x (Refused f) → IsFar targets order rows spots f.variable f.row f.operation
+far_step targets order rows p x i spots f o t u n =
+    let w = subst (λ k. Upto targets order rows k spots) t.is u in
+    let m = subst (λ y. IsNext targets order rows (value_of spots) y (Refused f)) t.here n in
+    subst (λ y. IsFar targets order rows spots y f.row f.operation) (sym m.0) (next_far targets order rows i spots f.row f.operation o t.below w m.1)
 
 pub all_meet : (v : ℕ → ℤ) (rows : List RowOf) → holds_all v rows ≡ true → AllMeet v rows
 all_meet v [] h = tt
@@ -319,5 +319,5 @@ all_meet v (r ∷ rows) h =
     let m : Meets v r = grind (arith, ints, p.0) in
     (m, all_meet v rows p.1)
 
-pub point_meets : (given : List RowOf) (order : List ℕ) (rows : List RowOf) (spots : List Spot) → AllKept given rows → IsPoint order rows spots → AllMeet (value_of spots) given
-point_meets given order rows spots k p = suffices (value_of spots) given rows k (all_meet (value_of spots) rows p.meets)
+pub point_meets : (targets : ℕ → ℤ) (given : List RowOf) (order : List ℕ) (rows : List RowOf) (spots : List Spot) → AllKept given rows → IsPoint targets order rows spots → AllMeet (value_of spots) given
+point_meets targets given order rows spots k p = suffices (value_of spots) given rows k (all_meet (value_of spots) rows p.meets)

@@ -1,5 +1,5 @@
 -- What the rows looked at so far allow a variable.
-use Rattle.std.specs.Prelude.{◌≡◌, ℕ, ◌<◌, length, true, false, List, Option, Some, None, ℤ, pos, ◌≤ℤ◌, ◌<ℤ◌, ◌⊎◌, Ok, is_ok}
+use Rattle.std.specs.Prelude.{◌≡◌, ℕ, ◌<◌, length, true, false, List, Option, Some, None, ℤ, ◌≤ℤ◌, ◌<ℤ◌, ◌⊎◌, Ok, is_ok}
 use Rattle.bg_base.specs.declared.exact.OutOfRange.{OutOfRange}
 use Rattle.bg_rows.specs.Rows.{RowOf}
 use Rattle.bg_rows.specs.Steps.{row_at}
@@ -63,18 +63,18 @@ IsRefused order rows v x n e =
 abbrev pub Within : Span → ℤ → Type 0
 Within span z = ((m : Mark) → span.up ≡ Some m → z ≤ℤ m.value) × ((m : Mark) → span.low ≡ Some m → m.value ≤ℤ z)
 
--- the value is 0, or the limit on its side of 0
-abbrev pub IsNearest : Span → ℤ → ℕ → Type 0
-IsNearest span z reason =
-    (z ≡ pos 0) ⊎ (((pos 0 <ℤ z) × (span.low ≡ Some (mark_of z reason))) ⊎ ((z <ℤ pos 0) × (span.up ≡ Some (mark_of z reason))))
+-- the value is the target, or the limit on its side of that
+abbrev pub IsNearest : ℤ → Span → ℤ → ℕ → Type 0
+IsNearest t span z reason =
+    (z ≡ t) ⊎ (((t <ℤ z) × (span.low ≡ Some (mark_of z reason))) ⊎ ((z <ℤ t) × (span.up ≡ Some (mark_of z reason))))
 
-abbrev pub IsChoice : Span → Choice → Type 0
-IsChoice span (Value m) = Within span m.value × IsNearest span m.value m.row
-IsChoice span (Empty k low up) = (l : ℤ) × (span.low ≡ Some (mark_of l low)) × (span.up ≡ Some (mark_of k up)) × (k <ℤ l)
+abbrev pub IsChoice : ℤ → Span → Choice → Type 0
+IsChoice t span (Value m) = Within span m.value × IsNearest t span m.value m.row
+IsChoice t span (Empty k low up) = (l : ℤ) × (span.low ≡ Some (mark_of l low)) × (span.up ≡ Some (mark_of k up)) × (k <ℤ l)
 
-abbrev pub IsNext : List ℕ → List RowOf → (ℕ → ℤ) → ℕ → Next → Type 0
-IsNext order rows v x (NextValue s) =
-    (s.variable ≡ x) × ((span : Span) × IsSpan order rows v x (length rows) span × Within span s.value × IsNearest span s.value s.reason)
-IsNext order rows v x (NextEmpty g) =
-    (g.variable ≡ x) × ((span : Span) × IsSpan order rows v x (length rows) span × IsChoice span (Empty g.below g.low g.up))
-IsNext order rows v x (Refused f) = (f.variable ≡ x) × IsRefused order rows v x f.row f.operation
+abbrev pub IsNext : (ℕ → ℤ) → List ℕ → List RowOf → (ℕ → ℤ) → ℕ → Next → Type 0
+IsNext targets order rows v x (NextValue s) =
+    (s.variable ≡ x) × ((span : Span) × IsSpan order rows v x (length rows) span × Within span s.value × IsNearest (targets x) span s.value s.reason)
+IsNext targets order rows v x (NextEmpty g) =
+    (g.variable ≡ x) × ((span : Span) × IsSpan order rows v x (length rows) span × IsChoice (targets x) span (Empty g.below g.low g.up))
+IsNext targets order rows v x (Refused f) = (f.variable ≡ x) × IsRefused order rows v x f.row f.operation

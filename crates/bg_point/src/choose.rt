@@ -1,11 +1,11 @@
-//! The value nearest to 0 in a span.
+//! The value nearest to a target in a span.
 ghost use Rattle.bg_point.specs.Spans.{IsChoice};
 
 use crate::span::{Choice, Mark, Span};
 
-/// The whole number nearest to 0 between the two limits; or the gap where there is none.
-pub fn choose(span: Span) -> Choice
-    ensures { IsChoice span result }
+/// The whole number nearest to a target between the two limits; or the gap where there is none.
+pub fn choose(target: i128, span: Span) -> Choice
+    ensures { IsChoice target span result }
 {
     if let Some(low) = span.low {
         if let Some(up) = span.up {
@@ -17,14 +17,17 @@ pub fn choose(span: Span) -> Choice
                 };
             }
         }
-        if low.value > 0 {
+        if low.value > target {
             return Choice::Value(low);
         }
     }
     if let Some(up) = span.up {
-        if up.value < 0 {
+        if up.value < target {
             return Choice::Value(up);
         }
     }
-    Choice::Value(Mark { value: 0, row: 0 })
+    Choice::Value(Mark {
+        value: target,
+        row: 0,
+    })
 }

@@ -2,7 +2,7 @@
 ghost use Rattle.std.specs.Prelude.{◌≡◌, List, map, IfOk};
 ghost use Rattle.bg_rows.specs.Rows.{RowOf, row_of};
 ghost use Rattle.bg_elim.specs.Answers.{SolvedBy};
-ghost use Rattle.bg_point.specs.Points.{value_of};
+ghost use Rattle.bg_point.specs.Points.{value_of, target_of};
 ghost use Rattle.bg_point.specs.Spans.{IsNext};
 ghost use Rattle.bg_point.specs.Answers.{IsPlaced};
 
@@ -24,9 +24,19 @@ fn spot(x: u32, mark: &Mark) -> Spot
     }
 }
 
-/// The next value: the nearest to 0 that the rows allow the variable.
-fn next(order: &Order, spots: &[Spot], x: u32) -> Next
-    ensures { IsNext order.now.variables.items (map row_of order.now.rows.items) (value_of spots.now) x result }
+/// The target of a variable; 0 where the list has ended.
+fn target_of(targets: &[i128], x: u32) -> i128
+    ensures { result ≡ target_of targets.now x }
+{
+    match targets.get(x as usize) {
+        Some(z) => *z,
+        None => 0,
+    }
+}
+
+/// The next value: the nearest to its target that the rows allow the variable.
+fn next(order: &Order, targets: &[i128], spots: &[Spot], x: u32) -> Next
+    ensures { IsNext (target_of targets.now) order.now.variables.items (map row_of order.now.rows.items) (value_of spots.now) x result }
 {
     match span_of(&order.variables, spots, x, &order.rows) {
         Err((row, operation)) => Next::Refused(Far {
@@ -34,7 +44,7 @@ fn next(order: &Order, spots: &[Spot], x: u32) -> Next
             row,
             operation,
         }),
-        Ok(span) => match choose(span) {
+        Ok(span) => match choose(target_of(targets, x), span) {
             Choice::Value(mark) => Next::Value(spot(x, &mark)),
             Choice::Empty { below, low, up } => Next::Empty(Gap {
                 variable: x,
@@ -47,18 +57,19 @@ fn next(order: &Order, spots: &[Spot], x: u32) -> Next
 }
 
 /// A near point, read off an order from its last variable on: each variable has the whole number
-/// nearest to 0 that the kept rows without earlier variables allow. A gap where they allow none;
-/// or the first operation that leaves 128 bits.
-pub fn point(alloc: Global, order: &Order) -> Result<Placed, AllocError>
+/// nearest to its target that the kept rows without earlier variables allow. A gap where they allow
+/// none; or the first operation that leaves 128 bits. The targets are any numbers of 128 bits, one
+/// for each variable by its number; a variable behind the end of the list has target 0.
+pub fn point(alloc: Global, order: &Order, targets: &[i128]) -> Result<Placed, AllocError>
     requires solved { (given : List RowOf) × SolvedBy given order.now }
-    ensures { IfOk result (λ p. IsPlaced order.now p) }
+    ensures { IfOk result (λ p. IsPlaced (target_of targets.now) order.now p) }
 {
     let mut spots = Vec::new(alloc);
     let mut i = order.variables.len();
     while i > 0 {
         i -= 1;
         let x = order.variables[i];
-        match next(order, &spots, x) {
+        match next(order, targets, &spots, x) {
             Next::Value(spot) => spots.push(spot)?,
             Next::Empty(gap) => return Ok(Placed::Split(spots, gap)),
             Next::Refused(far) => return Ok(Placed::Unknown(spots, far)),

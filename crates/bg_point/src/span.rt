@@ -16,7 +16,7 @@ pub struct Span {
     pub up: Option<Mark>,
 }
 
-/// The value nearest to 0 in a span, with the row that keeps it from 0; or that there is none.
+/// The value nearest to a target in a span, with the row that keeps it from that; or that there is none.
 #[derive(Clone, Copy)]
 pub enum Choice {
     Value(Mark),

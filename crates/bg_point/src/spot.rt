@@ -2,8 +2,8 @@
 
 use bg_base::OutOfRange;
 
-/// A variable with its value, and the number of the kept row that keeps it from 0, where the value
-/// isn't 0.
+/// A variable with its value, and the number of the kept row that keeps it from its target, where
+/// the value isn't that.
 #[derive(Clone, Copy)]
 pub struct Spot {
     pub variable: u32,

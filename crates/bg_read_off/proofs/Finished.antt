@@ -1,18 +1,16 @@
--- Leaves whose terms are applications on scalars.
-use Rattle.std.proofs.Common.{◌≡◌, ℕ, zero, suc, Bool, true, false, List, [], ◌∷◌, Option, Some, None, refl, sym, ap, ◌∙◌, subst}
-use Rattle.std.specs.Prelude.{slice_get, ◌&&◌, if◌then◌else◌}
-use Rattle.bg_ast.specs.Values.{Val, Ty, IntTy, BoolTy, UserTy, MapTy, is_of, truth_of}
+-- Leaves whose terms are applications, without maps.
+use Rattle.std.proofs.Common.{◌≡◌, ℕ, zero, suc, Bool, true, false, List, [], ◌∷◌, Option, Some, None, refl, sym, ap, ◌∙◌}
+use Rattle.std.specs.Prelude.{slice_get, not, ◌&&◌, if◌then◌else◌}
+use Rattle.bg_ast.specs.Values.{Val, Ty, MapTy, is_map, truth_of}
 use Rattle.bg_ast.specs.Syntax.{Ex, Fact}
 use Rattle.bg_sense.specs.Eval.{ev}
 use Rattle.bg_sense.proofs.Bools.{and_left, and_right}
 use Rattle.bg_terms.specs.Terms.{Head, Applies, Selects, Updates, Differs, Term, over}
-use Rattle.bg_terms.specs.Alike.{is_scalar, scalar_ty}
-use Rattle.bg_terms.specs.Built.{built}
 use Rattle.bg_terms.specs.Closed.{IsFinished, is_differs}
 use Rattle.bg_terms.specs.Instances.{accesses, at_index_of, elsewhere_of, at_index, elsewhere}
 use Rattle.bg_terms.specs.Tables.{is_application}
-use Rattle.bg_terms.proofs.Closed.{int_of, bool_of}
-use Rattle.bg_read_off.specs.Leaves.{are_scalar, AreApplications, AreCongruent}
+use Rattle.bg_flat.specs.Mapless.{are_mapless}
+use Rattle.bg_read_off.specs.Leaves.{AreApplications, AreCongruent}
 
 applies : (h : Head) → is_application h ≡ true → (f : ℕ) × (h ≡ Applies f)
 applies (Applies f) e = (f, refl)
@@ -30,14 +28,14 @@ no_part h e = ap is_differs (applies h e).1
 no_access : (h k : Head) → is_application h ≡ true → accesses h k ≡ false
 no_access h k e = ap (λ x. accesses x k) (applies h e).1
 
-no_map : (ks : List _) (t : Ty) (tys : List Ty) (j : ℕ) → are_scalar tys ≡ true → slice_get tys j ≡ Some (MapTy ks t) → ⊥
+pub no_map : (ks : List _) (t : Ty) (tys : List Ty) (j : ℕ) → are_mapless tys ≡ true → slice_get tys j ≡ Some (MapTy ks t) → ⊥
 no_map ks t [] j h e = let bad : ⊥ = cc in bad
 no_map ks t (u ∷ tys) zero h e =
     let same : u ≡ MapTy ks t = cc in
-    let never = sym (ap is_scalar same) ∙ and_left (is_scalar u) (are_scalar tys) h in
+    let never = sym (ap (λ x. not (is_map x)) same) ∙ and_left (not (is_map u)) (are_mapless tys) h in
     let bad : ⊥ = cc in
     bad
-no_map ks t (u ∷ tys) (suc j) h e = no_map ks t tys j (and_right (is_scalar u) (are_scalar tys) h) e
+no_map ks t (u ∷ tys) (suc j) h e = no_map ks t tys j (and_right (not (is_map u)) (are_mapless tys) h) e
 
 module _ (s : List Val) (n : ℕ) (ts : List Term) (plain : AreApplications ts) where
   abbrev holds : Ex → Bool
@@ -60,32 +58,12 @@ module _ (s : List Val) (n : ℕ) (ts : List Term) (plain : AreApplications ts) 
   there_true u a b (Some t) (Some x) (Some y) e =
       not_said (accesses t.head x.head && accesses t.head y.head) (elsewhere_of n u a b t.args x.args y.args) (ap (λ c. c && accesses t.head y.head) (no_access t.head x.head (plain u t e)))
 
-  pub finished : (tys : List Ty) → are_scalar tys ≡ true → AreCongruent s n ts → IsFinished s n ts tys
-  finished tys scalar congruent =
+  pub finished : (tys : List Ty) → are_mapless tys ≡ true → AreCongruent s n ts → IsFinished s n ts tys
+  finished tys mapless congruent =
       record {
         congruent = congruent;
         at_index = λ u a. here_true u a (slice_get ts u) (slice_get ts a) refl;
         elsewhere = λ u a b. there_true u a b (slice_get ts u) (slice_get ts a) (slice_get ts b) refl;
         closed = λ u a ks t m v qs e h g. absurd (no_update a.head ks t (plain u a e) h);
-        apart = λ j k ks t e f o. absurd (no_map ks t tys j scalar e);
+        apart = λ j k ks t e f o. absurd (no_map ks t tys j mapless e);
       }
-
--- ---- what stands for a scalar is the scalar
-
-pub same_scalar : (tys : List Ty) (j : ℕ) (t : Ty) → are_scalar tys ≡ true → slice_get tys j ≡ Some t → is_scalar t ≡ true
-same_scalar [] j t h e = absurd (let bad : ⊥ = cc in bad)
-same_scalar (u ∷ tys) zero t h e =
-    let same : u ≡ t = cc in subst (λ x. is_scalar x ≡ true) same (and_left (is_scalar u) (are_scalar tys) h)
-same_scalar (u ∷ tys) (suc j) t h e = same_scalar tys j t (and_right (is_scalar u) (are_scalar tys) h) e
-
-pub its_own_type : (t : Ty) → is_scalar t ≡ true → scalar_ty t ≡ t
-its_own_type IntTy e = refl
-its_own_type BoolTy e = refl
-its_own_type (UserTy u) e = absurd (let bad : ⊥ = cc in bad)
-its_own_type (MapTy ks t) e = absurd (let bad : ⊥ = cc in bad)
-
-pub built_itself : (s : List Val) (n : ℕ) (ts : List Term) (t : Ty) (v : Val) → is_scalar t ≡ true → is_of t v ≡ true → v ≡ built s n ts t v
-built_itself s n ts IntTy v e h = int_of v h
-built_itself s n ts BoolTy v e h = bool_of v h
-built_itself s n ts (UserTy u) v e h = absurd (let bad : ⊥ = cc in bad)
-built_itself s n ts (MapTy ks t) v e h = absurd (let bad : ⊥ = cc in bad)

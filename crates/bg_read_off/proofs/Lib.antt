@@ -1,3 +1,4 @@
 pub mod Entries
 pub mod Read
 pub mod Finished
+pub mod Standing

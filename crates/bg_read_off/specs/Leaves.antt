@@ -1,17 +1,17 @@
--- Leaves whose terms are applications of functions on truth values and whole numbers.
-use Rattle.std.specs.Prelude.{◌≡◌, ℕ, pos, Bool, true, ◌&&◌, List, [], ◌∷◌, Some, slice_get}
+-- Leaves whose terms are applications of functions.
+use Rattle.std.specs.Prelude.{◌≡◌, ℕ, pos, true, List, Some, slice_get}
 use Rattle.bg_ast.specs.Values.{Val, Num, Ty, truth_of}
 use Rattle.bg_ast.specs.Syntax.{Fun}
-use Rattle.bg_sense.specs.Eval.{ev, default_result}
+use Rattle.bg_sense.specs.Eval.{value_at, ev, default_result}
 use Rattle.bg_terms.specs.Terms.{Head, Applies, Term, over}
-use Rattle.bg_terms.specs.Alike.{is_scalar}
+use Rattle.bg_terms.specs.Built.{built}
 use Rattle.bg_terms.specs.Instances.{Congruent, instance_ex}
 use Rattle.bg_terms.specs.Tables.{is_application}
 
--- whether all are `int` or `bool`
-abbrev pub are_scalar : List Ty → Bool
-are_scalar [] = true
-are_scalar (t ∷ ts) = is_scalar t && are_scalar ts
+-- behind these scalars of incarnations and terms of these types stand these values
+abbrev pub AreBuilt : ℕ → List Term → List Ty → (s w : List Val) → Type 0
+AreBuilt n ts tys s w =
+    (j : ℕ) (t : Ty) → slice_get tys j ≡ Some t → value_at w j ≡ built s n ts t (value_at s j)
 
 -- each term is an application
 abbrev pub AreApplications : List Term → Type 0

@@ -1,5 +1,5 @@
-//! Leaves of flat blocks over functions on truth values and whole numbers: the interpretation that is read off. The crate has definitions
-//! and laws alone.
+//! Leaves of flat blocks without maps: the values behind their scalars, and the interpretation that is read off these. The crate has
+//! definitions and laws alone.
 #![tactic(auto)]
 
 pub mod laws;

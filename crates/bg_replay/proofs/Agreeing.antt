@@ -20,7 +20,7 @@ use Rattle.bg_scalar.specs.Choices.{choice_of}
 use Rattle.bg_scalar.specs.declared.choice.Choice.{Choice}
 use Rattle.bg_scalar.specs.declared.choice.Choice.TheVariants as choice
 use Rattle.bg_scalar.specs.declared.scalar.Scalar.{Scalar}
-use Rattle.bg_scalar.specs.declared.scalar.Scalar.TheVariants.{Truth, Number}
+use Rattle.bg_scalar.specs.declared.scalar.Scalar.TheVariants.{Truth, Number, Element}
 use Rattle.bg_scalar.specs.declared.scalar.Worth.{Worth}
 use Rattle.bg_scalar.specs.declared.scalar.Worth.TheVariants as worths
 use Rattle.bg_scalar.proofs.Agreeing as scalar
@@ -56,6 +56,7 @@ ensure_is : (o : Worth) (x : Val) (s : e.Spot) (m : Moment) → scalar.Agrees o 
 ensure_is (worths.Is (Truth true)) x s m h = rw h refl
 ensure_is (worths.Is (Truth false)) x s m h = rw h refl
 ensure_is (worths.Is (Number z)) x s m h = tt
+ensure_is (worths.Is (Element u z)) x s m h = tt
 ensure_is (worths.Leaves o) x s m h = tt
 ensure_is worths.NoScalar x s m h = tt
 
@@ -63,6 +64,7 @@ suppose_is : (o : Worth) (x : Val) (m : Moment) → scalar.Agrees o x → Said_i
 suppose_is (worths.Is (Truth true)) x m h = rw h refl
 suppose_is (worths.Is (Truth false)) x m h = rw h refl
 suppose_is (worths.Is (Number z)) x m h = tt
+suppose_is (worths.Is (Element u z)) x m h = tt
 suppose_is (worths.Leaves o) x m h = tt
 suppose_is worths.NoScalar x m h = tt
 
@@ -83,12 +85,16 @@ put_each_is (x ∷ xs) (y ∷ ys) m = ap (v.put_all xs (map val_of ys)) (put_is 
 pub holds_is : (t : Ty) (x : Scalar) → holds (holding_of t) x ≡ is_of t (val_of x)
 holds_is IntTy (Truth b) = refl
 holds_is IntTy (Number z) = refl
+holds_is IntTy (Element n z) = refl
 holds_is BoolTy (Truth b) = refl
 holds_is BoolTy (Number z) = refl
+holds_is BoolTy (Element n z) = refl
 holds_is (UserTy k) (Truth b) = refl
 holds_is (UserTy k) (Number z) = refl
+holds_is (UserTy k) (Element n z) = refl
 holds_is (MapTy ks t) (Truth b) = refl
 holds_is (MapTy ks t) (Number z) = refl
+holds_is (MapTy ks t) (Element n z) = refl
 
 take_if : (a b : Bool) (x : Scalar) (m : Moment) (g : Scalar → Moment → Out) (w : Flow) → a ≡ b → Agrees (g x m) w → Agrees (choose_by (if a then Some x else None) m g) (if b then w else f.Over BadChoice)
 take_if true true x m g w h k = k

@@ -1,6 +1,6 @@
 -- Where a run over scalars meets an operation that leaves the range, it is the first that does.
 use Rattle.std.proofs.Common.{◌≡◌, ℕ, zero, suc, ℤ, Bool, true, false, List, [], ◌∷◌, ◌++◌, Option, Some, None, refl, sym, ap, ◌∙◌, subst, append_assoc}
-use Rattle.std.specs.Prelude.{if◌then◌else◌, slice_get, ◌+ℤ◌, ◌-ℤ◌, ◌*ℤ◌, neg_ℤ, pos, Ok, Err}
+use Rattle.std.specs.Prelude.{◌==◌, if◌then◌else◌, slice_get, ◌+ℤ◌, ◌-ℤ◌, ◌*ℤ◌, neg_ℤ, pos, Ok, Err}
 use Rattle.bg_base.specs.Exact.{fits, exactly}
 use Rattle.bg_base.specs.declared.exact.Op as exact
 use Rattle.bg_base.specs.declared.exact.Op.TheVariants as arith
@@ -14,13 +14,13 @@ use Rattle.bg_sense.specs.Flow.{Answer, Blocked, Failed}
 use Rattle.bg_sense.specs.Clauses.{is_kept}
 use Rattle.bg_flow.specs.Core.{Demand, Saying, Plan, Cmd, Check, Suppose, Forget, Put, Perform, Finish}
 use Rattle.bg_flow.specs.Blocks.{Exit, Leap, Either, Block}
-use Rattle.bg_scalar.specs.Worths.{Seen, and_then, exact, takes, on_truths, on_numbers, operate, joined, not_on, minus_on, known, at_entry, and_then_all, worth}
+use Rattle.bg_scalar.specs.Worths.{Seen, and_then, exact, takes, on_truths, on_numbers, on_elements, operate, joined, not_on, minus_on, known, at_entry, and_then_all, worth}
 use Rattle.bg_scalar.specs.Tables.{TableOf, told}
 use Rattle.bg_scalar.specs.Lists as lists
 use Rattle.bg_scalar.specs.Lists.{Listed, Are, Leave, NoScalars, worths}
 use Rattle.bg_scalar.specs.Values.{val_of, MeanTables, scope_in}
 use Rattle.bg_scalar.specs.declared.scalar.Scalar.{Scalar}
-use Rattle.bg_scalar.specs.declared.scalar.Scalar.TheVariants.{Truth, Number}
+use Rattle.bg_scalar.specs.declared.scalar.Scalar.TheVariants.{Truth, Number, Element}
 use Rattle.bg_scalar.specs.declared.scalar.Worth.{Worth}
 use Rattle.bg_scalar.specs.declared.scalar.Worth.TheVariants as w
 use Rattle.bg_scalar.proofs.Agreeing.{worth_is}
@@ -100,11 +100,33 @@ numbers_fine s.Plus x y xs h = last_one arith.Plus x y (x +ℤ y) xs refl h
 numbers_fine s.Minus x y xs h = last_one arith.Minus x y (x -ℤ y) xs refl h
 numbers_fine s.Times x y xs h = last_one arith.Times x y (x *ℤ y) xs refl h
 
+-- elements of one type, if they are
+elements_fine : (o : s.Op) (same : Bool) (x y : ℤ) (xs : List Operation) → first_outside xs ≡ None → Worthy (if same then on_elements o x y else w.NoScalar) (xs ++ operation o x y)
+elements_fine o false x y xs h = tt
+elements_fine s.And true x y xs h = tt
+elements_fine s.Or true x y xs h = tt
+elements_fine s.Implies true x y xs h = tt
+elements_fine s.Iff true x y xs h = tt
+elements_fine s.Equal true x y xs h = no_more xs h
+elements_fine s.Unequal true x y xs h = no_more xs h
+elements_fine s.Less true x y xs h = tt
+elements_fine s.AtMost true x y xs h = tt
+elements_fine s.Greater true x y xs h = tt
+elements_fine s.AtLeast true x y xs h = tt
+elements_fine s.Plus true x y xs h = tt
+elements_fine s.Minus true x y xs h = tt
+elements_fine s.Times true x y xs h = tt
+
 operates : (o : s.Op) (x y : Scalar) (xs : List Operation) → first_outside xs ≡ None → Worthy (operate o x y) (xs ++ operation o (number_of (val_of x)) (number_of (val_of y)))
 operates o (Truth a) (Truth b) xs h = truths_fine o a b _ _ xs h
 operates o (Truth a) (Number y) xs h = tt
+operates o (Truth a) (Element u y) xs h = tt
 operates o (Number x) (Truth b) xs h = tt
 operates o (Number x) (Number y) xs h = numbers_fine o x y xs h
+operates o (Number x) (Element u y) xs h = tt
+operates o (Element t x) (Truth b) xs h = tt
+operates o (Element t x) (Number y) xs h = tt
+operates o (Element t x) (Element u y) xs h = elements_fine o (t == u) x y xs h
 
 module _ (fs : ℕ → List Val → Val) (cs : List Val) where
   abbrev sees : Seen → Scope
@@ -143,6 +165,7 @@ module _ (fs : ℕ → List Val → Val) (cs : List Val) where
   denies : (x : Worth) (os : List Operation) → Worthy x os → Worthy (and_then x not_on) os
   denies (w.Is (Truth b)) os h = h
   denies (w.Is (Number z)) os h = tt
+  denies (w.Is (Element u z)) os h = tt
   denies (w.Leaves o) os h = h
   denies w.NoScalar os h = tt
 
@@ -151,6 +174,7 @@ module _ (fs : ℕ → List Val → Val) (cs : List Val) where
   negates e c mean (w.Is (Number z)) k h =
       subst (λ y. Worthy (minus_on (Number z)) (operations e (sees c) ++ (record { op = arith.Negate; a = number_of y; b = pos 0 } ∷ []))) (sym (value e c (Number z) mean k))
       (last_one arith.Negate z (pos 0) (neg_ℤ z) (operations e (sees c)) refl h)
+  negates e c mean (w.Is (Element u z)) k h = tt
   negates e c mean (w.Leaves o) k h =
       some_then (operations e (sees c)) (record { op = arith.Negate; a = number_of (ev e (sees c)); b = pos 0 } ∷ []) o h
   negates e c mean w.NoScalar k h = tt
@@ -224,6 +248,7 @@ module _ (fs : ℕ → List Val → Val) (cs : List Val) where
       by (w.Is (Truth false)) k f =
           subst (λ z. first_outside (operations e (sees c) ++ (if truth_of z then os else [])) ≡ None) (sym (value e c (Truth false) mean k)) (no_more (operations e (sees c)) f)
       by (w.Is (Number z)) k f = tt
+      by (w.Is (Element u z)) k f = tt
       by (w.Leaves o) k f = some_then (operations e (sees c)) (if truth_of (ev e (sees c)) then os else []) o f
       by w.NoScalar k f = tt
 
@@ -357,6 +382,7 @@ module _ (fs : ℕ → List Val → Val) (cs : List Val) where
   tests (w.Is (Truth true)) on off m os h = h
   tests (w.Is (Truth false)) on off m os h = h
   tests (w.Is (Number z)) on off m os h = tt
+  tests (w.Is (Element u z)) on off m os h = tt
   tests (w.Leaves o) on off m os h = h
   tests w.NoScalar on off m os h = tt
 

@@ -9,7 +9,7 @@ use Rattle.bg_flow.specs.Core.{Demand, Saying}
 use Rattle.bg_block_types.specs.TypedFlow.{DemandsAreTyped, SayingsAreTyped}
 use Rattle.bg_scalar.specs.Worths.{Seen, worth}
 use Rattle.bg_scalar.specs.Typed.{is_scalar, Sees, HasWorth}
-use Rattle.bg_scalar.specs.declared.scalar.Scalar.TheVariants.{Truth, Number}
+use Rattle.bg_scalar.specs.declared.scalar.Scalar.TheVariants.{Truth, Number, Element}
 use Rattle.bg_scalar.specs.declared.scalar.Worth.{Worth}
 use Rattle.bg_scalar.specs.declared.scalar.Worth.TheVariants.{Is, Leaves, NoScalar}
 use Rattle.bg_scalar.proofs.Typing.{has_worth}
@@ -29,6 +29,7 @@ tells_or : (x : Answer) (o : Worth) → HasWorth BoolTy o → Tells (or_stops x 
 tells_or x (Is (Truth true)) h = tt
 tells_or x (Is (Truth false)) h = tt
 tells_or x (Is (Number z)) h = absurd (let bad : ⊥ = cc in bad)
+tells_or x (Is (Element u z)) h = absurd (let bad : ⊥ = cc in bad)
 tells_or x (Leaves o) h = tt
 tells_or x NoScalar h = absurd h
 

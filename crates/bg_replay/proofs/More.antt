@@ -11,7 +11,7 @@ use Rattle.bg_scalar.specs.Worths.{worth}
 use Rattle.bg_scalar.specs.declared.choice.Choice.{Choice}
 use Rattle.bg_scalar.specs.declared.choice.Choice.TheVariants as choice
 use Rattle.bg_scalar.specs.declared.scalar.Scalar.{Scalar}
-use Rattle.bg_scalar.specs.declared.scalar.Scalar.TheVariants.{Truth, Number}
+use Rattle.bg_scalar.specs.declared.scalar.Scalar.TheVariants.{Truth, Number, Element}
 use Rattle.bg_scalar.specs.declared.scalar.Worth.{Worth}
 use Rattle.bg_scalar.specs.declared.scalar.Worth.TheVariants as w
 use Rattle.bg_replay.specs.Holds.{holds, holds_scalars, hold_scalars, held_at}
@@ -192,6 +192,7 @@ module _ (extra : List Choice) where
   test_further (w.Is (Truth true)) on off m = inr refl
   test_further (w.Is (Truth false)) on off m = inr refl
   test_further (w.Is (Number z)) on off m = inr refl
+  test_further (w.Is (Element u z)) on off m = inr refl
   test_further (w.Leaves o) on off m = inr refl
   test_further w.NoScalar on off m = inr refl
 

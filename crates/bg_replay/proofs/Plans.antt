@@ -19,7 +19,7 @@ use Rattle.bg_scalar.specs.Worths.{Seen, worth}
 use Rattle.bg_fits.specs.declared.types.Holding.{Holding}
 use Rattle.bg_scalar.specs.Lists.{Are}
 use Rattle.bg_scalar.specs.declared.scalar.Scalar.{Scalar}
-use Rattle.bg_scalar.specs.declared.scalar.Scalar.TheVariants.{Truth, Number}
+use Rattle.bg_scalar.specs.declared.scalar.Scalar.TheVariants.{Truth, Number, Element}
 use Rattle.bg_scalar.specs.declared.scalar.Worth.{Worth}
 use Rattle.bg_scalar.specs.declared.scalar.Worth.TheVariants.{Is, Leaves, NoScalar}
 use Rattle.bg_replay.specs.Holds.{results_in}
@@ -43,6 +43,7 @@ then_fine : (a : Worth) → then_said (or_stops Blocked a) Fine ≡ or_stops Blo
 then_fine (Is (Truth true)) = refl
 then_fine (Is (Truth false)) = refl
 then_fine (Is (Number z)) = refl
+then_fine (Is (Element u z)) = refl
 then_fine (Leaves o) = refl
 then_fine NoScalar = refl
 

@@ -16,7 +16,7 @@ use Rattle.bg_scalar.specs.Choices.{choice_of}
 use Rattle.bg_scalar.specs.Values.{MeanTables}
 use Rattle.bg_scalar.specs.declared.choice.Choice.{Choice}
 use Rattle.bg_scalar.specs.declared.choice.Choice.TheVariants as choice
-use Rattle.bg_scalar.specs.declared.scalar.Scalar.TheVariants.{Truth, Number}
+use Rattle.bg_scalar.specs.declared.scalar.Scalar.TheVariants.{Truth, Number, Element}
 use Rattle.bg_scalar.specs.declared.scalar.Worth.{Worth}
 use Rattle.bg_scalar.specs.declared.scalar.Worth.TheVariants as worths
 use Rattle.bg_scalar.proofs.Agreeing as scalar
@@ -73,6 +73,7 @@ module _ (t : Table) where
   tests (worths.Is (Truth true)) x on off m h = rw h refl
   tests (worths.Is (Truth false)) x on off m h = rw h refl
   tests (worths.Is (Number z)) x on off m h = tt
+  tests (worths.Is (Element u z)) x on off m h = tt
   tests (worths.Leaves o) x on off m h = tt
   tests worths.NoScalar x on off m h = tt
 

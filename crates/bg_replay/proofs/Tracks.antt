@@ -17,7 +17,7 @@ use Rattle.bg_scalar.specs.Typed.{are_scalar, Sees, HasWorth, HaveWorths}
 use Rattle.bg_scalar.specs.Values.{val_of}
 use Rattle.bg_scalar.specs.declared.choice.Choice.{Choice}
 use Rattle.bg_scalar.specs.declared.scalar.Scalar.{Scalar}
-use Rattle.bg_scalar.specs.declared.scalar.Scalar.TheVariants.{Truth, Number}
+use Rattle.bg_scalar.specs.declared.scalar.Scalar.TheVariants.{Truth, Number, Element}
 use Rattle.bg_scalar.specs.declared.scalar.Worth.{Worth}
 use Rattle.bg_scalar.specs.declared.scalar.Worth.TheVariants as is_worth
 use Rattle.bg_scalar.proofs.Typing.{has_worth, have_worths}
@@ -172,6 +172,7 @@ module _ (p : Prog) (ds : List Decl) (a : Around) where
     known_test (is_worth.Is (Truth true)) on off m h w = w
     known_test (is_worth.Is (Truth false)) on off m h w = w
     known_test (is_worth.Is (Number z)) on off m h w = absurd (let bad : ⊥ = cc in bad)
+    known_test (is_worth.Is (Element u z)) on off m h w = absurd (let bad : ⊥ = cc in bad)
     known_test (is_worth.Leaves o) on off m h w = tt
     known_test is_worth.NoScalar on off m h w = absurd h
 

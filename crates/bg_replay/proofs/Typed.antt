@@ -11,7 +11,7 @@ use Rattle.bg_scalar.specs.Values.{val_of}
 use Rattle.bg_scalar.specs.declared.choice.Choice.{Choice}
 use Rattle.bg_scalar.specs.declared.choice.Choice.TheVariants as choice
 use Rattle.bg_scalar.specs.declared.scalar.Scalar.{Scalar}
-use Rattle.bg_scalar.specs.declared.scalar.Scalar.TheVariants.{Truth, Number}
+use Rattle.bg_scalar.specs.declared.scalar.Scalar.TheVariants.{Truth, Number, Element}
 use Rattle.bg_replay.specs.Holds.{holds, holds_scalars}
 use Rattle.bg_replay.specs.Acts.{taken, behind_one, cons_o, chosen}
 use Rattle.bg_replay.proofs.Agreeing.{holds_is}
@@ -40,10 +40,10 @@ typed_join (t ∷ ts) us (x ∷ xs) ys h k =
 scalar_type : (t : Ty) (x : Scalar) → is_of t (val_of x) ≡ true → holds_scalars (holding_of t) ≡ true
 scalar_type IntTy x h = refl
 scalar_type BoolTy x h = refl
-scalar_type (UserTy k) (Truth b) h = absurd (let bad : ⊥ = cc in bad)
-scalar_type (UserTy k) (Number z) h = absurd (let bad : ⊥ = cc in bad)
+scalar_type (UserTy k) x h = refl
 scalar_type (MapTy ks t) (Truth b) h = absurd (let bad : ⊥ = cc in bad)
 scalar_type (MapTy ks t) (Number z) h = absurd (let bad : ⊥ = cc in bad)
+scalar_type (MapTy ks t) (Element n z) h = absurd (let bad : ⊥ = cc in bad)
 
 -- each variable holds scalars where each has one
 pub scalars_held : (ds : List Decl) (xs : List Scalar) (k : ℕ) → are_of (types_of ds) (map val_of xs) ≡ true → holds_scalars (holding_of (type_in (slice_get ds k))) ≡ true

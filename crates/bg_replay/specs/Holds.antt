@@ -1,18 +1,19 @@
 -- Which scalars variables hold.
-use Rattle.std.specs.Prelude.{ℕ, Bool, true, false, ◌&&◌, List, [], ◌∷◌, map, slice_get, unwrap_or}
+use Rattle.std.specs.Prelude.{ℕ, Bool, true, false, ◌&&◌, ◌==◌, List, [], ◌∷◌, map, slice_get, unwrap_or}
 use Rattle.bg_ast.specs.Syntax.{Var, Global, Local}
 use Rattle.bg_ast.specs.Resolved as r
 use Rattle.bg_ast.specs.Meaning.{named_of, decl_of}
 use Rattle.bg_fits.specs.Holdings.{holdings_of}
 use Rattle.bg_fits.specs.declared.types.Holding.{Holding}
-use Rattle.bg_fits.specs.declared.types.Holding.TheVariants.{Truths, Numbers, Others}
+use Rattle.bg_fits.specs.declared.types.Holding.TheVariants.{Truths, Numbers, Elements, Others}
 use Rattle.bg_scalar.specs.declared.scalar.Scalar.{Scalar}
-use Rattle.bg_scalar.specs.declared.scalar.Scalar.TheVariants.{Truth, Number}
+use Rattle.bg_scalar.specs.declared.scalar.Scalar.TheVariants.{Truth, Number, Element}
 use Rattle.bg_replay.specs.Moments.{Around}
 
 abbrev pub holds : Holding → Scalar → Bool
 holds Truths (Truth b) = true
 holds Numbers (Number z) = true
+holds (Elements k) (Element t z) = k == t
 holds _ _ = false
 
 abbrev pub holds_scalars : Holding → Bool

@@ -5,7 +5,7 @@ use Rattle.bg_sense.specs.Flow.{Answer, Blocked, Failed}
 use Rattle.bg_sense.specs.Clauses.{is_kept}
 use Rattle.bg_flow.specs.Core.{Demand, Saying}
 use Rattle.bg_scalar.specs.Worths.{Seen, worth}
-use Rattle.bg_scalar.specs.declared.scalar.Scalar.TheVariants.{Truth, Number}
+use Rattle.bg_scalar.specs.declared.scalar.Scalar.TheVariants.{Truth, Number, Element}
 use Rattle.bg_scalar.specs.declared.scalar.Worth.{Worth}
 use Rattle.bg_scalar.specs.declared.scalar.Worth.TheVariants as worths
 use Rattle.bg_replay.specs.Moments.{Moment, Out, Goes, Over, Outside, Unknown}
@@ -35,6 +35,7 @@ abbrev pub or_stops : Answer → Worth → Said
 or_stops a (worths.Is (Truth true)) = Fine
 or_stops a (worths.Is (Truth false)) = Stops a
 or_stops a (worths.Is (Number z)) = Unsaid
+or_stops a (worths.Is (Element t z)) = Unsaid
 or_stops a (worths.Leaves o) = Leaves o
 or_stops a worths.NoScalar = Unsaid
 

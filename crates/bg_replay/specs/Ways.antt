@@ -8,7 +8,7 @@ use Rattle.bg_flow.specs.Blocks.{Exit, Leap, Either, Block}
 use Rattle.bg_scalar.specs.Worths.{worth}
 use Rattle.bg_scalar.specs.declared.choice.Choice.{Choice}
 use Rattle.bg_scalar.specs.declared.choice.Choice.TheVariants as choice
-use Rattle.bg_scalar.specs.declared.scalar.Scalar.TheVariants.{Truth, Number}
+use Rattle.bg_scalar.specs.declared.scalar.Scalar.TheVariants.{Truth, Number, Element}
 use Rattle.bg_scalar.specs.declared.scalar.Worth.{Worth}
 use Rattle.bg_scalar.specs.declared.scalar.Worth.TheVariants as worths
 use Rattle.bg_replay.specs.Moments.{Moment, Around, Out, Goes, Over, Outside, Unknown, and_so, seen_at}
@@ -40,6 +40,7 @@ abbrev pub test_to : Worth → ℕ → ℕ → Moment → Way
 test_to (worths.Is (Truth true)) on off m = On on m
 test_to (worths.Is (Truth false)) on off m = On off m
 test_to (worths.Is (Number z)) on off m = Nowhere
+test_to (worths.Is (Element t z)) on off m = Nowhere
 test_to (worths.Leaves o) on off m = Beyond o
 test_to worths.NoScalar on off m = Nowhere
 

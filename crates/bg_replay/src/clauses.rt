@@ -39,6 +39,7 @@ fn ensured(group: Group, clause: u32, value: Worth) -> Step
         Worth::Leaves(o) => Step::Over(Ending::OutOfRange(o)),
         Worth::NoScalar => Step::Over(Ending::NoScalars),
         Worth::Is(Scalar::Number(_)) => Step::Over(Ending::NoScalars),
+        Worth::Is(Scalar::Element(_, _)) => Step::Over(Ending::NoScalars),
         Worth::Is(Scalar::Truth(true)) => Step::Goes,
         Worth::Is(Scalar::Truth(false)) => Step::Over(Ending::Failed(spot_at(group, clause))),
     }
@@ -52,6 +53,7 @@ pub fn assumed(value: Worth) -> Step
         Worth::Leaves(o) => Step::Over(Ending::OutOfRange(o)),
         Worth::NoScalar => Step::Over(Ending::NoScalars),
         Worth::Is(Scalar::Number(_)) => Step::Over(Ending::NoScalars),
+        Worth::Is(Scalar::Element(_, _)) => Step::Over(Ending::NoScalars),
         Worth::Is(Scalar::Truth(true)) => Step::Goes,
         Worth::Is(Scalar::Truth(false)) => Step::Over(Ending::Blocked),
     }

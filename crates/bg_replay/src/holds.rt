@@ -1,6 +1,7 @@
 //! Which scalars variables hold.
 ghost use Rattle.std.specs.Prelude.{◌≡◌, List, ◌∷◌};
 ghost use Rattle.bg_scalar.specs.declared.choice.Choice as code;
+ghost use Rattle.bg_fits.specs.declared.types.Holding.TheVariants.{Elements};
 ghost use Rattle.bg_replay.specs.Holds.{holds, holds_scalars, hold_scalars, held};
 ghost use Rattle.bg_replay.specs.Acts.{taken};
 
@@ -14,6 +15,7 @@ pub fn holds_scalars(holding: Holding) -> bool
     match holding {
         Holding::Truths => true,
         Holding::Numbers => true,
+        Holding::Elements(_) => true,
         Holding::Others => false,
     }
 }
@@ -40,6 +42,17 @@ pub fn held(holdings: &[Holding], k: u32) -> Holding
         .unwrap_or(Holding::Numbers)
 }
 
+/// Whether a value is an element of the user type with this number.
+fn is_element(k: u32, x: Scalar) -> bool
+    ensures { result ≡ holds (Elements k) x }
+{
+    match x {
+        Scalar::Truth(_) => false,
+        Scalar::Number(_) => false,
+        Scalar::Element(t, _) => k == t,
+    }
+}
+
 /// Whether a variable that holds such may have this value.
 fn holds(holding: Holding, x: Scalar) -> bool
     ensures { result ≡ holds holding x }
@@ -47,6 +60,7 @@ fn holds(holding: Holding, x: Scalar) -> bool
     match holding {
         Holding::Truths => matches!(x, Scalar::Truth(_)),
         Holding::Numbers => matches!(x, Scalar::Number(_)),
+        Holding::Elements(k) => is_element(k, x),
         Holding::Others => false,
     }
 }

@@ -38,6 +38,7 @@ fn tested(value: Worth, on: usize, off: usize) -> Way
         Worth::Leaves(o) => Way::Over(Ending::OutOfRange(o)),
         Worth::NoScalar => Way::Over(Ending::NoScalars),
         Worth::Is(Scalar::Number(_)) => Way::Over(Ending::NoScalars),
+        Worth::Is(Scalar::Element(_, _)) => Way::Over(Ending::NoScalars),
         Worth::Is(Scalar::Truth(true)) => Way::To(on),
         Worth::Is(Scalar::Truth(false)) => Way::To(off),
     }

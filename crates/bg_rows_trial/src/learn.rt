@@ -5,6 +5,7 @@ use crate::whole::is_whole;
 use bg_cert::accepts;
 use bg_formula::{Clauses, Literal};
 use bg_learn::{Limits, Proposal, propose};
+use bg_point::Spot;
 use bg_search::search;
 use bg_tree::{Budget, Outcome, Values, follow};
 use std::alloc::{AllocError, Global};
@@ -36,7 +37,7 @@ fn proposed(alloc: Global, f: &Clauses, set: &[bool], budget: usize) -> Result<c
         nodes: budget,
         rows: 1000,
     };
-    match propose(alloc, f, set, limits)? {
+    match propose(alloc, f, set, &[], limits)? {
         Proposal::Proof(cert) => Ok(if accepts(alloc, f, set, &cert)? {
             'p'
         } else {
@@ -141,7 +142,7 @@ fn walked(alloc: Global, atoms: &[bool]) -> Result<char, Fail> {
     if !is_whole(&f) {
         return Ok('x');
     }
-    Ok(letter(follow(alloc, &f, &[], budget, values)?))
+    Ok(letter(follow(alloc, &f, &[], &[], budget, values)?))
 }
 
 /// What is found for rows, so many truth variables behind them, and clauses, within so many nodes.
@@ -157,7 +158,7 @@ fn found(
     if !is_whole(&f) {
         return Ok('x');
     }
-    Ok(letter(Some(search(alloc, &f, &[], budget)?)))
+    Ok(letter(Some(search(alloc, &f, &[], &[], budget)?)))
 }
 
 #[test]
@@ -169,5 +170,40 @@ fn what_is_proposed_counts_where_it_holds(rt: HostRuntime) -> Result<(), Fail> {
     assert_eq!(rt; found(alloc, &[], 2, FOUR, 9)?, 'c');
     assert_eq!(rt; found(alloc, &[], 2, FOUR, 1)?, 'u');
     assert_eq!(rt; found(alloc, WHOLE, 0, EACH, 9)?, 'l');
+    Ok(())
+}
+
+/// x0 <= 3, and x1 <= x0 + 10.
+const BELOW: &[Given] = &[(&[(0, 1)], 3), (&[(0, -1), (1, 1)], 10)];
+
+fn value_of(spots: &[Spot], x: u32) -> i128 {
+    for s in spots {
+        if s.variable == x {
+            return s.value;
+        }
+    }
+    0
+}
+
+/// The values of two terms at the leaf that is found where both rows hold, near these targets.
+fn placed(alloc: Global, targets: &[i128]) -> Result<(i128, i128), Fail> {
+    let f = formula(alloc, BELOW, 0, &[&[(0, true)], &[(1, true)]])?;
+    let budget = Budget { nodes: 9, rows: 9 };
+    if !is_whole(&f) {
+        return Err("an atom isn't there".into());
+    }
+    match search(alloc, &f, &[], targets, budget)? {
+        Outcome::Leaf(leaf) => Ok((value_of(&leaf.spots, 0), value_of(&leaf.spots, 1))),
+        _ => Err("no leaf".into()),
+    }
+}
+
+#[test]
+fn points_are_near_their_targets(rt: HostRuntime) -> Result<(), Fail> {
+    let alloc = rt.alloc();
+    assert_eq!(rt; placed(alloc, &[])?, (0, 0));
+    assert_eq!(rt; placed(alloc, &[1, 2])?, (1, 2));
+    assert_eq!(rt; placed(alloc, &[5, 7])?, (3, 7));
+    assert_eq!(rt; placed(alloc, &[-9])?, (-9, 0));
     Ok(())
 }

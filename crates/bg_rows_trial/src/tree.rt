@@ -23,7 +23,7 @@ type Case = (
 
 fn found(alloc: Global, f: &Clauses, set: &[bool], budget: Budget) -> Result<Outcome, Fail> {
     if is_whole(f) {
-        Ok(search(alloc, f, set, budget)?)
+        Ok(search(alloc, f, set, &[], budget)?)
     } else {
         Err("an atom isn't there".into())
     }

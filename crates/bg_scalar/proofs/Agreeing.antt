@@ -1,6 +1,7 @@
 -- What an expression is worth is its value, where no operation leaves the range.
-use Rattle.std.proofs.Common.{◌≡◌, ℕ, zero, suc, ℤ, Bool, true, false, List, [], ◌∷◌, map, refl, sym, ap, ◌∙◌}
-use Rattle.std.specs.Prelude.{not, if◌then◌else◌, slice_get, ◌+ℤ◌, ◌-ℤ◌, ◌*ℤ◌, neg_ℤ, pos, Ok, Err}
+use Rattle.std.proofs.Common.{◌≡◌, ℕ, zero, suc, ℤ, Bool, true, false, List, [], ◌∷◌, map, refl, ap, ◌∙◌}
+use Rattle.std.specs.Prelude.{not, ◌&&◌, ◌==◌, if◌then◌else◌, slice_get, ◌+ℤ◌, ◌-ℤ◌, ◌*ℤ◌, neg_ℤ, pos, Ok, Err}
+use Rattle.std.specs.Ordering.{int_eq}
 use Rattle.bg_base.specs.Exact.{fits, exactly}
 use Rattle.bg_base.specs.declared.exact.Op.{Op}
 use Rattle.bg_base.specs.declared.exact.Op.TheVariants as exact_op
@@ -9,11 +10,11 @@ use Rattle.bg_ast.specs.Values as v
 use Rattle.bg_ast.specs.Syntax as s
 use Rattle.bg_sense.specs.Eval as sense
 use Rattle.bg_sense.specs.Eval.{Scope, ev, evs, value_at}
-use Rattle.bg_scalar.specs.Worths.{Seen, and_then, exact, same, takes, on_truths, on_numbers, operate, joined, not_on, minus_on, known, at_entry, Listed, Are, Leave, NoScalars, cons, and_then_all, worth, worths}
+use Rattle.bg_scalar.specs.Worths.{Seen, and_then, exact, same, takes, on_truths, on_numbers, on_elements, operate, joined, not_on, minus_on, known, at_entry, Listed, Are, Leave, NoScalars, cons, and_then_all, worth, worths}
 use Rattle.bg_scalar.specs.Tables.{TableOf, told}
 use Rattle.bg_scalar.specs.Values.{val_of, MeanTables, scope_in}
 use Rattle.bg_scalar.specs.declared.scalar.Scalar.{Scalar}
-use Rattle.bg_scalar.specs.declared.scalar.Scalar.TheVariants.{Truth, Number}
+use Rattle.bg_scalar.specs.declared.scalar.Scalar.TheVariants.{Truth, Number, Element}
 use Rattle.bg_scalar.specs.declared.scalar.Worth.{Worth}
 use Rattle.bg_scalar.specs.declared.scalar.Worth.TheVariants.{Is, Leaves, NoScalar}
 use Rattle.bg_scalar.proofs.Tabled.{told_is}
@@ -66,11 +67,33 @@ numbers_are s.Plus x y = exactly_is exact_op.Plus x y (x +ℤ y) _ refl
 numbers_are s.Minus x y = exactly_is exact_op.Minus x y (x -ℤ y) _ refl
 numbers_are s.Times x y = exactly_is exact_op.Times x y (x *ℤ y) _ refl
 
+-- an operator between elements: of one type, they are the same where their numbers are
+elements_are : (o : s.Op) (t u : ℕ) (x y : ℤ) (b : Bool) → (t == u) ≡ b → Agrees (if b then on_elements o x y else NoScalar) (sense.operate o (v.Element t x) (v.Element u y))
+elements_are o t u x y false h = tt
+elements_are s.And t u x y true h = tt
+elements_are s.Or t u x y true h = tt
+elements_are s.Implies t u x y true h = tt
+elements_are s.Iff t u x y true h = tt
+elements_are s.Equal t u x y true h = ap (λ b. v.Truth (b && int_eq x y)) h
+elements_are s.Unequal t u x y true h = ap (λ b. v.Truth (not (b && int_eq x y))) h
+elements_are s.Less t u x y true h = tt
+elements_are s.AtMost t u x y true h = tt
+elements_are s.Greater t u x y true h = tt
+elements_are s.AtLeast t u x y true h = tt
+elements_are s.Plus t u x y true h = tt
+elements_are s.Minus t u x y true h = tt
+elements_are s.Times t u x y true h = tt
+
 operates : (o : s.Op) (x y : Scalar) → Agrees (operate o x y) (sense.operate o (val_of x) (val_of y))
 operates o (Truth a) (Truth b) = truths_are o a b
 operates o (Truth a) (Number y) = tt
+operates o (Truth a) (Element u y) = tt
 operates o (Number x) (Truth b) = tt
 operates o (Number x) (Number y) = numbers_are o x y
+operates o (Number x) (Element u y) = tt
+operates o (Element t x) (Truth b) = tt
+operates o (Element t x) (Number y) = tt
+operates o (Element t x) (Element u y) = elements_are o t u x y (t == u) refl
 
 -- what goes on where an operand has a value
 goes_on : (t : Bool) (b : Worth) (f : Scalar → Worth) (z y : v.Val) → Agrees b z → ((x : Scalar) → z ≡ val_of x → Agrees (f x) y) → Agrees (if t then and_then b f else NoScalar) y
@@ -88,12 +111,14 @@ joins o NoScalar b y z h k = tt
 nots : (a : Worth) (y : v.Val) → Agrees a y → Agrees (and_then a not_on) (v.Truth (not (v.truth_of y)))
 nots (Is (Truth b)) y h = rw h refl
 nots (Is (Number z)) y h = tt
+nots (Is (Element t z)) y h = tt
 nots (Leaves o) y h = tt
 nots NoScalar y h = tt
 
 minuses : (a : Worth) (y : v.Val) → Agrees a y → Agrees (and_then a minus_on) (v.Num (neg_ℤ (v.number_of y)))
 minuses (Is (Truth b)) y h = tt
 minuses (Is (Number z)) y h = exactly_is exact_op.Negate z (pos 0) (neg_ℤ z) _ (rw h refl)
+minuses (Is (Element t z)) y h = tt
 minuses (Leaves o) y h = tt
 minuses NoScalar y h = tt
 

@@ -21,7 +21,7 @@ use Rattle.bg_scalar.specs.Worths.{Seen, and_then, not_on, minus_on, joined, and
 use Rattle.bg_scalar.specs.Tables.{told}
 use Rattle.bg_scalar.specs.Signs.{prefixed, signed, behind}
 use Rattle.bg_scalar.specs.Along.{under, and_premise, premise_after, operand_after, along}
-use Rattle.bg_scalar.specs.declared.scalar.Scalar.TheVariants.{Truth, Number}
+use Rattle.bg_scalar.specs.declared.scalar.Scalar.TheVariants.{Truth, Number, Element}
 use Rattle.bg_scalar.specs.declared.scalar.Worth.{Worth}
 use Rattle.bg_scalar.specs.declared.scalar.Worth.TheVariants.{Is, Leaves, NoScalar}
 
@@ -30,12 +30,15 @@ two_premises : (p a x : Worth) → joined s.Implies (joined s.And p a) x ≡ joi
 two_premises (Leaves o) a x = refl
 two_premises NoScalar a x = refl
 two_premises (Is (Number z)) a x = refl
+two_premises (Is (Element t z)) a x = refl
 two_premises (Is (Truth b)) (Leaves o) x = refl
 two_premises (Is (Truth b)) NoScalar x = refl
 two_premises (Is (Truth b)) (Is (Number z)) x = refl
+two_premises (Is (Truth b)) (Is (Element t z)) x = refl
 two_premises (Is (Truth b)) (Is (Truth c)) (Leaves o) = refl
 two_premises (Is (Truth b)) (Is (Truth c)) NoScalar = refl
 two_premises (Is (Truth b)) (Is (Truth c)) (Is (Number z)) = refl
+two_premises (Is (Truth b)) (Is (Truth c)) (Is (Element t z)) = refl
 two_premises (Is (Truth true)) (Is (Truth c)) (Is (Truth d)) = refl
 two_premises (Is (Truth false)) (Is (Truth c)) (Is (Truth d)) = refl
 

@@ -1,16 +1,16 @@
 -- What an ordered map has at a list of arguments is what the first of its entries for them says.
-use Rattle.std.proofs.Common.{◌≡◌, ◌<◌, ℕ, zero, suc, Bool, true, false, List, [], ◌∷◌, map, length, get_or, Option, Some, None, refl, sym, ap, ◌∙◌, Vec, Global, arith}
-use Rattle.std.specs.Prelude.{◌&&◌, if◌then◌else◌, cond, unwrap_or, slice_get}
+use Rattle.std.proofs.Common.{◌≡◌, ◌<◌, ℕ, zero, suc, Bool, true, false, List, [], ◌∷◌, map, length, get_or, Option, Some, refl, sym, ap, ◌∙◌, Vec, Global, arith}
+use Rattle.std.specs.Prelude.{◌&&◌, ◌==◌, if◌then◌else◌, cond, unwrap_or, slice_get}
 use Rattle.std.specs.declared.cmp.Ordering.{Ordering}
 use Rattle.std.specs.declared.cmp.Ordering.TheVariants.{Less, Equal, Greater}
-use Rattle.std.specs.Ordering.{is_eq, ordering_then}
-use Rattle.std.specs.Cmp.{int_eq_equiv}
+use Rattle.std.specs.Ordering.{is_eq, ordering_then, nat_cmp, int_cmp, int_eq}
+use Rattle.std.specs.Cmp.{int_eq_equiv, nat_eq_equiv, unsigned_tied}
 use Rattle.std.specs.Cmp.Lexicographic.{slice_cmp}
 use Rattle.std.specs.Map.{lookup}
 use Rattle.bg_scalar.specs.Tables.{scalar_eq, scalars_eq, entry_for, told}
 use Rattle.bg_scalar.specs.Views.{entry_in, tables_in}
 use Rattle.bg_scalar.specs.declared.scalar.Scalar.{Scalar}
-use Rattle.bg_scalar.specs.declared.scalar.Scalar.TheVariants.{Truth, Number}
+use Rattle.bg_scalar.specs.declared.scalar.Scalar.TheVariants.{Truth, Number, Element}
 use Rattle.bg_scalar.specs.declared.table.Table.{Table}
 use Rattle.bg_scalar.specs.contracts.scalar.ScalarOrd.TheImpl as ord
 
@@ -43,6 +43,9 @@ module _ (R : Scalar → Scalar → Ordering) (same : (x y : Scalar) → is_eq (
 abbrev pub scalar_cmp : Scalar → Scalar → Ordering
 scalar_cmp = (ord.ghosts).cmp
 
+types_alike : (t u : ℕ) → is_eq (nat_cmp t u) ≡ (u == t)
+types_alike t u = unsigned_tied t u ∙ nat_eq_equiv.symm t u
+
 pub equal_alike : (x y : Scalar) → is_eq (scalar_cmp x y) ≡ scalar_eq y x
 equal_alike (Truth true) (Truth true) = refl
 equal_alike (Truth true) (Truth false) = refl
@@ -50,9 +53,17 @@ equal_alike (Truth false) (Truth true) = refl
 equal_alike (Truth false) (Truth false) = refl
 equal_alike (Truth true) (Number y) = refl
 equal_alike (Truth false) (Number y) = refl
+equal_alike (Truth true) (Element u y) = refl
+equal_alike (Truth false) (Element u y) = refl
 equal_alike (Number x) (Truth true) = refl
 equal_alike (Number x) (Truth false) = refl
 equal_alike (Number x) (Number y) = int_eq_equiv.symm x y
+equal_alike (Number x) (Element u y) = refl
+equal_alike (Element t x) (Truth true) = refl
+equal_alike (Element t x) (Truth false) = refl
+equal_alike (Element t x) (Number y) = refl
+equal_alike (Element t x) (Element u y) =
+    then_is (nat_cmp t u) (int_cmp x y) (u == t) (int_eq y x) (types_alike t u) (int_eq_equiv.symm x y)
 
 there : (ts : List Table) (f : ℕ) (t : Table) → f < length ts → t ≡ get_or ts f t → slice_get ts f ≡ Some t
 there [] f t h e = absurd (omega (arith, h))

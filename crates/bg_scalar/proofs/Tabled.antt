@@ -1,5 +1,5 @@
 -- Tables over scalars are tables of their values, and functions that have them mean them.
-use Rattle.std.proofs.Common.{◌≡◌, ℕ, zero, suc, ◌+◌, Bool, true, false, List, [], ◌∷◌, length, map, Option, Some, None, refl, sym, ap, ◌∙◌}
+use Rattle.std.proofs.Common.{◌≡◌, ℕ, zero, suc, Bool, true, false, List, [], ◌∷◌, length, map, Option, Some, None, refl, ap, ◌∙◌}
 use Rattle.std.specs.Prelude.{not, ◌&&◌, if◌then◌else◌, slice_get}
 use Rattle.bg_ast.specs.Values as v
 use Rattle.bg_ast.specs.Syntax.{Ex, Fun, Prog}
@@ -9,18 +9,24 @@ use Rattle.bg_sense.specs.Eval.{body_of, body_value, functions_to, functions_of}
 use Rattle.bg_sense.specs.Types.{are_of}
 use Rattle.bg_sense.specs.Tables.{is_before, are_entries, is_table, is_table_of, are_tables}
 use Rattle.bg_sense.proofs.Bools.{and_left, and_right}
-use Rattle.bg_scalar.specs.Tables.{TableOf, scalar_eq, scalars_eq, entry_for, look_up, told}
+use Rattle.bg_scalar.specs.Tables.{TableOf, scalar_eq, scalars_eq, entry_for, told}
 use Rattle.bg_scalar.specs.Values.{val_of, entry_of, table_of, tables_of, MeanTables}
 use Rattle.bg_scalar.specs.declared.scalar.Scalar.{Scalar}
-use Rattle.bg_scalar.specs.declared.scalar.Scalar.TheVariants.{Truth, Number}
+use Rattle.bg_scalar.specs.declared.scalar.Scalar.TheVariants.{Truth, Number, Element}
 
 scalars_same : (x y : Scalar) → v.val_eq (val_of x) (val_of y) ≡ scalar_eq x y
 scalars_same (Truth true) (Truth b) = refl
 scalars_same (Truth false) (Truth b) = refl
 scalars_same (Truth true) (Number y) = refl
 scalars_same (Truth false) (Number y) = refl
+scalars_same (Truth true) (Element u y) = refl
+scalars_same (Truth false) (Element u y) = refl
 scalars_same (Number x) (Truth b) = refl
 scalars_same (Number x) (Number y) = refl
+scalars_same (Number x) (Element u y) = refl
+scalars_same (Element t x) (Truth b) = refl
+scalars_same (Element t x) (Number y) = refl
+scalars_same (Element t x) (Element u y) = refl
 
 keys_same : (xs ys : List Scalar) → sense.vals_eq (map val_of xs) (map val_of ys) ≡ scalars_eq xs ys
 keys_same [] [] = refl

@@ -1,8 +1,8 @@
 -- Tables of functions over scalars.
-use Rattle.std.specs.Prelude.{ℕ, ℤ, pos, Bool, true, false, not, ◌&&◌, if◌then◌else◌, List, [], ◌∷◌, Option, Some, None, slice_get}
+use Rattle.std.specs.Prelude.{ℕ, pos, Bool, true, false, not, ◌&&◌, ◌==◌, if◌then◌else◌, List, [], ◌∷◌, Option, Some, None, slice_get}
 use Rattle.std.specs.Ordering.{int_eq}
 use Rattle.bg_scalar.specs.declared.scalar.Scalar.{Scalar}
-use Rattle.bg_scalar.specs.declared.scalar.Scalar.TheVariants.{Truth, Number}
+use Rattle.bg_scalar.specs.declared.scalar.Scalar.TheVariants.{Truth, Number, Element}
 
 -- what a function gives for the lists of arguments that have an entry, and its default for others
 pub record TableOf : Type 0 where
@@ -14,8 +14,13 @@ abbrev pub scalar_eq : Scalar → Scalar → Bool
 scalar_eq (Truth true) (Truth b) = b
 scalar_eq (Truth false) (Truth b) = not b
 scalar_eq (Truth a) (Number y) = false
+scalar_eq (Truth a) (Element u y) = false
 scalar_eq (Number x) (Truth b) = false
 scalar_eq (Number x) (Number y) = int_eq x y
+scalar_eq (Number x) (Element u y) = false
+scalar_eq (Element t x) (Truth b) = false
+scalar_eq (Element t x) (Number y) = false
+scalar_eq (Element t x) (Element u y) = t == u && int_eq x y
 
 -- whether two lists of scalars are the same
 abbrev pub scalars_eq : List Scalar → List Scalar → Bool

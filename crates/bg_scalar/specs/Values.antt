@@ -6,11 +6,12 @@ use Rattle.bg_sense.specs.Eval.{Scope}
 use Rattle.bg_scalar.specs.Tables.{TableOf}
 use Rattle.bg_scalar.specs.Worths.{Seen}
 use Rattle.bg_scalar.specs.declared.scalar.Scalar.{Scalar}
-use Rattle.bg_scalar.specs.declared.scalar.Scalar.TheVariants.{Truth, Number}
+use Rattle.bg_scalar.specs.declared.scalar.Scalar.TheVariants.{Truth, Number, Element}
 
 abbrev pub val_of : Scalar → v.Val
 val_of (Truth b) = v.Truth b
 val_of (Number z) = v.Num z
+val_of (Element t z) = v.Element t z
 
 -- a table of a function, as one of values
 abbrev pub entry_of : List Scalar × Scalar → List v.Val × v.Val

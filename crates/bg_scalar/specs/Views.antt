@@ -1,5 +1,5 @@
 -- How the code's values of variables and tables are read.
-use Rattle.std.specs.Prelude.{ℤ, List, map, Vec}
+use Rattle.std.specs.Prelude.{List, map, Vec}
 use Rattle.std.specs.declared.alloc.Global.{Global}
 use Rattle.bg_scalar.specs.Tables.{TableOf}
 use Rattle.bg_scalar.specs.Worths.{Seen}

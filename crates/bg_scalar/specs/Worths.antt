@@ -1,12 +1,12 @@
 -- What expressions over scalars are worth, from left to right: each operation is exact, or it is the first that leaves the range.
-use Rattle.std.specs.Prelude.{ℤ, Bool, true, false, not, ◌&&◌, ◌||◌, if◌then◌else◌, List, [], ◌∷◌, Option, Some, None, Result, Ok, Err, slice_get, int_lt, int_le}
+use Rattle.std.specs.Prelude.{ℤ, Bool, true, false, not, ◌&&◌, ◌||◌, ◌==◌, if◌then◌else◌, List, [], ◌∷◌, Option, Some, None, Result, Ok, Err, slice_get, int_lt, int_le}
 use Rattle.std.specs.Ordering.{int_eq}
 use Rattle.bg_base.specs.Exact.{sum_of, difference_of, product_of, negation_of}
 use Rattle.bg_base.specs.declared.exact.OutOfRange.{OutOfRange}
 use Rattle.bg_ast.specs.Syntax as s
 use Rattle.bg_ast.specs.Syntax.{Var, Local, Global, Op, And, Or, Implies, Iff, Equal, Unequal, Less, AtMost, Greater, AtLeast, Plus, Minus, Times, Ex, Fact, Read, Not, Negative, Binary, Old, Apply, Exs, NoMore, More}
 use Rattle.bg_scalar.specs.declared.scalar.Scalar.{Scalar}
-use Rattle.bg_scalar.specs.declared.scalar.Scalar.TheVariants.{Truth, Number}
+use Rattle.bg_scalar.specs.declared.scalar.Scalar.TheVariants.{Truth, Number, Element}
 use Rattle.bg_scalar.specs.declared.scalar.Worth.{Worth}
 use Rattle.bg_scalar.specs.declared.scalar.Worth.TheVariants.{Is, Leaves, NoScalar}
 use Rattle.bg_scalar.specs.Tables.{TableOf, told}
@@ -60,15 +60,32 @@ on_numbers Minus x y = exact (difference_of x y)
 on_numbers Times x y = exact (product_of x y)
 on_numbers _ x y = NoScalar
 
+-- an operator between elements of one type, by their numbers
+abbrev pub on_elements : Op → ℤ → ℤ → Worth
+on_elements Equal x y = truth (int_eq x y)
+on_elements Unequal x y = truth (not (int_eq x y))
+on_elements _ x y = NoScalar
+
 abbrev pub operate : Op → Scalar → Scalar → Worth
 operate o (Truth a) (Truth b) = on_truths o a b
 operate o (Truth a) (Number y) = NoScalar
+operate o (Truth a) (Element u y) = NoScalar
 operate o (Number x) (Truth b) = NoScalar
 operate o (Number x) (Number y) = on_numbers o x y
+operate o (Number x) (Element u y) = NoScalar
+operate o (Element t x) (Truth b) = NoScalar
+operate o (Element t x) (Number y) = NoScalar
+operate o (Element t x) (Element u y) = if t == u then on_elements o x y else NoScalar
 
 abbrev pub is_truth : Scalar → Bool
 is_truth (Truth b) = true
 is_truth (Number z) = false
+is_truth (Element t z) = false
+
+abbrev pub is_number : Scalar → Bool
+is_number (Truth b) = false
+is_number (Number z) = true
+is_number (Element t z) = false
 
 -- whether an operator may stand behind this operand
 abbrev pub takes : Op → Scalar → Bool
@@ -78,7 +95,7 @@ takes Implies x = is_truth x
 takes Iff x = is_truth x
 takes Equal x = true
 takes Unequal x = true
-takes _ x = not (is_truth x)
+takes _ x = is_number x
 
 -- an operator between two operands: the left one comes first, with what is wrong with it
 abbrev pub joined : Op → Worth → Worth → Worth
@@ -87,10 +104,12 @@ joined o a b = and_then a (λ x. if takes o x then and_then b (operate o x) else
 abbrev pub not_on : Scalar → Worth
 not_on (Truth b) = truth (not b)
 not_on (Number z) = NoScalar
+not_on (Element t z) = NoScalar
 
 abbrev pub minus_on : Scalar → Worth
 minus_on (Truth b) = NoScalar
 minus_on (Number z) = exact (negation_of z)
+minus_on (Element t z) = NoScalar
 
 abbrev pub known : Option Scalar → Worth
 known None = NoScalar

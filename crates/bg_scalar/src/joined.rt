@@ -1,7 +1,7 @@
 //! Signs between scalars, and before them.
 ghost use Rattle.std.specs.Prelude.{◌≡◌};
 ghost use Rattle.bg_scalar.specs.Worths as spec;
-ghost use Rattle.bg_scalar.specs.Worths.{exact, on_truths, on_numbers, operate, takes};
+ghost use Rattle.bg_scalar.specs.Worths.{exact, is_truth, is_number, on_truths, on_numbers, on_elements, operate, takes};
 ghost use Rattle.bg_scalar.specs.Signs.{op_of, between, prefix_on, prefixed};
 
 use crate::scalar::{Scalar, Worth};
@@ -68,6 +68,28 @@ fn on_numbers(sign: InfixSign, x: i128, y: i128) -> Worth
     }
 }
 
+/// The operator of a sign between elements of one type.
+fn on_elements(sign: InfixSign, x: i128, y: i128) -> Worth
+    ensures { result ≡ on_elements (op_of sign) x y }
+{
+    match sign {
+        InfixSign::Iff => Worth::NoScalar,
+        InfixSign::Implies => Worth::NoScalar,
+        InfixSign::Explies => Worth::NoScalar,
+        InfixSign::And => Worth::NoScalar,
+        InfixSign::Or => Worth::NoScalar,
+        InfixSign::Equal => truth(x == y),
+        InfixSign::Unequal => truth(x != y),
+        InfixSign::Less => Worth::NoScalar,
+        InfixSign::AtMost => Worth::NoScalar,
+        InfixSign::Greater => Worth::NoScalar,
+        InfixSign::AtLeast => Worth::NoScalar,
+        InfixSign::Plus => Worth::NoScalar,
+        InfixSign::Minus => Worth::NoScalar,
+        InfixSign::Times => Worth::NoScalar,
+    }
+}
+
 fn operate(sign: InfixSign, a: Scalar, b: Scalar) -> Worth
     ensures { result ≡ operate (op_of sign) a b }
 {
@@ -75,11 +97,44 @@ fn operate(sign: InfixSign, a: Scalar, b: Scalar) -> Worth
         Scalar::Truth(a) => match b {
             Scalar::Truth(b) => on_truths(sign, a, b),
             Scalar::Number(_) => Worth::NoScalar,
+            Scalar::Element(_, _) => Worth::NoScalar,
         },
         Scalar::Number(x) => match b {
             Scalar::Truth(_) => Worth::NoScalar,
             Scalar::Number(y) => on_numbers(sign, x, y),
+            Scalar::Element(_, _) => Worth::NoScalar,
         },
+        Scalar::Element(t, x) => match b {
+            Scalar::Truth(_) => Worth::NoScalar,
+            Scalar::Number(_) => Worth::NoScalar,
+            Scalar::Element(u, y) => {
+                if t == u {
+                    on_elements(sign, x, y)
+                } else {
+                    Worth::NoScalar
+                }
+            }
+        },
+    }
+}
+
+fn is_truth(a: Scalar) -> bool
+    ensures { result ≡ is_truth a }
+{
+    match a {
+        Scalar::Truth(_) => true,
+        Scalar::Number(_) => false,
+        Scalar::Element(_, _) => false,
+    }
+}
+
+fn is_number(a: Scalar) -> bool
+    ensures { result ≡ is_number a }
+{
+    match a {
+        Scalar::Truth(_) => false,
+        Scalar::Number(_) => true,
+        Scalar::Element(_, _) => false,
     }
 }
 
@@ -87,22 +142,21 @@ fn operate(sign: InfixSign, a: Scalar, b: Scalar) -> Worth
 fn takes(sign: InfixSign, a: Scalar) -> bool
     ensures { result ≡ takes (op_of sign) a }
 {
-    let is_truth = matches!(a, Scalar::Truth(_));
     match sign {
-        InfixSign::Iff => is_truth,
-        InfixSign::Implies => is_truth,
-        InfixSign::Explies => is_truth,
-        InfixSign::And => is_truth,
-        InfixSign::Or => is_truth,
+        InfixSign::Iff => is_truth(a),
+        InfixSign::Implies => is_truth(a),
+        InfixSign::Explies => is_truth(a),
+        InfixSign::And => is_truth(a),
+        InfixSign::Or => is_truth(a),
         InfixSign::Equal => true,
         InfixSign::Unequal => true,
-        InfixSign::Less => !is_truth,
-        InfixSign::AtMost => !is_truth,
-        InfixSign::Greater => !is_truth,
-        InfixSign::AtLeast => !is_truth,
-        InfixSign::Plus => !is_truth,
-        InfixSign::Minus => !is_truth,
-        InfixSign::Times => !is_truth,
+        InfixSign::Less => is_number(a),
+        InfixSign::AtMost => is_number(a),
+        InfixSign::Greater => is_number(a),
+        InfixSign::AtLeast => is_number(a),
+        InfixSign::Plus => is_number(a),
+        InfixSign::Minus => is_number(a),
+        InfixSign::Times => is_number(a),
     }
 }
 
@@ -148,6 +202,10 @@ fn prefix_on(sign: PrefixSign, a: Scalar) -> Worth
         Scalar::Number(z) => match sign {
             PrefixSign::Not => Worth::NoScalar,
             PrefixSign::Minus => exact(neg(z)),
+        },
+        Scalar::Element(_, _) => match sign {
+            PrefixSign::Not => Worth::NoScalar,
+            PrefixSign::Minus => Worth::NoScalar,
         },
     }
 }

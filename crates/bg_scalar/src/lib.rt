@@ -1,5 +1,5 @@
-//! What expressions over truth values and whole numbers, with functions on them, are worth, exactly, or the first operation that leaves
-//! 128 bits.
+//! What expressions over truth values, whole numbers and elements of user types, with functions on them, are worth, exactly, or the first
+//! operation that leaves 128 bits.
 #![tactic(auto)]
 
 mod choice;

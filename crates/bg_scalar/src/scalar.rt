@@ -1,11 +1,12 @@
 //! Scalars.
 use bg_base::OutOfRange;
 
-/// A truth value or a whole number.
+/// A truth value, a whole number, or the element with a number of the user type that is declared with a number.
 #[derive(Clone, Copy, PartialEq, Eq, PartialOrd, Ord, Debug)]
 pub enum Scalar {
     Truth(bool),
     Number(i128),
+    Element(u32, i128),
 }
 
 /// What an expression is worth: a scalar; none, since this operation leaves 128 bits, the first that does; or none, since something in

@@ -1,4 +1,4 @@
-pub mod Written
+pub mod Declared
 pub mod Given
 pub mod Below
 pub mod Incarnated

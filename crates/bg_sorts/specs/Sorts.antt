@@ -1,39 +1,43 @@
--- The sorts of types, of variables, and of the incarnations that commands make.
+-- What types, variables, and the incarnations that commands make hold.
 use Rattle.std.specs.Prelude.{List, [], ◌∷◌, ◌++◌, map, Option, Some, None, slice_get}
-use Rattle.bg_ast.specs.Values.{Ty, IntTy, BoolTy}
+use Rattle.bg_ast.specs.Values.{Ty, IntTy, BoolTy, UserTy, MapTy}
 use Rattle.bg_ast.specs.Syntax.{Var, Global, Local, Decl}
 use Rattle.bg_sense.specs.Types.{types_of}
 use Rattle.bg_flow.specs.Core.{Cmd, Forget, Put, Perform}
+use Rattle.bg_fits.specs.declared.types.Holding.{Holding}
+use Rattle.bg_fits.specs.declared.types.Holding.TheVariants.{Numbers}
+use Rattle.bg_fits.specs.Holdings.{holding_of}
 use Rattle.bg_linear.specs.declared.scalar.Sort.{Sort}
 use Rattle.bg_linear.specs.declared.scalar.Sort.TheVariants as sort
 
--- the sort of what has this type
+-- the sort of what stands for a value of this type: elements are told apart by their numbers
 abbrev pub sort_of_type : Ty → Sort
 sort_of_type BoolTy = sort.Truth
 sort_of_type IntTy = sort.Number
-sort_of_type _ = sort.Other
+sort_of_type (UserTy u) = sort.Number
+sort_of_type (MapTy ks t) = sort.Other
 
--- the sorts of declared variables
-abbrev pub decl_sorts : List Decl → List Sort
-decl_sorts ds = map sort_of_type (types_of ds)
+-- what declared variables hold
+abbrev pub decl_holdings : List Decl → List Holding
+decl_holdings ds = map holding_of (types_of ds)
 
--- what is not declared counts as a number
-abbrev pub sort_or : Option Sort → Sort
-sort_or None = sort.Number
-sort_or (Some s) = s
+-- what is not declared holds numbers
+abbrev pub holding_or : Option Holding → Holding
+holding_or None = Numbers
+holding_or (Some s) = s
 
--- the sort of a variable, where globals and the frame have these
-abbrev pub variable_sort : List Sort → List Sort → Var → Sort
-variable_sort globals frame (Global x) = sort_or (slice_get globals x)
-variable_sort globals frame (Local x) = sort_or (slice_get frame x)
+-- what a variable holds, where globals and the frame hold these
+abbrev pub variable_holding : List Holding → List Holding → Var → Holding
+variable_holding globals frame (Global x) = holding_or (slice_get globals x)
+variable_holding globals frame (Local x) = holding_or (slice_get frame x)
 
--- the sorts of the incarnations that a command makes
-abbrev pub cmd_sorts : (Var → Sort) → Cmd → List Sort
-cmd_sorts sorts (Forget xs) = map sorts xs
-cmd_sorts sorts (Put xs es) = map sorts xs
-cmd_sorts sorts (Perform k) = decl_sorts k.params ++ (map sorts k.modifies ++ decl_sorts k.results)
-cmd_sorts sorts _ = []
+-- what the incarnations hold that a command makes
+abbrev pub cmd_holdings : (Var → Holding) → Cmd → List Holding
+cmd_holdings holdings (Forget xs) = map holdings xs
+cmd_holdings holdings (Put xs es) = map holdings xs
+cmd_holdings holdings (Perform k) = decl_holdings k.params ++ (map holdings k.modifies ++ decl_holdings k.results)
+cmd_holdings holdings _ = []
 
-abbrev pub cmds_sorts : (Var → Sort) → List Cmd → List Sort
-cmds_sorts sorts [] = []
-cmds_sorts sorts (k ∷ ks) = cmd_sorts sorts k ++ cmds_sorts sorts ks
+abbrev pub cmds_holdings : (Var → Holding) → List Cmd → List Holding
+cmds_holdings holdings [] = []
+cmds_holdings holdings (k ∷ ks) = cmd_holdings holdings k ++ cmds_holdings holdings ks

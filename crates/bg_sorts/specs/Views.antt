@@ -1,8 +1,8 @@
--- How the code's sorts of variables are read.
+-- How the code's holdings of variables are read.
 use Rattle.bg_ast.specs.Syntax.{Var}
-use Rattle.bg_linear.specs.declared.scalar.Sort.{Sort}
+use Rattle.bg_fits.specs.declared.types.Holding.{Holding}
 use Rattle.bg_sorts.specs.declared.known.Known.{Known}
-use Rattle.bg_sorts.specs.Sorts.{variable_sort}
+use Rattle.bg_sorts.specs.Sorts.{variable_holding}
 
-abbrev pub sorts_in : Known → Var → Sort
-sorts_in known = variable_sort known.globals.now known.frame.now
+abbrev pub holdings_in : Known → Var → Holding
+holdings_in known = variable_holding known.globals.now known.frame.now

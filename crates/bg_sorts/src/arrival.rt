@@ -1,12 +1,12 @@
-//! The sorts of the new incarnations of an arrival.
+//! The holdings of the new incarnations of an arrival.
 ghost use Rattle.std.specs.Prelude.{◌≡◌, OnOk};
 ghost use Rattle.bg_sorts.specs.Arrivals.{with_one, with_new};
 
-use bg_linear::Sort;
+use bg_fits::Holding;
 use std::alloc::AllocError;
 
-/// Adds the sort of an incarnation, where it is a new one.
-fn push_one(made: &mut Vec<Sort>, j: u32, s: Sort) -> Result<(), AllocError>
+/// Adds what an incarnation holds, where it is a new one.
+fn push_one(made: &mut Vec<Holding>, j: u32, s: Holding) -> Result<(), AllocError>
     ensures { OnOk result (made.new.items ≡ with_one j s made.old.items) }
 {
     if j as usize >= made.len() {
@@ -15,16 +15,20 @@ fn push_one(made: &mut Vec<Sort>, j: u32, s: Sort) -> Result<(), AllocError>
     Ok(())
 }
 
-/// Adds the sorts of the variables whose incarnations are new.
+/// Adds the holdings of the variables whose incarnations are new.
 #[tactic(auto, using(crate::proofs::Given::new_past))]
-pub fn push_new(made: &mut Vec<Sort>, numbers: &[u32], sorts: &[Sort]) -> Result<(), AllocError>
-    ensures { OnOk result (made.new.items ≡ with_new numbers.now sorts.now made.old.items) }
+pub fn push_new(
+    made: &mut Vec<Holding>,
+    numbers: &[u32],
+    holdings: &[Holding],
+) -> Result<(), AllocError>
+    ensures { OnOk result (made.new.items ≡ with_new numbers.now holdings.now made.old.items) }
 {
     for (i, j) in numbers.iter().enumerate() {
-        if i >= sorts.len() {
+        if i >= holdings.len() {
             return Ok(());
         }
-        push_one(made, *j, sorts[i])?;
+        push_one(made, *j, holdings[i])?;
     }
     Ok(())
 }

@@ -1,4 +1,4 @@
-//! The sorts of declared variables, and of the incarnations that passive blocks give them.
+//! What declared variables hold, and what the incarnations hold that passive blocks give them.
 #![tactic(auto)]
 
 mod arrival;
@@ -7,5 +7,5 @@ mod known;
 mod types;
 mod whole;
 
-pub use types::{frame_sorts, sorts_of, written_sort};
-pub use whole::sorts;
+pub use types::{declared_holdings, frame_holdings};
+pub use whole::holdings;

@@ -1,4 +1,4 @@
-//! The sorts of all incarnations.
+//! What all incarnations hold.
 ghost use Rattle.std.specs.Prelude.{◌≡◌, ◌++◌, List, map, length, IfOk, OnOk};
 ghost use Rattle.bg_ast.specs.Resolved as r;
 ghost use Rattle.bg_ast.specs.Meaning.{meaning_of};
@@ -9,33 +9,34 @@ ghost use Rattle.bg_passive.specs.Incarnations.{incarnations};
 ghost use Rattle.bg_passive.specs.Arrivals.{arrived};
 ghost use Rattle.bg_incarnate.specs.Even.{BlocksEven};
 ghost use Rattle.bg_incarnate.specs.Views.{incarnations_of};
-ghost use Rattle.bg_sorts.specs.Sorts.{sort_of_type, decl_sorts};
+ghost use Rattle.bg_fits.specs.Holdings.{holding_of};
+ghost use Rattle.bg_sorts.specs.Sorts.{decl_holdings};
 ghost use Rattle.bg_sorts.specs.Arrivals.{after_block, after_blocks};
 ghost use Rattle.bg_sorts.specs.Passive.{ArrivesAt};
 
 use crate::arrival::push_new;
 use crate::commands::push_commands;
 use crate::known::Known;
-use crate::types::sorts_of;
+use crate::types::declared_holdings;
 use bg_ast::resolved::Resolved;
 use bg_blocks::Block;
+use bg_fits::Holding;
 use bg_incarnate::{Incarnations, Passive};
-use bg_linear::Sort;
 use std::alloc::{AllocError, Global};
 
-/// Adds these sorts.
-fn push_all(made: &mut Vec<Sort>, sorts: &[Sort]) -> Result<(), AllocError>
-    ensures { OnOk result (made.new.items ≡ made.old.items ++ sorts.now) }
+/// Adds these holdings.
+fn push_all(made: &mut Vec<Holding>, holdings: &[Holding]) -> Result<(), AllocError>
+    ensures { OnOk result (made.new.items ≡ made.old.items ++ holdings.now) }
 {
-    for s in sorts {
+    for s in holdings {
         made.push(*s)?;
     }
     Ok(())
 }
 
-/// Adds the sorts of the incarnations that are new at a block's arrival, and of those that its commands make.
+/// Adds the holdings of the incarnations that are new at a block's arrival, and of those that its commands make.
 fn push_block(
-    made: &mut Vec<Sort>,
+    made: &mut Vec<Holding>,
     known: &Known<'_>,
     at: &Incarnations,
     b: &Block<'_>,
@@ -50,7 +51,7 @@ fn push_block(
 /// The same of blocks, one after the other.
 #[tactic(auto, using(crate::proofs::Given::blocks_past))]
 fn push_blocks(
-    made: &mut Vec<Sort>,
+    made: &mut Vec<Holding>,
     known: &Known<'_>,
     arrivals: &[Incarnations],
     blocks: &[Block<'_>],
@@ -66,20 +67,20 @@ fn push_blocks(
     Ok(())
 }
 
-/// The sort of each incarnation of blocks made passive, where the frame's variables are of these sorts.
+/// What each incarnation of blocks made passive holds, where the frame's variables hold these.
 ///
 /// Only want of memory is an error.
-pub fn sorts(
+pub fn holdings(
     alloc: Global,
     program: &Resolved,
-    frame: &[Sort],
+    frame: &[Holding],
     blocks: &[Block<'_>],
     passive: &Passive,
-) -> Result<Vec<Sort>, AllocError>
-    ensures sorts { IfOk result (λ made. (rs : List r.Declared) → frame.now ≡ decl_sorts (frame_of (program_of program.now) rs) → ArrivesAt (program_of program.now) rs blocks.now passive.now → BlocksEven (map (block_of (program_of program.now)) blocks.now) → made.items ≡ map sort_of_type (incarnations (meaning_of (program_of program.now)) (frame_of (program_of program.now) rs) (arrived (meaning_of (program_of program.now)) (frame_of (program_of program.now) rs) (map (block_of (program_of program.now)) blocks.now)).made)) }
-    ensures count { IfOk result (λ made. (rs : List r.Declared) → frame.now ≡ decl_sorts (frame_of (program_of program.now) rs) → ArrivesAt (program_of program.now) rs blocks.now passive.now → BlocksEven (map (block_of (program_of program.now)) blocks.now) → length made.items ≡ passive.now.count) }
+) -> Result<Vec<Holding>, AllocError>
+    ensures holdings { IfOk result (λ made. (rs : List r.Declared) → frame.now ≡ decl_holdings (frame_of (program_of program.now) rs) → ArrivesAt (program_of program.now) rs blocks.now passive.now → BlocksEven (map (block_of (program_of program.now)) blocks.now) → made.items ≡ map holding_of (incarnations (meaning_of (program_of program.now)) (frame_of (program_of program.now) rs) (arrived (meaning_of (program_of program.now)) (frame_of (program_of program.now) rs) (map (block_of (program_of program.now)) blocks.now)).made)) }
+    ensures count { IfOk result (λ made. (rs : List r.Declared) → frame.now ≡ decl_holdings (frame_of (program_of program.now) rs) → ArrivesAt (program_of program.now) rs blocks.now passive.now → BlocksEven (map (block_of (program_of program.now)) blocks.now) → length made.items ≡ passive.now.count) }
 {
-    let globals = sorts_of(alloc, &program.types, &program.globals)?;
+    let globals = declared_holdings(alloc, &program.types, &program.globals)?;
     let known = Known {
         program,
         globals: &globals,

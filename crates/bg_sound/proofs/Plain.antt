@@ -1,8 +1,8 @@
--- Programs over truth values and whole numbers, and functions on them: an interpretation meets them.
+-- Programs over truth values, whole numbers and elements of user types, and functions on them: an interpretation meets them.
 use Rattle.std.proofs.Common.{◌≡◌, Bool, true, false, List, [], ◌∷◌, map, refl, ap}
 use Rattle.std.specs.Prelude.{not, ◌||◌}
 use Rattle.std.specs.List.{list_all}
-use Rattle.std.proofs.lemmas.Bool.{and_parts}
+use Rattle.std.proofs.lemmas.Bool.{and_parts, eq-eqb}
 use Rattle.bg_ast.specs.Values.{Ty, IntTy, BoolTy, UserTy, MapTy, Table, is_of}
 use Rattle.bg_ast.specs.Syntax.{Const, Fun, Prog}
 use Rattle.bg_ast.specs.Execution.{Interp}
@@ -23,7 +23,7 @@ empty_is (x ∷ xs) h = absurd (let bad : false ≡ true = h in cc)
 of_its_type : (n : Bool) (t : Ty) → is_scalar_type n t ≡ true → is_of t (default_for t) ≡ true
 of_its_type n IntTy h = refl
 of_its_type n BoolTy h = refl
-of_its_type n (UserTy k) h = absurd (let bad : false ≡ true = h in cc)
+of_its_type n (UserTy k) h = eq-eqb k k refl
 of_its_type n (MapTy ks t) h = absurd (let bad : false ≡ true = h in cc)
 
 -- the table that gives this value always

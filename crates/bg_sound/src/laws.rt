@@ -33,7 +33,7 @@ pub fn shorter_runs_lack_a_choice_or_fail()
         Fails p set t i s (front ++ (last ∷ [])) → (induction_run p set i t.implementation s front ≡ BadChoice) ⊎ Fails p set t i s front }
 {}
 
-/// A program over truth values and whole numbers, and functions on them, has consistent axioms.
+/// A program over truth values, whole numbers and elements of user types, and functions on them, has consistent axioms.
 pub fn programs_over_scalars_are_consistent()
     ensures { (p : Prog) (numbers : Bool) → is_over_scalars numbers p ≡ true → AreAxioms p Consistent }
 {}

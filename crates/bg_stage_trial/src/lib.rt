@@ -10,12 +10,12 @@ mod flat;
 #[cfg(test)]
 mod forms;
 #[cfg(test)]
+mod holdings;
+#[cfg(test)]
 mod model;
 #[cfg(test)]
 mod replay;
 #[cfg(test)]
 mod slice;
-#[cfg(test)]
-mod sorts;
 #[cfg(test)]
 mod text;

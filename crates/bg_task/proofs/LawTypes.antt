@@ -36,7 +36,7 @@ use Rattle.bg_faithful.specs.Encoded.{Encoding}
 use Rattle.bg_terms.specs.Instances as terms
 use Rattle.bg_termed.specs.Termed.{IsTabled, sorts_in, behind_in}
 use Rattle.bg_termed.specs.Clauses.{IsEncoding}
-use Rattle.bg_flatten.specs.Mapless.{are_mapless}
+use Rattle.bg_flat.specs.Mapless.{are_mapless}
 use Rattle.bg_flat_clauses.specs.Linear.{LinearBlocks}
 use Rattle.bg_fits.specs.Scalars.{is_over_scalars}
 

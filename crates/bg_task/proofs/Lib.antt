@@ -1,4 +1,8 @@
 pub mod LawTypes
+pub mod Marked
+pub mod Largest
+pub mod Numbering
+pub mod Differing
 pub mod Formulas
 pub mod Failures
 pub mod Numbered

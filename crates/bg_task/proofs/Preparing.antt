@@ -1,6 +1,7 @@
 -- Terms, flat blocks and sorts of an implementation that is prepared, and its blocks of forms behind instances.
-use Rattle.std.proofs.Common.{◌≡◌, ℕ, ◌+◌, true, List, [], ◌++◌, map, Some, sym, ap, ◌∙◌, subst}
+use Rattle.std.proofs.Common.{◌≡◌, ℕ, ◌+◌, true, List, [], ◌++◌, ℤ, map, Some, sym, ap, ◌∙◌, subst}
 use Rattle.std.specs.Prelude.{slice_get}
+use Rattle.std.proofs.lemmas.List.{map-append}
 use Rattle.bg_ast.specs.Syntax as s
 use Rattle.bg_ast.specs.Resolved as r
 use Rattle.bg_ast.specs.Meaning.{meaning_of, named_of, fun_of}
@@ -12,7 +13,8 @@ use Rattle.bg_block_types.specs.Typed.{incarnations_in, passives_in}
 use Rattle.bg_incarnate.specs.Views.{passive_block_of}
 use Rattle.bg_formed.specs.Views.{blocks_of}
 use Rattle.bg_linear.specs.declared.scalar.Sort.{Sort}
-use Rattle.bg_sorts.specs.Sorts.{sort_of_type}
+use Rattle.bg_fits.specs.declared.types.Holding.{Holding}
+use Rattle.bg_fits.specs.Holdings.{holding_of}
 use Rattle.bg_atoms.specs.Listed.{rows_of}
 use Rattle.bg_atoms.specs.Encoded.{blocks_over}
 use Rattle.bg_atoms.specs.Made.{rows_in}
@@ -26,13 +28,15 @@ use Rattle.bg_flat.specs.Blocks.{in_front}
 use Rattle.bg_flat.specs.Fronts.{stated}
 use Rattle.bg_flatten.specs.Numbered.{terms_of, flat_of}
 use Rattle.bg_flatten.specs.Plain.{PlainBlocks}
-use Rattle.bg_flat_clauses.specs.Sorts.{flat_sorts}
 use Rattle.bg_term_table.specs.Views as table
-use Rattle.bg_termed.specs.Termed.{count_in, terms_in, flats_in, sorts_in, behind_in}
+use Rattle.bg_termed.specs.Termed.{count_in, terms_in, flats_in, types_in, sorts_in, behind_in}
 use Rattle.bg_task.specs.declared.prepared.Prepared.{Prepared}
 use Rattle.bg_task.specs.Prepared.{IsPrepared, encoding_over}
 use Rattle.bg_task.specs.Cuts.{IsOwn}
+use Rattle.bg_task.specs.Holds.{flat_sort}
+use Rattle.bg_task.specs.Targets.{targets_of, targets_in}
 use Rattle.bg_task.proofs.LawTypes.{SortLaw}
+use Rattle.bg_task.proofs.Sorting.{sorts_flat}
 use Rattle.bg_task.proofs.Prepares.{impl, proc, impl_at, proc_at, own_here, sorted_own, none_in_front}
 
 -- ---- what the laws of flat blocks say
@@ -41,11 +45,6 @@ abbrev pub PlainLaw : Type 0
 PlainLaw =
     (p : s.Prog) (k : ℕ) (m : s.Impl) (q : s.Proc) → IsTyped p → p.functions ≡ [] → slice_get p.implementations k ≡ Some m →
     procedure_of p m.procedure ≡ Some q → PlainBlocks (passives_in p k m q)
-
-abbrev pub SortsLaw : Type 0
-SortsLaw =
-    (p : s.Prog) (k : ℕ) (m : s.Impl) (q : s.Proc) → IsTyped p → is_over_scalars true p ≡ true → slice_get p.implementations k ≡ Some m →
-    procedure_of p m.procedure ≡ Some q → sorts_in p k m q ≡ map sort_of_type (incarnations_in p k m q) ++ flat_sorts (map type_of (terms_in p k m q))
 
 abbrev pub PlainFlatLaw : Type 0
 PlainFlatLaw =
@@ -69,11 +68,23 @@ module _ (p : s.Prog) (n : ℕ) (m : s.Impl) (q : s.Proc) (count : ℕ) (ps : Li
 pub no_functions : (p : r.Program) → p.functions ≡ [] → (meaning_of p).functions ≡ []
 no_functions p e = ap (map (fun_of (named_of p.types))) e
 
-pub sorts_all : SortsLaw → (p : s.Prog) (n : ℕ) (m : s.Impl) (q : s.Proc) → IsTyped p → is_over_scalars true p ≡ true → slice_get p.implementations n ≡ Some m → procedure_of p m.procedure ≡ Some q → (incs : List Sort) (ts : List Term) (ss : List Sort) → incs ≡ map sort_of_type (incarnations_in p n m q) → ts ≡ terms_in p n m q → ss ≡ incs ++ flat_sorts (map type_of ts) → ss ≡ sorts_in p n m q
-sorts_all law p n m q t o im pr incs ts ss a b e =
-    e
-    ∙ (ap (λ is. is ++ flat_sorts (map type_of ts)) a
-    ∙ (ap (λ us. map sort_of_type (incarnations_in p n m q) ++ flat_sorts (map type_of us)) b ∙ sym (law p n m q t o im pr)))
+module _ (p : s.Prog) (n : ℕ) (m : s.Impl) (q : s.Proc) where
+  -- what incarnations and terms hold
+  pub holdings_all : (incs : List Holding) (ts : List Term) (hs : List Holding) → incs ≡ map holding_of (incarnations_in p n m q) → ts ≡ terms_in p n m q → hs ≡ incs ++ map holding_of (map type_of ts) → hs ≡ map holding_of (types_in p n m q)
+  holdings_all incs ts hs a b e =
+      e
+      ∙ (ap (λ is. is ++ map holding_of (map type_of ts)) a
+      ∙ (ap (λ us. map holding_of (incarnations_in p n m q) ++ map holding_of (map type_of us)) b
+      ∙ sym (map-append holding_of (incarnations_in p n m q) (map type_of (terms_in p n m q)))))
+
+  -- the sorts of what stands for that
+  pub sorts_all : (hs : List Holding) (ss : List Sort) → hs ≡ map holding_of (types_in p n m q) → ss ≡ map flat_sort hs → ss ≡ sorts_in p n m q
+  sorts_all hs ss h e = e ∙ (ap (map flat_sort) h ∙ sorts_flat (types_in p n m q))
+
+  -- their targets
+  pub targets_all : (hs : List Holding) (ts : List Term) (zs : List ℤ) → hs ≡ map holding_of (types_in p n m q) → ts ≡ terms_in p n m q → zs ≡ targets_of hs ts → zs ≡ targets_in p n m q
+  targets_all hs ts zs a b e =
+      e ∙ (ap (λ x. targets_of x ts) a ∙ ap (targets_of (map holding_of (types_in p n m q))) b)
 
 -- flat blocks behind no instance
 pub behind_none : (p : s.Prog) (n : ℕ) (m : s.Impl) (q : s.Proc) (fs : List PassiveBlock) → fs ≡ flats_in p n m q → fs ≡ behind_in p n m q []

@@ -1,3 +1,6 @@
+pub mod Holds
+pub mod Targets
+pub mod Spread
 pub mod Cuts
 pub mod Prepared
 pub mod Slices

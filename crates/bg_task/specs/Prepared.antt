@@ -12,11 +12,13 @@ use Rattle.bg_places.specs.Placed.{Placed}
 use Rattle.bg_passive.specs.Arrivals.{arrived}
 use Rattle.bg_incarnate.specs.Walked.{next_in}
 use Rattle.bg_incarnate.specs.Views.{passive_block_of}
+use Rattle.bg_fits.specs.Holdings.{holding_of}
 use Rattle.bg_atoms.specs.declared.product.Atoms.{Atoms}
 use Rattle.bg_faithful.specs.Encoded.{Encoding}
 use Rattle.bg_term_table.specs.Views as table
-use Rattle.bg_termed.specs.Termed.{count_in, terms_in, flats_in, sorts_in}
+use Rattle.bg_termed.specs.Termed.{count_in, terms_in, flats_in, types_in, sorts_in}
 use Rattle.bg_task.specs.Cuts.{IsOwn}
+use Rattle.bg_task.specs.Targets.{targets_in}
 use Rattle.bg_task.specs.declared.prepared.Prepared.{Prepared}
 
 -- the first new incarnation at each arrival, where blocks of a program are made passive in this frame
@@ -37,7 +39,8 @@ abbrev pub frame_declared : r.Impl → r.Proc → List r.Declared
 frame_declared m q = q.params ++ (q.results ++ m.locals)
 
 -- the blocks of the implementation with this number, the first new incarnations at their arrivals, how many incarnations there are, its
--- terms, its flat blocks where it has terms, the sorts of incarnations and terms, and the blocks of forms behind no instance
+-- terms, its flat blocks where it has terms, what incarnations and terms hold, the sorts of what stands for that, the blocks of forms
+-- behind no instance, and the targets of incarnations and terms
 pub record IsPrepared (p : r.Program) (number : ℕ) (w : Prepared) : Type 0 where
   pub implementation : r.Impl
   pub procedure : r.Proc
@@ -49,8 +52,10 @@ pub record IsPrepared (p : r.Program) (number : ℕ) (w : Prepared) : Type 0 whe
   pub count : w.count ≡ count_in (meaning_of p) number (impl_of (named_of p.types) implementation) (proc_of (named_of p.types) procedure)
   pub terms : table.terms_in (meaning_of p).functions w.terms.items ≡ terms_in (meaning_of p) number (impl_of (named_of p.types) implementation) (proc_of (named_of p.types) procedure)
   pub flats : (w.terms.items ≡ [] → ⊥) → map passive_block_of w.flats.items ≡ flats_in (meaning_of p) number (impl_of (named_of p.types) implementation) (proc_of (named_of p.types) procedure)
+  pub holdings : w.holdings.items ≡ map holding_of (types_in (meaning_of p) number (impl_of (named_of p.types) implementation) (proc_of (named_of p.types) procedure))
   pub sorts : w.sorts.items ≡ sorts_in (meaning_of p) number (impl_of (named_of p.types) implementation) (proc_of (named_of p.types) procedure)
   pub own : IsOwn (meaning_of p) number (impl_of (named_of p.types) implementation) (proc_of (named_of p.types) procedure) [] (encoding_over (meaning_of p).candidates w.atoms)
+  pub targets : w.targets.items ≡ targets_in (meaning_of p) number (impl_of (named_of p.types) implementation) (proc_of (named_of p.types) procedure)
 
 -- each is a place of the implementation that is prepared
 abbrev pub ArePrepared : r.Program → Prepared → List Placed → Type 0

@@ -15,7 +15,7 @@ use bg_fronts::behind;
 use bg_term_table::Instance;
 use bg_termed::laws::{
     blocks_behind_instances_are_sorted, flat_blocks_of_programs_are_plain,
-    implementations_over_scalars_have_scalars, programs_over_scalars_are_tabled,
+    implementations_over_scalars_have_no_maps, programs_over_scalars_are_tabled,
 };
 use std::alloc::{AllocError, Global};
 
@@ -33,7 +33,7 @@ pub fn atoms_behind(
     ensures { IfOk result (λ made. (number : ℕ) (h : IsPrepared (program_of program.now) number prepared.now) → IsOwn (meaning_of (program_of program.now)) number (impl_of (named_of (program_of program.now).types) h.implementation) (proc_of (named_of (program_of program.now).types) h.procedure) (instances_of instances.now) (encoding_over (meaning_of (program_of program.now)).candidates made)) }
 {
     programs_over_scalars_are_tabled();
-    implementations_over_scalars_have_scalars();
+    implementations_over_scalars_have_no_maps();
     blocks_behind_instances_are_sorted();
     flat_blocks_of_programs_are_plain();
     let candidates = count_candidates(program)?;

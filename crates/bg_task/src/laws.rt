@@ -1,5 +1,5 @@
 //! Laws of places' clauses, which are proved of the definitions alone.
-ghost use Rattle.std.specs.Prelude.{◌≡◌, ℕ, Bool, true, List};
+ghost use Rattle.std.specs.Prelude.{◌≡◌, ◌⊎◌, ℕ, ℤ, pos, Bool, true, List, [], Some, slice_get};
 ghost use Rattle.bg_base.specs.declared.exact.OutOfRange.{OutOfRange};
 ghost use Rattle.bg_ast.specs.Syntax.{Prog};
 ghost use Rattle.bg_ast.specs.Execution.{Interp, State, Choice, Place};
@@ -10,11 +10,14 @@ ghost use Rattle.bg_formula.specs.Meaning.{AtomsAgree};
 ghost use Rattle.bg_cert.specs.Certs.{CertOf, Accepts, cert_of, uses};
 ghost use Rattle.bg_cert.specs.Walks.{has, no_instance};
 ghost use Rattle.bg_fits.specs.Scalars.{is_over_scalars};
+ghost use Rattle.bg_fits.specs.declared.types.Holding.{Holding};
+ghost use Rattle.bg_terms.specs.Terms.{Term};
 ghost use Rattle.bg_terms.specs.Instances.{Instance};
 ghost use Rattle.bg_termed.specs.Termed.{sorts_in, behind_in};
 ghost use Rattle.bg_formula.specs.Formulas.{Formula};
 ghost use Rattle.bg_task.specs.Cuts.{HasOwnClauses};
 ghost use Rattle.bg_task.specs.Ways.{LiesOnWay};
+ghost use Rattle.bg_task.specs.Targets.{targets_of};
 ghost use Rattle.bg_task.specs.Certified.{HasCertificate, HasOutside};
 
 use bg_cert::laws::{accepted_has_no_valuation, accepted_where_used};
@@ -24,7 +27,7 @@ use bg_passive::laws::{arrivals_fit, passive_blocks_fail_alike};
 use bg_sense::laws::typed_programs_have_typed_bodies;
 use bg_slice::laws::slices_use_alike;
 use bg_termed::laws::{
-    denied_passive_blocks_have_valuations, implementations_over_scalars_have_scalars,
+    denied_passive_blocks_have_valuations, implementations_over_scalars_have_no_maps,
     programs_over_scalars_are_tabled,
 };
 
@@ -39,7 +42,7 @@ pub fn proved_places_do_not_fail()
     arrivals_fit();
     equations_deny_failing_walks();
     programs_over_scalars_are_tabled();
-    implementations_over_scalars_have_scalars();
+    implementations_over_scalars_have_no_maps();
     denied_passive_blocks_have_valuations();
     accepted_has_no_valuation();
     accepted_where_used();
@@ -57,7 +60,7 @@ pub fn accepted_places_do_not_fail()
     arrivals_fit();
     equations_deny_failing_walks();
     programs_over_scalars_are_tabled();
-    implementations_over_scalars_have_scalars();
+    implementations_over_scalars_have_no_maps();
     denied_passive_blocks_have_valuations();
     accepted_has_no_valuation();
     accepted_where_used();
@@ -79,3 +82,13 @@ pub fn a_place_has_one_list_of_clauses()
 {
     slices_use_alike()
 }
+
+/// Where there are no terms all targets are 0.
+pub fn without_terms_targets_are_zero()
+    ensures { (hs : List Holding) (k : ℕ) (z : ℤ) → slice_get (targets_of hs []) k ≡ Some z → z ≡ pos 0 }
+{}
+
+/// No two incarnations or terms have one target, but for 0.
+pub fn targets_differ()
+    ensures { (hs : List Holding) (ts : List Term) (i j : ℕ) (z : ℤ) → slice_get (targets_of hs ts) i ≡ Some z → slice_get (targets_of hs ts) j ≡ Some z → (z ≡ pos 0) ⊎ (i ≡ j) }
+{}

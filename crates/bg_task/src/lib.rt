@@ -1,4 +1,4 @@
-//! A place of a program over truth values and whole numbers as a task: what is made once of its implementation, what of that counts for
+//! A place of a program over scalars as a task: what is made once of its implementation, what of that counts for
 //! the place, and its clauses behind instances, which a certificate shows to have no solution. Nothing here searches.
 #![tactic(auto)]
 
@@ -6,10 +6,11 @@ mod behind;
 mod clauses;
 mod cut;
 mod flat;
+mod held;
 pub mod laws;
 mod prepared;
 mod question;
-mod term_sorts;
+mod targets;
 
 pub use clauses::{Made, place_clauses};
 pub use cut::{Cut, cut_down};

@@ -7,29 +7,31 @@ ghost use Rattle.bg_sense.specs.Typed.{IsTyped};
 ghost use Rattle.bg_blocks.specs.Callees.{IsModified};
 ghost use Rattle.bg_blocks.specs.EmittedViews.{frame_of};
 ghost use Rattle.bg_fits.specs.Scalars.{is_over_scalars};
-ghost use Rattle.bg_sorts.specs.Sorts.{decl_sorts};
+ghost use Rattle.bg_sorts.specs.Sorts.{decl_holdings};
 ghost use Rattle.bg_task.specs.Prepared.{IsPrepared, frame_declared};
 
 use crate::flat::made_flat;
-use crate::term_sorts::with_terms;
+use crate::held::{flat_sorts, with_terms};
+use crate::targets::targets_of;
 use bg_ast::resolved::{Resolved, Variable};
 use bg_atoms::{Atoms, atoms};
 use bg_blocks::{Block, blocks};
 use bg_faithful::laws::blocks_over_scalars_are_even;
+use bg_fits::Holding;
 use bg_flatten::Flat;
 use bg_incarnate::{Passive, PassiveBlock, passive};
 use bg_linear::Sort;
-use bg_sorts::{frame_sorts, sorts};
+use bg_sorts::{frame_holdings, holdings};
 use bg_term_table::Term;
 use bg_termed::laws::{
-    blocks_behind_instances_are_sorted, implementations_over_scalars_have_scalars,
+    blocks_behind_instances_are_sorted, implementations_over_scalars_have_no_maps,
     implementations_without_functions_stay, programs_over_scalars_are_tabled,
 };
 use std::alloc::{AllocError, Global};
 
 /// The blocks of an implementation, the first new incarnation at each arrival where they are made passive, how many incarnations there
-/// are, its terms, where it has terms its flat blocks, the sorts of incarnations and terms, the blocks of forms behind no instance, and
-/// how many variables the frame has.
+/// are, its terms, where it has terms its flat blocks, what incarnations and terms hold, the sorts of what stands for that, the blocks of
+/// forms behind no instance, the targets of incarnations and terms, and how many variables the frame has.
 #[derive(Drop)]
 pub struct Prepared<'p> {
     pub blocks: Vec<Block<'p>>,
@@ -37,14 +39,16 @@ pub struct Prepared<'p> {
     pub count: u32,
     pub terms: Vec<Term>,
     pub flats: Vec<PassiveBlock>,
+    pub holdings: Vec<Holding>,
     pub sorts: Vec<Sort>,
     pub atoms: Atoms,
+    pub targets: Vec<i128>,
     pub frame: usize,
 }
 
-/// The sorts of an implementation's frame.
-fn sorts_in(alloc: Global, program: &Resolved, number: usize) -> Result<Vec<Sort>, AllocError>
-    ensures { IfOk result (λ made. (m : r.Impl) (q : r.Proc) → slice_get (program_of program.now).implementations number ≡ Some m → slice_get (program_of program.now).procedures m.procedure ≡ Some q → made.items ≡ decl_sorts (frame_of (program_of program.now) (frame_declared m q))) }
+/// What the variables of an implementation's frame hold.
+fn frame_in(alloc: Global, program: &Resolved, number: usize) -> Result<Vec<Holding>, AllocError>
+    ensures { IfOk result (λ made. (m : r.Impl) (q : r.Proc) → slice_get (program_of program.now).implementations number ≡ Some m → slice_get (program_of program.now).procedures m.procedure ≡ Some q → made.items ≡ decl_holdings (frame_of (program_of program.now) (frame_declared m q))) }
 {
     let Some(m) = program.implementations.get(number) else {
         return Ok(Vec::new(alloc));
@@ -52,7 +56,7 @@ fn sorts_in(alloc: Global, program: &Resolved, number: usize) -> Result<Vec<Sort
     let Some(q) = program.procedures.get(m.procedure as usize) else {
         return Ok(Vec::new(alloc));
     };
-    frame_sorts(alloc, &program.types, q, m)
+    frame_holdings(alloc, &program.types, q, m)
 }
 
 /// How many candidates there are; more than 2^32 are more than memory holds.
@@ -75,7 +79,7 @@ fn kept(alloc: Global, terms: &[Term], blocks: Vec<PassiveBlock>) -> Vec<Passive
     blocks
 }
 
-/// Prepares the implementation with this number of a typed program over truth values and whole numbers, where these are what its
+/// Prepares the implementation with this number of a typed program over scalars, where these are what its
 /// procedures modify. In a program without functions no block is copied.
 ///
 /// Only want of memory is an error; 2^32 incarnations and terms, or atoms, count as such.
@@ -93,13 +97,13 @@ pub fn prepare<'p>(
 {
     blocks_over_scalars_are_even();
     programs_over_scalars_are_tabled();
-    implementations_over_scalars_have_scalars();
+    implementations_over_scalars_have_no_maps();
     implementations_without_functions_stay();
     blocks_behind_instances_are_sorted();
     let blocks = blocks(alloc, program, callees, number)?;
-    let frame = sorts_in(alloc, program, number)?;
+    let frame = frame_in(alloc, program, number)?;
     let passive = passive(alloc, program, frame.len(), &blocks)?;
-    let incarnations = sorts(alloc, program, &frame, &blocks, &passive)?;
+    let incarnations = holdings(alloc, program, &frame, &blocks, &passive)?;
     let Passive {
         blocks: passives,
         arrivals: _,
@@ -110,20 +114,24 @@ pub fn prepare<'p>(
         terms,
         blocks: flats,
     } = made_flat(alloc, program, count, passives)?;
-    let sorts = with_terms(program, incarnations, &terms)?;
+    let held = with_terms(program, incarnations, &terms)?;
+    let sorts = flat_sorts(alloc, &held)?;
     let candidates = count_candidates(program)?;
     let Some(atoms) = atoms(alloc, &sorts, candidates, &flats)? else {
         unreachable!()
     };
     let flats = kept(alloc, &terms, flats);
+    let targets = targets_of(alloc, &held, &terms)?;
     Ok(Prepared {
         blocks,
         firsts,
         count,
         terms,
         flats,
+        holdings: held,
         sorts,
         atoms,
+        targets,
         frame: frame.len(),
     })
 }

@@ -1,4 +1,4 @@
-pub mod Own
+pub mod Behind
 pub mod Tabled
 pub mod Plain
 pub mod Firsts

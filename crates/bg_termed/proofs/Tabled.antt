@@ -12,37 +12,26 @@ use Rattle.bg_fits.specs.Scalars.{is_scalar_type, is_over_scalars}
 use Rattle.bg_faithful.proofs.Scalars.{IsScalar, AreScalars}
 use Rattle.bg_faithful.proofs.Whole.{no_constants, each_function}
 use Rattle.bg_terms.specs.Terms.{Head, Applies, Selects, Updates, Differs, Term}
-use Rattle.bg_terms.specs.Alike.{is_scalar}
 use Rattle.bg_terms.specs.Tables.{is_application}
 use Rattle.bg_terms.specs.Typed.{HeadHasType, TermsTyped, type_of, types_with}
-use Rattle.bg_flatten.specs.Mapless.{are_mapless}
-use Rattle.bg_read_off.specs.Leaves.{are_scalar, AreApplications}
+use Rattle.bg_flat.specs.Mapless.{are_mapless}
+use Rattle.bg_read_off.specs.Leaves.{AreApplications}
 use Rattle.bg_termed.specs.Termed.{IsTabled}
 
 no_map : (t : Ty) → IsScalar t → is_map t ≡ false
 no_map IntTy h = refl
 no_map BoolTy h = refl
-no_map (UserTy u) h = absurd (let bad : ⊥ = cc in bad)
-no_map (MapTy ks u) h = absurd (let bad : ⊥ = cc in bad)
-
-its_scalar : (t : Ty) → IsScalar t → is_scalar t ≡ true
-its_scalar IntTy h = refl
-its_scalar BoolTy h = refl
-its_scalar (UserTy u) h = absurd (let bad : ⊥ = cc in bad)
-its_scalar (MapTy ks u) h = absurd (let bad : ⊥ = cc in bad)
+no_map (UserTy u) h = refl
+no_map (MapTy ks u) h = absurd (let bad : false ≡ true = h in let no : ⊥ = cc in no)
 
 pub mapless : (ts : List Ty) → AreScalars ts → are_mapless ts ≡ true
 mapless [] h = refl
 mapless (t ∷ ts) h = both (not (is_map t)) (are_mapless ts) (ap not (no_map t h.0)) (mapless ts h.1)
 
-pub its_scalars : (ts : List Ty) → AreScalars ts → are_scalar ts ≡ true
-its_scalars [] h = refl
-its_scalars (t ∷ ts) h = both (is_scalar t) (are_scalar ts) (its_scalar t h.0) (its_scalars ts h.1)
-
-scalars_behind : (ts us : List Ty) → are_scalar ts ≡ true → are_scalar us ≡ true → are_scalar (ts ++ us) ≡ true
-scalars_behind [] us h k = k
-scalars_behind (t ∷ ts) us h k =
-    both (is_scalar t) (are_scalar (ts ++ us)) (and_left (is_scalar t) (are_scalar ts) h) (scalars_behind ts us (and_right (is_scalar t) (are_scalar ts) h) k)
+mapless_behind : (ts us : List Ty) → are_mapless ts ≡ true → are_mapless us ≡ true → are_mapless (ts ++ us) ≡ true
+mapless_behind [] us h k = k
+mapless_behind (t ∷ ts) us h k =
+    both (not (is_map t)) (are_mapless (ts ++ us)) (and_left (not (is_map t)) (are_mapless ts) h) (mapless_behind ts us (and_right (not (is_map t)) (are_mapless ts) h) k)
 
 no_body : (b : Option Ex) → not (has_body b) ≡ true → b ≡ None
 no_body None h = refl
@@ -67,21 +56,21 @@ module _ (p : Prog) (o : is_over_scalars true p ≡ true) where
         results = λ f fn e. no_map fn.result (result_scalar f fn e);
       }
 
-  -- what an application of a function gives is a scalar
+  -- what an application of a function gives is no map
   module _ (incs : List Ty) where
-    made_scalar : (tys : List Ty) (h : Head) (xs : _) (t : Ty) → is_application h ≡ true → HeadHasType p.functions tys h xs t → is_scalar t ≡ true
-    made_scalar tys (Applies f) xs t a h =
-        subst (λ u. is_scalar u ≡ true) (sym h.1.1.0) (its_scalar h.0.result (result_scalar f h.0 h.1.0))
-    made_scalar tys (Selects ks u) xs t a h = absurd (let bad : ⊥ = cc in bad)
-    made_scalar tys (Updates ks u) xs t a h = absurd (let bad : ⊥ = cc in bad)
-    made_scalar tys (Differs ks u j) xs t a h = absurd (let bad : ⊥ = cc in bad)
+    made_mapless : (tys : List Ty) (h : Head) (xs : _) (t : Ty) → is_application h ≡ true → HeadHasType p.functions tys h xs t → is_map t ≡ false
+    made_mapless tys (Applies f) xs t a h =
+        subst (λ u. is_map u ≡ false) (sym h.1.1.0) (no_map h.0.result (result_scalar f h.0 h.1.0))
+    made_mapless tys (Selects ks u) xs t a h = absurd (let bad : ⊥ = cc in bad)
+    made_mapless tys (Updates ks u) xs t a h = absurd (let bad : ⊥ = cc in bad)
+    made_mapless tys (Differs ks u j) xs t a h = absurd (let bad : ⊥ = cc in bad)
 
-    terms_scalar : (ts : List Term) → ((a : ℕ) (t : Term) → slice_get ts a ≡ Some t → is_scalar t.ty ≡ true) → are_scalar (map type_of ts) ≡ true
-    terms_scalar [] h = refl
-    terms_scalar (t ∷ ts) h =
-        both (is_scalar t.ty) (are_scalar (map type_of ts)) (h 0 t refl) (terms_scalar ts (λ a x e. h (suc a) x e))
+    terms_mapless : (ts : List Term) → ((a : ℕ) (t : Term) → slice_get ts a ≡ Some t → is_map t.ty ≡ false) → are_mapless (map type_of ts) ≡ true
+    terms_mapless [] h = refl
+    terms_mapless (t ∷ ts) h =
+        both (not (is_map t.ty)) (are_mapless (map type_of ts)) (ap not (h 0 t refl)) (terms_mapless ts (λ a x e. h (suc a) x e))
 
-    pub types_scalar : (ts : List Term) → AreScalars incs → AreApplications ts → TermsTyped p.functions incs ts → are_scalar (types_with incs ts) ≡ true
-    types_scalar ts s a typed =
-        scalars_behind incs (map type_of ts) (its_scalars incs s)
-        (terms_scalar ts (λ j t e. made_scalar (types_with incs ts) t.head t.args t.ty (a j t e) (typed j t e)))
+    pub types_mapless : (ts : List Term) → AreScalars incs → AreApplications ts → TermsTyped p.functions incs ts → are_mapless (types_with incs ts) ≡ true
+    types_mapless ts s a typed =
+        mapless_behind incs (map type_of ts) (mapless incs s)
+        (terms_mapless ts (λ j t e. made_mapless (types_with incs ts) t.head t.args t.ty (a j t e) (typed j t e)))

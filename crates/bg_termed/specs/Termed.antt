@@ -12,7 +12,7 @@ use Rattle.bg_terms.specs.Instances.{Instance}
 use Rattle.bg_terms.specs.Typed.{types_with}
 use Rattle.bg_flat.specs.Blocks.{in_front}
 use Rattle.bg_flat.specs.Fronts.{stated}
-use Rattle.bg_flatten.specs.Mapless.{GiveNoMaps}
+use Rattle.bg_flat.specs.Mapless.{GiveNoMaps}
 use Rattle.bg_flatten.specs.Numbered.{terms_of, flat_of}
 use Rattle.bg_flat_clauses.specs.Sorts.{flat_sorts}
 

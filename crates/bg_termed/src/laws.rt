@@ -1,5 +1,5 @@
 //! Laws of an implementation's blocks in terms.
-ghost use Rattle.std.specs.Prelude.{◌≡◌, ◌++◌, ℕ, ℤ, ◌<◌, Bool, true, false, List, [], map, take, Some, Ok, slice_get};
+ghost use Rattle.std.specs.Prelude.{◌≡◌, ℕ, ℤ, ◌<◌, Bool, true, false, List, [], map, take, Some, Ok, slice_get};
 ghost use Rattle.bg_ast.specs.Values.{Val};
 ghost use Rattle.bg_ast.specs.Syntax.{Prog, Impl, Proc};
 ghost use Rattle.bg_ast.specs.Execution.{Interp, Spot};
@@ -22,17 +22,16 @@ ghost use Rattle.bg_atoms.specs.Ranks.{rank};
 ghost use Rattle.bg_atoms.specs.Sorted.{blocks_sorted};
 ghost use Rattle.bg_faithful.specs.Encoded.{Encoding};
 ghost use Rattle.bg_terms.specs.Terms.{IsModel};
+ghost use Rattle.bg_terms.specs.Alike.{StandFor, scalar_ty};
 ghost use Rattle.bg_terms.specs.Instances.{Instance};
 ghost use Rattle.bg_terms.specs.Tables.{IsReadOff};
 ghost use Rattle.bg_flatten.specs.Flattens.{AreFlattened};
-ghost use Rattle.bg_flatten.specs.Mapless.{are_mapless};
+ghost use Rattle.bg_flat.specs.Mapless.{are_mapless};
 ghost use Rattle.bg_flatten.specs.Plain.{PlainBlocks};
-ghost use Rattle.bg_read_off.specs.Leaves.{are_scalar, AreCongruent, silent};
-ghost use Rattle.bg_sorts.specs.Sorts.{sort_of_type};
-ghost use Rattle.bg_terms.specs.Typed.{type_of};
+ghost use Rattle.bg_read_off.specs.Leaves.{AreCongruent, silent};
 ghost use Rattle.bg_flat_clauses.specs.Linear.{LinearBlocks};
-ghost use Rattle.bg_flat_clauses.specs.Sorts.{flat_sorts};
 ghost use Rattle.bg_termed.specs.Termed.{IsTabled, count_in, terms_in, flats_in, types_in, sorts_in, behind_in};
+ghost use Rattle.bg_termed.specs.Built.{built_in};
 ghost use Rattle.bg_termed.specs.Clauses.{IsEncoding};
 
 use bg_block_types::laws::passive_blocks_are_typed;
@@ -41,23 +40,19 @@ use bg_flat_clauses::laws::{flat_blocks_are_sorted, flat_clauses_fail_alike};
 use bg_flatten::laws::{
     numbered_blocks_are_flattened, plain_blocks_stay, terms_are_applications, typed_blocks_are_fine,
 };
-use bg_read_off::laws::{applications_are_finished, scalar_leaves_fail};
-use bg_terms::laws::finished_leaves_give_models;
+use bg_read_off::laws::{built_leaves_are_models, built_leaves_fail, scalars_stand_for_values};
 
-/// A typed program over truth values and whole numbers has no constants, and its functions have tables alone.
+/// A typed program over scalars has no constants, and its functions have tables alone.
 pub fn programs_over_scalars_are_tabled()
     ensures { (p : Prog) → IsTyped p → is_over_scalars true p ≡ true → IsTabled p }
 {}
 
-/// Incarnations and terms of its implementations are truth values and whole numbers, so no incarnation is a map, and the sorts of the
-/// incarnations stand first; and its passive blocks are linear, and name candidates that are there.
-pub fn implementations_over_scalars_have_scalars()
+/// No incarnation and no term of its implementations is a map; and its passive blocks are linear, and name candidates that are there.
+pub fn implementations_over_scalars_have_no_maps()
     ensures mapless { (p : Prog) (k : ℕ) (m : Impl) (q : Proc) → IsTyped p → is_over_scalars true p ≡ true → slice_get p.implementations k ≡ Some m →
         procedure_of p m.procedure ≡ Some q → are_mapless (incarnations_in p k m q) ≡ true }
-    ensures scalar { (p : Prog) (k : ℕ) (m : Impl) (q : Proc) → IsTyped p → is_over_scalars true p ≡ true → slice_get p.implementations k ≡ Some m →
-        procedure_of p m.procedure ≡ Some q → are_scalar (types_in p k m q) ≡ true }
-    ensures sorts { (p : Prog) (k : ℕ) (m : Impl) (q : Proc) → IsTyped p → is_over_scalars true p ≡ true → slice_get p.implementations k ≡ Some m →
-        procedure_of p m.procedure ≡ Some q → sorts_in p k m q ≡ map sort_of_type (incarnations_in p k m q) ++ flat_sorts (map type_of (terms_in p k m q)) }
+    ensures all { (p : Prog) (k : ℕ) (m : Impl) (q : Proc) → IsTyped p → is_over_scalars true p ≡ true → slice_get p.implementations k ≡ Some m →
+        procedure_of p m.procedure ≡ Some q → are_mapless (types_in p k m q) ≡ true }
     ensures linear { (p : Prog) (k : ℕ) (m : Impl) (q : Proc) → IsTyped p → is_over_scalars true p ≡ true → slice_get p.implementations k ≡ Some m →
         procedure_of p m.procedure ≡ Some q → LinearBlocks p.candidates (passives_in p k m q) }
 {
@@ -87,18 +82,19 @@ pub fn flat_blocks_of_programs_are_plain()
 {
     passive_blocks_have_terms();
     programs_over_scalars_are_tabled();
-    implementations_over_scalars_have_scalars()
+    implementations_over_scalars_have_no_maps()
 }
 
-/// Any numbers and truth values are typed values of the incarnations and terms, and the first of them of the incarnations.
-pub fn scalar_values_are_typed()
-    ensures all { (p : Prog) (k : ℕ) (m : Impl) (q : Proc) → IsTyped p → is_over_scalars true p ≡ true → slice_get p.implementations k ≡ Some m →
-        procedure_of p m.procedure ≡ Some q → (numbers : ℕ → ℤ) (truths : ℕ → Bool) → are_of (types_in p k m q) (scalar_values numbers truths (sorts_in p k m q)) ≡ true }
-    ensures first { (p : Prog) (k : ℕ) (m : Impl) (q : Proc) → IsTyped p → is_over_scalars true p ≡ true → slice_get p.implementations k ≡ Some m →
-        procedure_of p m.procedure ≡ Some q → (numbers : ℕ → ℤ) (truths : ℕ → Bool) → are_of (incarnations_in p k m q) (take (count_in p k m q) (scalar_values numbers truths (sorts_in p k m q))) ≡ true }
-{
-    implementations_over_scalars_have_scalars()
-}
+/// Any numbers and truth values are of the types of what stands for the values of incarnations and terms; the values that are built for
+/// them are typed, and the first of them are of the incarnations' types.
+pub fn built_values_are_typed()
+    ensures scalars { (p : Prog) (k : ℕ) (m : Impl) (q : Proc) (numbers : ℕ → ℤ) (truths : ℕ → Bool) →
+        are_of (map scalar_ty (types_in p k m q)) (scalar_values numbers truths (sorts_in p k m q)) ≡ true }
+    ensures all { (p : Prog) (k : ℕ) (m : Impl) (q : Proc) (numbers : ℕ → ℤ) (truths : ℕ → Bool) →
+        are_of (types_in p k m q) (built_in p k m q (scalar_values numbers truths (sorts_in p k m q))) ≡ true }
+    ensures first { (p : Prog) (k : ℕ) (m : Impl) (q : Proc) (numbers : ℕ → ℤ) (truths : ℕ → Bool) →
+        are_of (incarnations_in p k m q) (take (count_in p k m q) (built_in p k m q (scalar_values numbers truths (sorts_in p k m q)))) ≡ true }
+{}
 
 /// Where functions have tables alone, the passive blocks of an implementation whose incarnations are no maps are made flat over fair terms.
 pub fn passive_blocks_have_terms()
@@ -139,38 +135,44 @@ pub fn denied_passive_blocks_have_valuations()
     flat_clauses_fail_alike()
 }
 
-/// Where a valuation makes such clauses true, of terms and incarnations that are truth values and whole numbers, and no congruence is false
-/// under its values, the equations deny the entry of the passive blocks under the interpretation that is read off, those values of the
-/// incarnations, and the candidates whose atoms it makes true.
-pub fn scalar_valuations_deny_passive_blocks()
+/// Where a valuation makes such clauses true, of terms and incarnations that are no maps, and no congruence is false under the values
+/// that are built for its numbers and truth values, the equations deny the entry under the interpretation that is read off them, those
+/// values of the incarnations, and the candidates whose atoms it makes true.
+pub fn valuations_deny_passive_blocks()
     ensures { (p : Prog) (k : ℕ) (m : Impl) (q : Proc) → IsTabled p → slice_get p.implementations k ≡ Some m → procedure_of p m.procedure ≡ Some q →
-        are_mapless (incarnations_in p k m q) ≡ true → are_scalar (types_in p k m q) ≡ true →
+        are_mapless (incarnations_in p k m q) ≡ true → are_mapless (types_in p k m q) ≡ true →
         (instances : List Instance) (a : Encoding) → IsEncoding p k m q instances a →
         (target : Spot) (f : Formula) → clauses_of a.first a.named a.terms a.rows target a.blocks ≡ Ok f →
         (v : Valuation) → clauses_true v f.atoms f.clauses ≡ true →
         (s : List Val) → s ≡ scalar_values v.numbers (λ j. v.truths (rank (sorts_in p k m q) j)) (sorts_in p k m q) →
-        AreCongruent s (count_in p k m q) (terms_in p k m q) →
-        (i : Interp) → IsReadOff i (silent p.functions) s (count_in p k m q) (terms_in p k m q) →
-        (values : List Val) → ((j : ℕ) → j < count_in p k m q → value_at s j ≡ value_at values j) →
+        AreCongruent (built_in p k m q s) (count_in p k m q) (terms_in p k m q) →
+        (i : Interp) → IsReadOff i (silent p.functions) (built_in p k m q s) (count_in p k m q) (terms_in p k m q) →
+        (values : List Val) → ((j : ℕ) → j < count_in p k m q → value_at (built_in p k m q s) j ≡ value_at values j) →
         is_well (slice_get (equations (there_in f.candidates v.truths) target (passive_scope p i values) (passives_in p k m q)) 0) ≡ false }
 {
     passive_blocks_have_terms();
     flat_clauses_fail_alike();
     terms_are_applications();
-    scalar_leaves_fail()
+    built_values_are_typed();
+    built_leaves_fail()
 }
 
-/// Scalars of incarnations and terms at which no congruence is false give each term the value that an interpretation makes of it which is
-/// read off them.
-pub fn congruent_scalars_are_models()
-    ensures { (p : Prog) (k : ℕ) (m : Impl) (q : Proc) → IsTyped p → is_over_scalars true p ≡ true → slice_get p.implementations k ≡ Some m →
-        procedure_of p m.procedure ≡ Some q → (i : Interp) (s : List Val) → are_of (types_in p k m q) s ≡ true → AreCongruent s (count_in p k m q) (terms_in p k m q) →
-        IsReadOff i (silent p.functions) s (count_in p k m q) (terms_in p k m q) → IsModel i s (count_in p k m q) (terms_in p k m q) }
+/// Scalars stand for the values that are built for them; where no congruence is false of these, each term has the value that an
+/// interpretation makes of it which is read off them.
+pub fn built_values_are_models()
+    ensures stand { (p : Prog) (k : ℕ) (m : Impl) (q : Proc) → IsTyped p → is_over_scalars true p ≡ true → slice_get p.implementations k ≡ Some m →
+        procedure_of p m.procedure ≡ Some q → (s : List Val) → are_of (map scalar_ty (types_in p k m q)) s ≡ true →
+        StandFor (types_in p k m q) (built_in p k m q s) s }
+    ensures models { (p : Prog) (k : ℕ) (m : Impl) (q : Proc) → IsTyped p → is_over_scalars true p ≡ true → slice_get p.implementations k ≡ Some m →
+        procedure_of p m.procedure ≡ Some q → (i : Interp) (s : List Val) → are_of (map scalar_ty (types_in p k m q)) s ≡ true →
+        AreCongruent (built_in p k m q s) (count_in p k m q) (terms_in p k m q) →
+        IsReadOff i (silent p.functions) (built_in p k m q s) (count_in p k m q) (terms_in p k m q) →
+        IsModel i (built_in p k m q s) (count_in p k m q) (terms_in p k m q) }
 {
     passive_blocks_have_terms();
     terms_are_applications();
     programs_over_scalars_are_tabled();
-    implementations_over_scalars_have_scalars();
-    applications_are_finished();
-    finished_leaves_give_models()
+    implementations_over_scalars_have_no_maps();
+    scalars_stand_for_values();
+    built_leaves_are_models()
 }

@@ -14,14 +14,14 @@ const LATER: [(&[u8], &[u8]); 8] = [
         b"error: 1:52 unsupported [\n",
     ),
     (
-        b"function f(x: bool): bool; type T; function g(T): bool;",
-        b"error: 1:28 unsupported type\n",
+        b"function f(x: bool): bool; type T = [int]bool; function g(T): bool;",
+        b"error: 1:37 unsupported [\n",
     ),
     (
         b"var g: bool; function f(x: bool): [int]bool;",
         b"error: 1:35 unsupported [\n",
     ),
-    (b"type T;", b"error: 1:1 unsupported type\n"),
+    (b"type T = [int]int;", b"error: 1:10 unsupported [\n"),
     (
         b"procedure P(m: [int]bool);",
         b"error: 1:16 unsupported [\n",

@@ -2,8 +2,8 @@
 use crate::line::say;
 use std::test::Fail;
 
-/// Texts, and the lines that refuse them, which name the first token with which no program goes on. Constants, functions, types,
-/// axioms and maps are read, and only then refused.
+/// Texts, and the lines that refuse them, which name the first token with which no program goes on. Maps are read, and only
+/// then refused.
 const TEXTS: [(&[u8], &[u8]); 29] = [
     (b"procedure P() {", b"error: 1:16 syntax\n"),
     (b"procedure P() {\n // c\n", b"error: 3:1 syntax\n"),
@@ -37,10 +37,7 @@ const TEXTS: [(&[u8], &[u8]); 29] = [
         b"error: 1:28 syntax\n",
     ),
     (b"axiom true; axiom {:n}{:n true, n} true;", b""),
-    (
-        b"type a; type b, c = int, d;",
-        b"error: 1:1 unsupported type\n",
-    ),
+    (b"type a; type b, c = int, d;", b""),
     (
         b"const unique a, b: bool; const {:a true} c: [int, int][int](bool);",
         b"error: 1:45 unsupported [\n",
@@ -48,7 +45,7 @@ const TEXTS: [(&[u8], &[u8]); 29] = [
     (b"var {:n} n, m: int, o: bool;", b""),
     (
         b"type n; function f(n, m: int, [int]bool) returns (r: bool); function g(): bool { true }",
-        b"error: 1:1 unsupported type\n",
+        b"error: 1:31 unsupported [\n",
     ),
     (
         b"var g: int; procedure P() returns (n: int); requires true; free ensures true; modifies g, g; modifies; ensures true;",

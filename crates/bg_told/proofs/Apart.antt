@@ -43,130 +43,132 @@ pub record IsHead (text : List ℕ) : Type 0 where
   pub no_place : first text ≢ 32
   pub past : IsPast text
 
-value_cells : (name : List ℕ) (v : Val) (x : List ℕ) → variable_text name v ++ x ≡ (codes "    var " ++ name ++ codes " = ") ++ (value_text v ++ (10 ∷ x))
-value_cells name v x = simp append_assoc
+-- where types have these names
+module _ (types : List (List ℕ)) where
+  value_cells : (name : List ℕ) (v : Val) (x : List ℕ) → variable_text types name v ++ x ≡ (codes "    var " ++ name ++ codes " = ") ++ (value_text types v ++ (10 ∷ x))
+  value_cells name v x = simp append_assoc
 
-value_apart : (name : List ℕ) (v w : Val) (x y : List ℕ) → variable_text name v ++ x ≡ variable_text name w ++ y → x ≡ y
-value_apart name v w x y h =
-    cut (value_text v) (value_text w) x y (value_is_flat v) (value_is_flat w)
-    (append_cancel_left (codes "    var " ++ name ++ codes " = ") _ _ (sym (value_cells name v x) ∙ h ∙ value_cells name w y))
+  value_apart : (name : List ℕ) (v w : Val) (x y : List ℕ) → variable_text types name v ++ x ≡ variable_text types name w ++ y → x ≡ y
+  value_apart name v w x y h =
+      cut (value_text types v) (value_text types w) x y (value_is_flat types v) (value_is_flat types w)
+      (append_cancel_left (codes "    var " ++ name ++ codes " = ") _ _ (sym (value_cells name v x) ∙ h ∙ value_cells name w y))
 
--- the values of one row of names end where no value's line follows
-values_apart : (names : List (List ℕ)) (vs ws : List Val) (x y : List ℕ) → fifth x ≢ 118 → fifth y ≢ 118 → texts variable_text names vs ++ x ≡ texts variable_text names ws ++ y → x ≡ y
-values_apart [] vs ws x y hx hy h = h
-values_apart (n ∷ ns) [] [] x y hx hy h = h
-values_apart (n ∷ ns) (v ∷ vs) [] x y hx hy h = absurd (hy (sym (ap fifth h)))
-values_apart (n ∷ ns) [] (w ∷ ws) x y hx hy h = absurd (hx (ap fifth h))
-values_apart (n ∷ ns) (v ∷ vs) (w ∷ ws) x y hx hy h =
-    values_apart ns vs ws x y hx hy
-    (value_apart n v w _ _ (sym (append_assoc (variable_text n v) (texts variable_text ns vs) x) ∙ h ∙ append_assoc (variable_text n w) (texts variable_text ns ws) y))
+  -- the values of one row of names end where no value's line follows
+  values_apart : (names : List (List ℕ)) (vs ws : List Val) (x y : List ℕ) → fifth x ≢ 118 → fifth y ≢ 118 → texts (variable_text types) names vs ++ x ≡ texts (variable_text types) names ws ++ y → x ≡ y
+  values_apart [] vs ws x y hx hy h = h
+  values_apart (n ∷ ns) [] [] x y hx hy h = h
+  values_apart (n ∷ ns) (v ∷ vs) [] x y hx hy h = absurd (hy (sym (ap fifth h)))
+  values_apart (n ∷ ns) [] (w ∷ ws) x y hx hy h = absurd (hx (ap fifth h))
+  values_apart (n ∷ ns) (v ∷ vs) (w ∷ ws) x y hx hy h =
+      values_apart ns vs ws x y hx hy
+      (value_apart n v w _ _ (sym (append_assoc (variable_text types n v) (texts (variable_text types) ns vs) x) ∙ h ∙ append_assoc (variable_text types n w) (texts (variable_text types) ns ws) y))
 
-constant_cells : (name : List ℕ) (v : Val) (x : List ℕ) → constant_text name v ++ x ≡ (codes "    const " ++ name ++ codes " = ") ++ (value_text v ++ (10 ∷ x))
-constant_cells name v x = simp append_assoc
+  constant_cells : (name : List ℕ) (v : Val) (x : List ℕ) → constant_text types name v ++ x ≡ (codes "    const " ++ name ++ codes " = ") ++ (value_text types v ++ (10 ∷ x))
+  constant_cells name v x = simp append_assoc
 
-constant_apart : (name : List ℕ) (v w : Val) (x y : List ℕ) → constant_text name v ++ x ≡ constant_text name w ++ y → x ≡ y
-constant_apart name v w x y h =
-    cut (value_text v) (value_text w) x y (value_is_flat v) (value_is_flat w)
-    (append_cancel_left (codes "    const " ++ name ++ codes " = ") _ _ (sym (constant_cells name v x) ∙ h ∙ constant_cells name w y))
+  constant_apart : (name : List ℕ) (v w : Val) (x y : List ℕ) → constant_text types name v ++ x ≡ constant_text types name w ++ y → x ≡ y
+  constant_apart name v w x y h =
+      cut (value_text types v) (value_text types w) x y (value_is_flat types v) (value_is_flat types w)
+      (append_cancel_left (codes "    const " ++ name ++ codes " = ") _ _ (sym (constant_cells name v x) ∙ h ∙ constant_cells name w y))
 
--- and those of constants where no constant's line follows
-constants_apart : (names : List (List ℕ)) (vs ws : List Val) (x y : List ℕ) → sixth x ≢ 111 → sixth y ≢ 111 → texts constant_text names vs ++ x ≡ texts constant_text names ws ++ y → x ≡ y
-constants_apart [] vs ws x y hx hy h = h
-constants_apart (n ∷ ns) [] [] x y hx hy h = h
-constants_apart (n ∷ ns) (v ∷ vs) [] x y hx hy h = absurd (hy (sym (ap sixth h)))
-constants_apart (n ∷ ns) [] (w ∷ ws) x y hx hy h = absurd (hx (ap sixth h))
-constants_apart (n ∷ ns) (v ∷ vs) (w ∷ ws) x y hx hy h =
-    constants_apart ns vs ws x y hx hy
-    (constant_apart n v w _ _ (sym (append_assoc (constant_text n v) (texts constant_text ns vs) x) ∙ h ∙ append_assoc (constant_text n w) (texts constant_text ns ws) y))
+  -- and those of constants where no constant's line follows
+  constants_apart : (names : List (List ℕ)) (vs ws : List Val) (x y : List ℕ) → sixth x ≢ 111 → sixth y ≢ 111 → texts (constant_text types) names vs ++ x ≡ texts (constant_text types) names ws ++ y → x ≡ y
+  constants_apart [] vs ws x y hx hy h = h
+  constants_apart (n ∷ ns) [] [] x y hx hy h = h
+  constants_apart (n ∷ ns) (v ∷ vs) [] x y hx hy h = absurd (hy (sym (ap sixth h)))
+  constants_apart (n ∷ ns) [] (w ∷ ws) x y hx hy h = absurd (hx (ap sixth h))
+  constants_apart (n ∷ ns) (v ∷ vs) (w ∷ ws) x y hx hy h =
+      constants_apart ns vs ws x y hx hy
+      (constant_apart n v w _ _ (sym (append_assoc (constant_text types n v) (texts (constant_text types) ns vs) x) ∙ h ∙ append_assoc (constant_text types n w) (texts (constant_text types) ns ws) y))
 
--- ---- functions
+  -- ---- functions
 
-function_cells : (a b x : List ℕ) → line (a ++ b) ++ x ≡ a ++ (b ++ (10 ∷ x))
-function_cells a b x = simp append_assoc
+  function_cells : (a b x : List ℕ) → line (a ++ b) ++ x ≡ a ++ (b ++ (10 ∷ x))
+  function_cells a b x = simp append_assoc
 
-function_apart : (f : Named) (t u : Table) (x y : List ℕ) → function_text f t ++ x ≡ function_text f u ++ y → x ≡ y
-function_apart f t u x y = by f.has_body
-  where
-    by : (b : Bool) → (if b then [] else line (codes "    function " ++ f.name ++ codes " = " ++ table_text t)) ++ x ≡ (if b then [] else line (codes "    function " ++ f.name ++ codes " = " ++ table_text u)) ++ y → x ≡ y
-    by true h = h
-    by false h =
-        cut (table_text t) (table_text u) x y (table_is_flat t) (table_is_flat u)
-        (append_cancel_left (codes "    function " ++ f.name ++ codes " = ") _ _ (sym (function_cells (codes "    function " ++ f.name ++ codes " = ") (table_text t) x) ∙ h ∙ function_cells (codes "    function " ++ f.name ++ codes " = ") (table_text u) y))
+  function_apart : (f : Named) (t u : Table) (x y : List ℕ) → function_text types f t ++ x ≡ function_text types f u ++ y → x ≡ y
+  function_apart f t u x y = by f.has_body
+    where
+      by : (b : Bool) → (if b then [] else line (codes "    function " ++ f.name ++ codes " = " ++ table_text types t)) ++ x ≡ (if b then [] else line (codes "    function " ++ f.name ++ codes " = " ++ table_text types u)) ++ y → x ≡ y
+      by true h = h
+      by false h =
+          cut (table_text types t) (table_text types u) x y (table_is_flat types t) (table_is_flat types u)
+          (append_cancel_left (codes "    function " ++ f.name ++ codes " = ") _ _ (sym (function_cells (codes "    function " ++ f.name ++ codes " = ") (table_text types t) x) ∙ h ∙ function_cells (codes "    function " ++ f.name ++ codes " = ") (table_text types u) y))
 
--- a function without a body has a line
-function_first : (f : Named) (t : Table) (x y : List ℕ) → seventh y ≢ 110 → function_text f t ++ x ≡ y → x ≡ y
-function_first f t x y hy = by f.has_body
-  where
-    by : (b : Bool) → (if b then [] else line (codes "    function " ++ f.name ++ codes " = " ++ table_text t)) ++ x ≡ y → x ≡ y
-    by true h = h
-    by false h = absurd (hy (sym (ap seventh h)))
+  -- a function without a body has a line
+  function_first : (f : Named) (t : Table) (x y : List ℕ) → seventh y ≢ 110 → function_text types f t ++ x ≡ y → x ≡ y
+  function_first f t x y hy = by f.has_body
+    where
+      by : (b : Bool) → (if b then [] else line (codes "    function " ++ f.name ++ codes " = " ++ table_text types t)) ++ x ≡ y → x ≡ y
+      by true h = h
+      by false h = absurd (hy (sym (ap seventh h)))
 
-functions_end : (fs : List Named) (ts : List Table) (x y : List ℕ) → seventh y ≢ 110 → texts function_text fs ts ++ x ≡ y → x ≡ y
-functions_end [] ts x y hy h = h
-functions_end (f ∷ fs) [] x y hy h = h
-functions_end (f ∷ fs) (t ∷ ts) x y hy h =
-    functions_end fs ts x y hy
-    (function_first f t (texts function_text fs ts ++ x) y hy (sym (append_assoc (function_text f t) (texts function_text fs ts) x) ∙ h))
+  functions_end : (fs : List Named) (ts : List Table) (x y : List ℕ) → seventh y ≢ 110 → texts (function_text types) fs ts ++ x ≡ y → x ≡ y
+  functions_end [] ts x y hy h = h
+  functions_end (f ∷ fs) [] x y hy h = h
+  functions_end (f ∷ fs) (t ∷ ts) x y hy h =
+      functions_end fs ts x y hy
+      (function_first f t (texts (function_text types) fs ts ++ x) y hy (sym (append_assoc (function_text types f t) (texts (function_text types) fs ts) x) ∙ h))
 
--- the tables of functions end where no function's line follows
-functions_apart : (fs : List Named) (ts us : List Table) (x y : List ℕ) → seventh x ≢ 110 → seventh y ≢ 110 → texts function_text fs ts ++ x ≡ texts function_text fs us ++ y → x ≡ y
-functions_apart [] ts us x y hx hy h = h
-functions_apart (f ∷ fs) [] [] x y hx hy h = h
-functions_apart (f ∷ fs) (t ∷ ts) [] x y hx hy h = functions_end (f ∷ fs) (t ∷ ts) x y hy h
-functions_apart (f ∷ fs) [] (u ∷ us) x y hx hy h = sym (functions_end (f ∷ fs) (u ∷ us) y x hx (sym h))
-functions_apart (f ∷ fs) (t ∷ ts) (u ∷ us) x y hx hy h =
-    functions_apart fs ts us x y hx hy
-    (function_apart f t u _ _ (sym (append_assoc (function_text f t) (texts function_text fs ts) x) ∙ h ∙ append_assoc (function_text f u) (texts function_text fs us) y))
+  -- the tables of functions end where no function's line follows
+  functions_apart : (fs : List Named) (ts us : List Table) (x y : List ℕ) → seventh x ≢ 110 → seventh y ≢ 110 → texts (function_text types) fs ts ++ x ≡ texts (function_text types) fs us ++ y → x ≡ y
+  functions_apart [] ts us x y hx hy h = h
+  functions_apart (f ∷ fs) [] [] x y hx hy h = h
+  functions_apart (f ∷ fs) (t ∷ ts) [] x y hx hy h = functions_end (f ∷ fs) (t ∷ ts) x y hy h
+  functions_apart (f ∷ fs) [] (u ∷ us) x y hx hy h = sym (functions_end (f ∷ fs) (u ∷ us) y x hx (sym h))
+  functions_apart (f ∷ fs) (t ∷ ts) (u ∷ us) x y hx hy h =
+      functions_apart fs ts us x y hx hy
+      (function_apart f t u _ _ (sym (append_assoc (function_text types f t) (texts (function_text types) fs ts) x) ∙ h ∙ append_assoc (function_text types f u) (texts (function_text types) fs us) y))
 
--- a function's line is no constant's
-no_constant_function : (fs : List Named) (ts : List Table) (z : List ℕ) → sixth z ≢ 111 → sixth (texts function_text fs ts ++ z) ≢ 111
-no_constant_function [] ts z h = h
-no_constant_function (f ∷ fs) [] z h = h
-no_constant_function (f ∷ fs) (t ∷ ts) z h = by (no_constant_function fs ts z h) f.has_body
-  where
-    by : sixth (texts function_text fs ts ++ z) ≢ 111 → (b : Bool) → sixth (((if b then [] else line (codes "    function " ++ f.name ++ codes " = " ++ table_text t)) ++ texts function_text fs ts) ++ z) ≢ 111
-    by more true = more
-    by more false = λ e. let g : 117 ≡ 111 = e in omega (arith, g)
+  -- a function's line is no constant's
+  no_constant_function : (fs : List Named) (ts : List Table) (z : List ℕ) → sixth z ≢ 111 → sixth (texts (function_text types) fs ts ++ z) ≢ 111
+  no_constant_function [] ts z h = h
+  no_constant_function (f ∷ fs) [] z h = h
+  no_constant_function (f ∷ fs) (t ∷ ts) z h = by (no_constant_function fs ts z h) f.has_body
+    where
+      by : sixth (texts (function_text types) fs ts ++ z) ≢ 111 → (b : Bool) → sixth (((if b then [] else line (codes "    function " ++ f.name ++ codes " = " ++ table_text types t)) ++ texts (function_text types) fs ts) ++ z) ≢ 111
+      by more true = more
+      by more false = λ e. let g : 117 ≡ 111 = e in omega (arith, g)
 
--- ---- choices
+  -- ---- choices
 
-choice_cells : (c : Choice) (x : List ℕ) → choice_text c ++ x ≡ codes "    choice " ++ (chosen_text c ++ (10 ∷ x))
-choice_cells c x = append_assoc (codes "    choice " ++ chosen_text c) (10 ∷ []) x
+  choice_cells : (c : Choice) (x : List ℕ) → choice_text types c ++ x ≡ codes "    choice " ++ (chosen_text types c ++ (10 ∷ x))
+  choice_cells c x = append_assoc (codes "    choice " ++ chosen_text types c) (10 ∷ []) x
 
-choice_apart : (c d : Choice) (x y : List ℕ) → choice_text c ++ x ≡ choice_text d ++ y → x ≡ y
-choice_apart c d x y h =
-    cut (chosen_text c) (chosen_text d) x y (chosen_is_flat c) (chosen_is_flat d)
-    (append_cancel_left (codes "    choice ") _ _ (sym (choice_cells c x) ∙ h ∙ choice_cells d y))
+  choice_apart : (c d : Choice) (x y : List ℕ) → choice_text types c ++ x ≡ choice_text types d ++ y → x ≡ y
+  choice_apart c d x y h =
+      cut (chosen_text types c) (chosen_text types d) x y (chosen_is_flat types c) (chosen_is_flat types d)
+      (append_cancel_left (codes "    choice ") _ _ (sym (choice_cells c x) ∙ h ∙ choice_cells d y))
 
--- the choices end where no choice's line follows
-choices_apart : (cs ds : List Choice) (x y : List ℕ) → third x ≢ 32 → third y ≢ 32 → flat_map choice_text cs ++ x ≡ flat_map choice_text ds ++ y → x ≡ y
-choices_apart [] [] x y hx hy h = h
-choices_apart (c ∷ cs) [] x y hx hy h = absurd (hy (sym (ap third h)))
-choices_apart [] (d ∷ ds) x y hx hy h = absurd (hx (ap third h))
-choices_apart (c ∷ cs) (d ∷ ds) x y hx hy h =
-    choices_apart cs ds x y hx hy
-    (choice_apart c d _ _ (sym (append_assoc (choice_text c) (flat_map choice_text cs) x) ∙ h ∙ append_assoc (choice_text d) (flat_map choice_text ds) y))
+  -- the choices end where no choice's line follows
+  choices_apart : (cs ds : List Choice) (x y : List ℕ) → third x ≢ 32 → third y ≢ 32 → flat_map (choice_text types) cs ++ x ≡ flat_map (choice_text types) ds ++ y → x ≡ y
+  choices_apart [] [] x y hx hy h = h
+  choices_apart (c ∷ cs) [] x y hx hy h = absurd (hy (sym (ap third h)))
+  choices_apart [] (d ∷ ds) x y hx hy h = absurd (hx (ap third h))
+  choices_apart (c ∷ cs) (d ∷ ds) x y hx hy h =
+      choices_apart cs ds x y hx hy
+      (choice_apart c d _ _ (sym (append_assoc (choice_text types c) (flat_map (choice_text types) cs) x) ∙ h ∙ append_assoc (choice_text types d) (flat_map (choice_text types) ds) y))
 
--- behind the values
-no_value_behind : (cs : List Choice) (x : List ℕ) → IsPast x → fifth (flat_map choice_text cs ++ x) ≢ 118
-no_value_behind [] x h = h.no_value
-no_value_behind (c ∷ cs) x h = λ e. let f : 99 ≡ 118 = e in omega (arith, f)
+  -- behind the values
+  no_value_behind : (cs : List Choice) (x : List ℕ) → IsPast x → fifth (flat_map (choice_text types) cs ++ x) ≢ 118
+  no_value_behind [] x h = h.no_value
+  no_value_behind (c ∷ cs) x h = λ e. let f : 99 ≡ 118 = e in omega (arith, f)
 
--- behind the functions' tables
-no_function_behind : (ns : List (List ℕ)) (vs : List Val) (cs : List Choice) (x : List ℕ) → IsPast x → seventh (texts variable_text ns vs ++ (flat_map choice_text cs ++ x)) ≢ 110
-no_function_behind [] vs [] x h = h.no_function
-no_function_behind [] vs (c ∷ cs) x h = λ e. let f : 111 ≡ 110 = e in omega (arith, f)
-no_function_behind (n ∷ ns) [] [] x h = h.no_function
-no_function_behind (n ∷ ns) [] (c ∷ cs) x h = λ e. let f : 111 ≡ 110 = e in omega (arith, f)
-no_function_behind (n ∷ ns) (v ∷ vs) cs x h = λ e. let f : 114 ≡ 110 = e in omega (arith, f)
+  -- behind the functions' tables
+  no_function_behind : (ns : List (List ℕ)) (vs : List Val) (cs : List Choice) (x : List ℕ) → IsPast x → seventh (texts (variable_text types) ns vs ++ (flat_map (choice_text types) cs ++ x)) ≢ 110
+  no_function_behind [] vs [] x h = h.no_function
+  no_function_behind [] vs (c ∷ cs) x h = λ e. let f : 111 ≡ 110 = e in omega (arith, f)
+  no_function_behind (n ∷ ns) [] [] x h = h.no_function
+  no_function_behind (n ∷ ns) [] (c ∷ cs) x h = λ e. let f : 111 ≡ 110 = e in omega (arith, f)
+  no_function_behind (n ∷ ns) (v ∷ vs) cs x h = λ e. let f : 114 ≡ 110 = e in omega (arith, f)
 
--- behind the constants' values
-no_constant_behind : (ns : List (List ℕ)) (vs : List Val) (cs : List Choice) (x : List ℕ) → IsPast x → sixth (texts variable_text ns vs ++ (flat_map choice_text cs ++ x)) ≢ 111
-no_constant_behind [] vs [] x h = h.no_constant
-no_constant_behind [] vs (c ∷ cs) x h = λ e. let f : 104 ≡ 111 = e in omega (arith, f)
-no_constant_behind (n ∷ ns) [] [] x h = h.no_constant
-no_constant_behind (n ∷ ns) [] (c ∷ cs) x h = λ e. let f : 104 ≡ 111 = e in omega (arith, f)
-no_constant_behind (n ∷ ns) (v ∷ vs) cs x h = λ e. let f : 97 ≡ 111 = e in omega (arith, f)
+  -- behind the constants' values
+  no_constant_behind : (ns : List (List ℕ)) (vs : List Val) (cs : List Choice) (x : List ℕ) → IsPast x → sixth (texts (variable_text types) ns vs ++ (flat_map (choice_text types) cs ++ x)) ≢ 111
+  no_constant_behind [] vs [] x h = h.no_constant
+  no_constant_behind [] vs (c ∷ cs) x h = λ e. let f : 104 ≡ 111 = e in omega (arith, f)
+  no_constant_behind (n ∷ ns) [] [] x h = h.no_constant
+  no_constant_behind (n ∷ ns) [] (c ∷ cs) x h = λ e. let f : 104 ≡ 111 = e in omega (arith, f)
+  no_constant_behind (n ∷ ns) (v ∷ vs) cs x h = λ e. let f : 97 ≡ 111 = e in omega (arith, f)
 
 refuted_cells : (a k f t u x : List ℕ) → (line (codes "  refuted " ++ a) ++ ((k ++ f) ++ (t ++ u))) ++ x ≡ codes "  refuted " ++ (a ++ (10 ∷ (k ++ (f ++ (t ++ (u ++ x))))))
 refuted_cells a k f t u x = by (codes "  refuted ")
@@ -182,12 +184,12 @@ unknown_cells a w d x = two_lines (codes "  unknown ") a (codes " " ++ w) (codes
 
 refuted_apart : (names : Names) (p q : Placed) (i j : Interp) (vs ws : List Val) (cs ds : List Choice) (x y : List ℕ) → IsPast x → IsPast y → refuted_text names p i vs cs ++ x ≡ refuted_text names q j ws ds ++ y → x ≡ y
 refuted_apart names p q i j vs ws cs ds x y hx hy h =
-    choices_apart cs ds x y hx.no_choice hy.no_choice
-    (values_apart names.variables vs ws (flat_map choice_text cs ++ x) (flat_map choice_text ds ++ y) (no_value_behind cs x hx) (no_value_behind ds y hy)
-    (functions_apart names.functions i.tables j.tables _ _ (no_function_behind names.variables vs cs x hx) (no_function_behind names.variables ws ds y hy)
-    (constants_apart names.constants i.constants j.constants _ _ (no_constant_function names.functions i.tables _ (no_constant_behind names.variables vs cs x hx)) (no_constant_function names.functions j.tables _ (no_constant_behind names.variables ws ds y hy))
+    choices_apart names.types cs ds x y hx.no_choice hy.no_choice
+    (values_apart names.types names.variables vs ws (flat_map (choice_text names.types) cs ++ x) (flat_map (choice_text names.types) ds ++ y) (no_value_behind names.types cs x hx) (no_value_behind names.types ds y hy)
+    (functions_apart names.types names.functions i.tables j.tables _ _ (no_function_behind names.types names.variables vs cs x hx) (no_function_behind names.types names.variables ws ds y hy)
+    (constants_apart names.types names.constants i.constants j.constants _ _ (no_constant_function names.types names.functions i.tables _ (no_constant_behind names.types names.variables vs cs x hx)) (no_constant_function names.types names.functions j.tables _ (no_constant_behind names.types names.variables ws ds y hy))
     (cut (place_text p) (place_text q) _ _ (place_is_flat p) (place_is_flat q)
-    (append_cancel_left (codes "  refuted ") _ _ (sym (refuted_cells (place_text p) (texts constant_text names.constants i.constants) (texts function_text names.functions i.tables) (texts variable_text names.variables vs) (flat_map choice_text cs) x) ∙ h ∙ refuted_cells (place_text q) (texts constant_text names.constants j.constants) (texts function_text names.functions j.tables) (texts variable_text names.variables ws) (flat_map choice_text ds) y))))))
+    (append_cancel_left (codes "  refuted ") _ _ (sym (refuted_cells (place_text p) (texts (constant_text names.types) names.constants i.constants) (texts (function_text names.types) names.functions i.tables) (texts (variable_text names.types) names.variables vs) (flat_map (choice_text names.types) cs) x) ∙ h ∙ refuted_cells (place_text q) (texts (constant_text names.types) names.constants j.constants) (texts (function_text names.types) names.functions j.tables) (texts (variable_text names.types) names.variables ws) (flat_map (choice_text names.types) ds) y))))))
 
 unknown_apart : (p q : Placed) (v w : Why) (x y : List ℕ) → unknown_text p v ++ x ≡ unknown_text q w ++ y → x ≡ y
 unknown_apart p q v w x y h =

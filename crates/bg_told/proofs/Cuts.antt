@@ -1,4 +1,4 @@
-use Rattle.std.proofs.Common.{◌≡◌, ℕ, zero, suc, ◌+◌, ◌/◌, ◌%◌, ◌≤◌, ◌==◌, ◌&&◌, Bool, true, false, List, [], ◌∷◌, ◌++◌, Option, Some, None, if◌then◌else◌, nat_lt, nat_le, codes, flat_map, ℤ, pos, negsuc, arith, refl}
+use Rattle.std.proofs.Common.{◌≡◌, slice_get, ℕ, zero, suc, ◌+◌, ◌/◌, ◌%◌, ◌≤◌, ◌==◌, ◌&&◌, Bool, true, false, List, [], ◌∷◌, ◌++◌, Option, Some, None, if◌then◌else◌, cond, filter, nat_lt, nat_le, codes, flat_map, ℤ, pos, negsuc, arith, refl}
 use Rattle.std.proofs.lemmas.Bool.{and_parts, leb-true}
 use Rattle.std.specs.Fmt.{decimal, signed_decimal, digits, digits_onto, digit_glyph}
 use Rattle.bg_base.specs.declared.exact.Op.{Op}
@@ -10,7 +10,7 @@ use Rattle.bg_ast.specs.Execution.{Spot, AtAssert, AtEntry, AfterTurn, AtCall, A
 use Rattle.bg_places.specs.Placed.{Placed}
 use Rattle.bg_sound.specs.Told.{Why, Nodes, Rows, Range}
 use Rattle.bg_told.specs.Kept.{operator_text, operation_text, why_text, kept_text}
-use Rattle.bg_told.specs.Lines.{value_text, part_text, key_text, mapping_text, table_text}
+use Rattle.bg_told.specs.Lines.{text_or_none, value_text, part_text, key_text, mapping_text, table_text, is_printed}
 use Rattle.bg_lines.specs.Lines.{position_text}
 use Rattle.bg_told.specs.Places.{chosen_text}
 use Rattle.bg_lines.specs.Places.{kind_text, call_text, place_text}
@@ -73,6 +73,15 @@ pub word_is_flat : (w : List ℕ) → is_flat w ≡ true → IsFlat w
 word_is_flat [] h = no_byte
 word_is_flat (b ∷ bs) h = with_byte b bs (flat_byte b (is_flat bs) h).0 (word_is_flat bs (flat_byte b (is_flat bs) h).1)
 
+-- what is printed of a name, whatever its bytes are
+printed_is_flat : (name : List ℕ) → IsFlat (filter is_printed name)
+printed_is_flat [] = no_byte
+printed_is_flat (b ∷ bs) = by (nat_le 32 b) refl (printed_is_flat bs)
+  where
+    by : (t : Bool) → nat_le 32 b ≡ t → IsFlat (filter is_printed bs) → IsFlat (cond t (b ∷ filter is_printed bs) (filter is_printed bs))
+    by true h rest = with_byte b (filter is_printed bs) (leb-true 32 b h) rest
+    by false h rest = rest
+
 kind_is_flat : (s : Spot) → IsFlat (kind_text s)
 kind_is_flat (AtAssert k) = word_is_flat (codes "assert ") refl
 kind_is_flat (AtEntry k) = word_is_flat (codes "invariant entry ") refl
@@ -93,48 +102,52 @@ signed_is_flat : (z : ℤ) → IsFlat (signed_decimal z)
 signed_is_flat (pos n) = decimal_is_flat n
 signed_is_flat (negsuc n) = with_byte 45 (decimal (suc n)) (omega arith) (decimal_is_flat (suc n))
 
-pub value_is_flat : (v : Val) → IsFlat (value_text v)
-value_is_flat (Truth true) = word_is_flat (codes "true") refl
-value_is_flat (Truth false) = word_is_flat (codes "false") refl
-value_is_flat (Num z) = signed_is_flat z
-value_is_flat (Element t z) = no_byte
-value_is_flat (Default d) = no_byte
-value_is_flat (Entry k v m) = no_byte
-
-pub chosen_is_flat : (c : Choice) → IsFlat (chosen_text c)
-chosen_is_flat (Branch k) = append_is_flat (codes "branch ") (decimal k) (word_is_flat (codes "branch ") refl) (decimal_is_flat k)
-chosen_is_flat (Chosen v) = value_is_flat v
-
 -- a word behind a text
 pub behind_is_flat : (a w : List ℕ) → IsFlat a → is_flat w ≡ true → IsFlat (a ++ w)
 behind_is_flat a w h e = append_is_flat a w h (word_is_flat w e)
-
--- ---- tables
 
 each_is_flat : {A : Type 0} (f : A → List ℕ) → ((a : A) → IsFlat (f a)) → (xs : List A) → IsFlat (flat_map f xs)
 each_is_flat f h [] = no_byte
 each_is_flat f h (x ∷ xs) = append_is_flat (f x) (flat_map f xs) (h x) (each_is_flat f h xs)
 
-part_is_flat : (v : Val) → IsFlat (part_text v)
-part_is_flat v = append_is_flat (codes ",") (value_text v) (word_is_flat (codes ",") refl) (value_is_flat v)
+-- ---- values, and tables, where types have these names
 
-key_is_flat : (vs : List Val) → IsFlat (key_text vs)
-key_is_flat [] = no_byte
-key_is_flat (v ∷ vs) =
-    append_is_flat (value_text v) (flat_map part_text vs) (value_is_flat v) (each_is_flat part_text part_is_flat vs)
+module _ (types : List (List ℕ)) where
+  pub value_is_flat : (v : Val) → IsFlat (value_text types v)
+  value_is_flat (Truth true) = word_is_flat (codes "true") refl
+  value_is_flat (Truth false) = word_is_flat (codes "false") refl
+  value_is_flat (Num z) = signed_is_flat z
+  value_is_flat (Element t z) =
+      let name = text_or_none (slice_get types t) in
+      append_is_flat (filter is_printed name ++ codes "!") (signed_decimal z)
+      (behind_is_flat (filter is_printed name) (codes "!") (printed_is_flat name) refl) (signed_is_flat z)
+  value_is_flat (Default d) = no_byte
+  value_is_flat (Entry k v m) = no_byte
 
-mapping_is_flat : (e : List Val × Val) → IsFlat (mapping_text e)
-mapping_is_flat e =
-    behind_is_flat ((key_text e.0 ++ codes " := ") ++ value_text e.1) (codes ", ")
-    (append_is_flat (key_text e.0 ++ codes " := ") (value_text e.1) (behind_is_flat (key_text e.0) (codes " := ") (key_is_flat e.0) refl) (value_is_flat e.1)) refl
+  pub chosen_is_flat : (c : Choice) → IsFlat (chosen_text types c)
+  chosen_is_flat (Branch k) = append_is_flat (codes "branch ") (decimal k) (word_is_flat (codes "branch ") refl) (decimal_is_flat k)
+  chosen_is_flat (Chosen v) = value_is_flat v
 
-pub table_is_flat : (t : Table) → IsFlat (table_text t)
-table_is_flat t =
-    let entries = flat_map mapping_text t.entries in
-    behind_is_flat (((codes "[" ++ entries) ++ codes "else ") ++ value_text t.default) (codes "]")
-    (append_is_flat ((codes "[" ++ entries) ++ codes "else ") (value_text t.default)
-    (behind_is_flat (codes "[" ++ entries) (codes "else ") (append_is_flat (codes "[") entries (word_is_flat (codes "[") refl) (each_is_flat mapping_text mapping_is_flat t.entries)) refl)
-    (value_is_flat t.default)) refl
+  part_is_flat : (v : Val) → IsFlat (part_text types v)
+  part_is_flat v = append_is_flat (codes ",") (value_text types v) (word_is_flat (codes ",") refl) (value_is_flat v)
+
+  key_is_flat : (vs : List Val) → IsFlat (key_text types vs)
+  key_is_flat [] = no_byte
+  key_is_flat (v ∷ vs) =
+      append_is_flat (value_text types v) (flat_map (part_text types) vs) (value_is_flat v) (each_is_flat (part_text types) part_is_flat vs)
+
+  mapping_is_flat : (e : List Val × Val) → IsFlat (mapping_text types e)
+  mapping_is_flat e =
+      behind_is_flat ((key_text types e.0 ++ codes " := ") ++ value_text types e.1) (codes ", ")
+      (append_is_flat (key_text types e.0 ++ codes " := ") (value_text types e.1) (behind_is_flat (key_text types e.0) (codes " := ") (key_is_flat e.0) refl) (value_is_flat e.1)) refl
+
+  pub table_is_flat : (t : Table) → IsFlat (table_text types t)
+  table_is_flat t =
+      let entries = flat_map (mapping_text types) t.entries in
+      behind_is_flat (((codes "[" ++ entries) ++ codes "else ") ++ value_text types t.default) (codes "]")
+      (append_is_flat ((codes "[" ++ entries) ++ codes "else ") (value_text types t.default)
+      (behind_is_flat (codes "[" ++ entries) (codes "else ") (append_is_flat (codes "[") entries (word_is_flat (codes "[") refl) (each_is_flat (mapping_text types) mapping_is_flat t.entries)) refl)
+      (value_is_flat t.default)) refl
 
 -- ---- causes, and what is kept
 

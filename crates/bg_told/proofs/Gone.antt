@@ -57,5 +57,5 @@ axioms_same s p o fits = by (verdict_of why_of o.axioms)
     by : (v : Verdict) → interpretation_text s (split_verdict 0 v) ≡ interpretation_text s (carried_verdict (of_axioms (meaning_of p)) v)
     by Proved = refl
     by (Refuted i u cs) =
-        ap (λ (x : List ℕ). line (Rattle.std.proofs.Common.codes "interpretation:") ++ (texts constant_text (map name_in s.constants) u.globals ++ x)) (sym (fits i.tables))
+        ap (λ (x : List ℕ). line (Rattle.std.proofs.Common.codes "interpretation:") ++ (texts (constant_text s.types) (map name_in s.constants) u.globals ++ x)) (sym (fits i.tables))
     by (Unknown why) = refl

@@ -2,6 +2,7 @@ pub mod Texts
 pub mod Told
 pub mod Cuts
 pub mod Apart
+pub mod Whole
 pub mod Decided
 pub mod Settled
 pub mod Verified

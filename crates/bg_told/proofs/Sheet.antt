@@ -3,7 +3,8 @@ use Rattle.std.proofs.Common.{◌≡◌, ℕ, zero, suc, ◌-◌, ◌<◌, ◌�
 use Rattle.std.specs.Prelude.{filter, slice_get}
 use Rattle.bg_ast.specs.Resolved as r
 use Rattle.bg_ast.specs.declared.resolved.Implementation.{Implementation}
-use Rattle.bg_ast.specs.Views.{program_of, impl_of}
+use Rattle.bg_ast.specs.declared.resolved.TypeName.{TypeName}
+use Rattle.bg_ast.specs.Views.{program_of, impl_of, type_name_of}
 use Rattle.bg_places.specs.Placed.{Placed, placed, placed_from}
 use Rattle.bg_opened.specs.Written.{global_for, bodiless, claims, opened_in, opened_proc, opened_impl, opened_program}
 use Rattle.bg_carried.proofs.Placing.{impl_placed}
@@ -11,9 +12,9 @@ use Rattle.bg_expanded.specs.Chains.{most_bodies}
 use Rattle.bg_inference.specs.declared.outcome.Outcome.{Outcome}
 use Rattle.bg_inference.specs.Outcomes.{has_body}
 use Rattle.bg_told.specs.Places.{Named}
-use Rattle.bg_told.specs.Sheets.{Head, Sheet, head_of, named_of, sheet_of}
+use Rattle.bg_told.specs.Sheets.{Head, Sheet, head_of, type_name, named_of, sheet_of}
 use Rattle.bg_told.specs.declared.declared.Declarations.{Declarations}
-use Rattle.bg_told.specs.Entries.{all_named, outer_in, sheet_told, sheet_in, IsOf}
+use Rattle.bg_told.specs.Entries.{types_in, all_named, outer_in, sheet_told, sheet_in, IsOf}
 use Rattle.bg_told.specs.History.{has_candidate, guarded}
 
 take_front : {A : Type 0} (xs ys : List A) → take (length xs) (xs ++ ys) ≡ xs
@@ -54,6 +55,11 @@ at_heads [] k m h e = absurd (omega (arith, h))
 at_heads (x ∷ ms) zero m h e = ap (λ y. Some (head_of (impl_of y))) (sym e)
 at_heads (x ∷ ms) (suc k) m h e = at_heads ms k m (omega (arith, h)) e
 
+pub at_types : (ds : List TypeName) (t : ℕ) (d : TypeName) → t < length ds → d ≡ get_or ds t d → slice_get (types_in ds) t ≡ Some (type_name (type_name_of d))
+at_types [] t d h e = absurd (omega (arith, h))
+at_types (x ∷ ds) zero d h e = ap (λ y. Some (type_name (type_name_of y))) (sym e)
+at_types (x ∷ ds) (suc t) d h e = at_types ds t d (omega (arith, h)) e
+
 heads_same : (o : r.Ex → r.Ex) (axioms : List r.Ex) (ms : List r.Impl) → map head_of (map (opened_impl o axioms) ms) ≡ map head_of ms
 heads_same o axioms [] = refl
 heads_same o axioms (m ∷ ms) = ap (λ (hs : List Head). head_of m ∷ hs) (heads_same o axioms ms)
@@ -75,8 +81,8 @@ sheet_same p o h =
     ∙ sheets p
 
 -- what all implementations see, part by part
-pub outer_same : (ds : Declarations) (s : Sheet) → (outer_in ds).constants ≡ s.outer.constants → (outer_in ds).functions ≡ s.outer.functions → (outer_in ds).globals ≡ s.outer.globals → outer_in ds ≡ s.outer
-outer_same ds s a b c = rw (a, b, c) refl
+pub outer_same : (ds : Declarations) (s : Sheet) → (outer_in ds).types ≡ s.outer.types → (outer_in ds).constants ≡ s.outer.constants → (outer_in ds).functions ≡ s.outer.functions → (outer_in ds).globals ≡ s.outer.globals → outer_in ds ≡ s.outer
+outer_same ds s t a b c = rw (t, a, b, c) refl
 
 module _ (p : r.Program) where
   from_same : (k : ℕ) (ms : List r.Impl) → placed_from (map (opened_proc (opened_in most_bodies p)) p.procedures) k (map (opened_impl (opened_in most_bodies p) (claims p)) ms) ≡ placed_from p.procedures k ms

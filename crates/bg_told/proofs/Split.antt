@@ -103,7 +103,7 @@ module _ (s : Outer) (h : Head) (p : Prog) (fits : Fits s p) where
 
   example_same : (i : Interp) (u : State) (cs : List Choice) → counterexample_text names (record { constants = drop n u.globals; tables = i.tables }) (take n u.globals ++ u.frame) cs ≡ counterexample_text names (interp_in p i u) (take n u.globals ++ u.frame) cs
   example_same i u cs =
-      ap (λ (x : List ℕ). (texts constant_text names.constants (drop n u.globals) ++ x) ++ (texts variable_text names.variables (take n u.globals ++ u.frame) ++ flat_map choice_text cs)) (sym (fits i.tables))
+      ap (λ (x : List ℕ). (texts (constant_text names.types) names.constants (drop n u.globals) ++ x) ++ (texts (variable_text names.types) names.variables (take n u.globals ++ u.frame) ++ flat_map (choice_text names.types) cs)) (sym (fits i.tables))
 
   verdict_same : (j : Judged) (v : Verdict) → verdict_text names j.placed (split_verdict n v) ≡ verdict_text names j.placed (carried_verdict p v)
   verdict_same j Proved = refl

@@ -160,21 +160,21 @@ texts_map text f (x ∷ xs) [] = refl
 texts_map text f (x ∷ xs) (y ∷ ys) = ap (λ (z : List ℕ). text x (f y) ++ z) (texts_map text f xs ys)
 
 -- the lines of entry values
-pub entries_told : (names : List (List ℕ)) (n : ℕ) (gs fs : List Scalar) → texts entry_text names (take n gs ++ fs) ≡ texts variable_text names (take n (map val_of gs) ++ map val_of fs)
-entries_told names n gs fs =
-    sym (texts_map variable_text val_of names (take n gs ++ fs))
-    ∙ ap (texts variable_text names) (map-append val_of (take n gs) fs ∙ ap (λ (vs : List Val). vs ++ map val_of fs) (map_front n gs))
+pub entries_told : (types : List (List ℕ)) (names : List (List ℕ)) (n : ℕ) (gs fs : List Scalar) → texts (entry_text types) names (take n gs ++ fs) ≡ texts (variable_text types) names (take n (map val_of gs) ++ map val_of fs)
+entries_told types names n gs fs =
+    sym (texts_map (variable_text types) val_of names (take n gs ++ fs))
+    ∙ ap (texts (variable_text types) names) (map-append val_of (take n gs) fs ∙ ap (λ (vs : List Val). vs ++ map val_of fs) (map_front n gs))
 
 -- and those of constants
-pub constants_told : (names : List (List ℕ)) (n : ℕ) (gs : List Scalar) → texts constant_line names (drop n gs) ≡ texts constant_text names (drop n (map val_of gs))
-constants_told names n gs =
-    sym (texts_map constant_text val_of names (drop n gs)) ∙ ap (texts constant_text names) (map_behind n gs)
+pub constants_told : (types : List (List ℕ)) (names : List (List ℕ)) (n : ℕ) (gs : List Scalar) → texts (constant_line types) names (drop n gs) ≡ texts (constant_text types) names (drop n (map val_of gs))
+constants_told types names n gs =
+    sym (texts_map (constant_text types) val_of names (drop n gs)) ∙ ap (texts (constant_text types) names) (map_behind n gs)
 
 -- and those of functions
-pub functions_told : (fs : List Named) (ts : List code.Table) → texts function_line fs ts ≡ texts function_text fs (tables_of (tables_in ts))
-functions_told [] ts = refl
-functions_told (f ∷ fs) [] = refl
-functions_told (f ∷ fs) (t ∷ ts) = ap (λ (x : List ℕ). function_line f t ++ x) (functions_told fs ts)
+pub functions_told : (types : List (List ℕ)) (fs : List Named) (ts : List code.Table) → texts (function_line types) fs ts ≡ texts (function_text types) fs (tables_of (tables_in ts))
+functions_told types [] ts = refl
+functions_told types (f ∷ fs) [] = refl
+functions_told types (f ∷ fs) (t ∷ ts) = ap (λ (x : List ℕ). function_line types f t ++ x) (functions_told types fs ts)
 
-pub constants_all : (names : List (List ℕ)) (gs : List Scalar) → texts constant_line names gs ≡ texts constant_text names (map val_of gs)
-constants_all names gs = sym (texts_map constant_text val_of names gs)
+pub constants_all : (types : List (List ℕ)) (names : List (List ℕ)) (gs : List Scalar) → texts (constant_line types) names gs ≡ texts (constant_text types) names (map val_of gs)
+constants_all types names gs = sym (texts_map (constant_text types) val_of names gs)

@@ -1,11 +1,12 @@
 -- How the code's entry values and places are read.
 use Rattle.std.specs.Prelude.{◌≡◌, ℕ, Bool, List, [], ◌∷◌, ◌++◌, map, take, drop, length, slice_get, if◌then◌else◌}
 use Rattle.bg_ast.specs.declared.resolved.Declared.{Declared}
+use Rattle.bg_ast.specs.declared.resolved.TypeName.{TypeName}
 use Rattle.std.specs.Borrow.{Bor}
 use Rattle.bg_ast.specs.Execution.{Interp}
 use Rattle.bg_ast.specs.Values.{Val}
 use Rattle.bg_ast.specs.Resolved.{Fun, Program}
-use Rattle.bg_ast.specs.Views.{declared_of, fun_of, program_of}
+use Rattle.bg_ast.specs.Views.{type_name_of, declared_of, fun_of, program_of}
 use Rattle.bg_rounds.specs.declared.keeper.Removal.{Removal}
 use Rattle.bg_houdini.specs.declared.reason.Reason.{Reason}
 use Rattle.bg_told.specs.History.{Gone, found_of}
@@ -24,7 +25,7 @@ use Rattle.bg_inference.specs.declared.outcome.Outcome.{Outcome}
 use Rattle.bg_inference.specs.Outcomes.{judged_program, has_body}
 use Rattle.bg_sound.specs.Told as t
 use Rattle.bg_told.specs.Places.{Named, Names, constant_text, function_text, variable_text, judged_text}
-use Rattle.bg_told.specs.Sheets.{Head, Outer, Sheet, head_of, name_in, names_of}
+use Rattle.bg_told.specs.Sheets.{Head, Outer, Sheet, head_of, type_name, name_in, names_of}
 use Rattle.bg_told.specs.Views.{why_of}
 use Rattle.bg_told.specs.Words.{is_ordinary}
 
@@ -35,17 +36,23 @@ values_of v = v.globals.now ++ v.frame.now
 abbrev pub names_in : List Declared → List (List ℕ)
 names_in ds = map name_in (map declared_of ds)
 
--- the line of a variable with this scalar
-abbrev pub entry_text : List ℕ → Scalar → List ℕ
-entry_text name x = variable_text name (val_of x)
+-- the names of types
+abbrev pub types_in : List TypeName → List (List ℕ)
+types_in ds = map type_name (map type_name_of ds)
 
--- the line of a constant with this scalar
-abbrev pub constant_line : List ℕ → Scalar → List ℕ
-constant_line name x = constant_text name (val_of x)
+-- where types have these names
+module _ (types : List (List ℕ)) where
+  -- the line of a variable with this scalar
+  abbrev pub entry_text : List ℕ → Scalar → List ℕ
+  entry_text name x = variable_text types name (val_of x)
 
--- the line of a function with this table
-abbrev pub function_line : Named → Table → List ℕ
-function_line f t = function_text f (table_of (table_in t))
+  -- the line of a constant with this scalar
+  abbrev pub constant_line : List ℕ → Scalar → List ℕ
+  constant_line name x = constant_text types name (val_of x)
+
+  -- the line of a function with this table
+  abbrev pub function_line : Named → Table → List ℕ
+  function_line f t = function_text types f (table_of (table_in t))
 
 -- a function that has a body, or none
 abbrev pub named_as : Fun → Bool → Named
@@ -60,6 +67,7 @@ all_named (f ∷ fs) (b ∷ bs) = named_as f b ∷ all_named fs bs
 abbrev pub outer_in : Declarations → Outer
 outer_in ds =
     record {
+      types = types_in ds.types.now;
       constants = map declared_of ds.constants.now;
       functions = all_named (map fun_of ds.functions.now) ds.bodies.now;
       globals = map declared_of ds.globals.now;
@@ -102,7 +110,13 @@ abbrev pub sheet_told : ℕ → List Bool → Program → Sheet
 sheet_told n bodies q =
     record {
       candidates = q.candidates;
-      outer = record { constants = drop n q.globals; functions = all_named q.functions bodies; globals = take n q.globals };
+      outer =
+          record {
+            types = map type_name q.types;
+            constants = drop n q.globals;
+            functions = all_named q.functions bodies;
+            globals = take n q.globals;
+          };
       implementations = map head_of q.implementations;
     }
 

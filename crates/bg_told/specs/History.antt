@@ -110,7 +110,7 @@ gone_text s g = gone_at s g g.placed
 -- the interpretation that meets the axioms, where one was found
 abbrev pub interpretation_text : Outer → Verdict → List ℕ
 interpretation_text outer Proved = []
-interpretation_text outer (Refuted i s choices) = line (codes "interpretation:") ++ interp_text (map name_in outer.constants) outer.functions i
+interpretation_text outer (Refuted i s choices) = line (codes "interpretation:") ++ interp_text outer.types (map name_in outer.constants) outer.functions i
 interpretation_text outer (Unknown why) = []
 
 -- the entries, in this order, and behind them the interpretation by the verdict on the axioms' own program

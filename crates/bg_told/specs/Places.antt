@@ -14,39 +14,42 @@ use Rattle.bg_lines.specs.Places.{place_text}
 abbrev pub told_text : Word → Placed → List ℕ
 told_text word a = codes "  " ++ word_text word ++ codes " " ++ place_text a
 
--- the value of a constant
-abbrev pub constant_text : List ℕ → Val → List ℕ
-constant_text name value = line (codes "    const " ++ name ++ codes " = " ++ value_text value)
-
 -- a function by its name, and whether it has a body
 pub record Named : Type 0 where
   pub name : List ℕ
   pub has_body : Bool
 
--- the table of a function; one with a body has none
-abbrev pub function_text : Named → Table → List ℕ
-function_text f t =
-    if f.has_body then [] else line (codes "    function " ++ f.name ++ codes " = " ++ table_text t)
+-- where types have these names
+module _ (types : List (List ℕ)) where
+  -- the value of a constant
+  abbrev pub constant_text : List ℕ → Val → List ℕ
+  constant_text name value = line (codes "    const " ++ name ++ codes " = " ++ value_text types value)
 
--- an interpretation: the values of the constants with these names, and the tables of these functions
-abbrev pub interp_text : List (List ℕ) → List Named → Interp → List ℕ
-interp_text constants functions i =
-    texts constant_text constants i.constants ++ texts function_text functions i.tables
+  -- the table of a function; one with a body has none
+  abbrev pub function_text : Named → Table → List ℕ
+  function_text f t =
+      if f.has_body then [] else line (codes "    function " ++ f.name ++ codes " = " ++ table_text types t)
 
--- the entry value of a variable
-abbrev pub variable_text : List ℕ → Val → List ℕ
-variable_text name value = line (codes "    var " ++ name ++ codes " = " ++ value_text value)
+  -- an interpretation: the values of the constants with these names, and the tables of these functions
+  abbrev pub interp_text : List (List ℕ) → List Named → Interp → List ℕ
+  interp_text constants functions i =
+      texts constant_text constants i.constants ++ texts function_text functions i.tables
 
--- the number of a branch that is taken, or a value that is chosen
-abbrev pub chosen_text : Choice → List ℕ
-chosen_text (Branch k) = codes "branch " ++ decimal k
-chosen_text (Chosen value) = value_text value
+  -- the entry value of a variable
+  abbrev pub variable_text : List ℕ → Val → List ℕ
+  variable_text name value = line (codes "    var " ++ name ++ codes " = " ++ value_text types value)
 
-abbrev pub choice_text : Choice → List ℕ
-choice_text c = line (codes "    choice " ++ chosen_text c)
+  -- the number of a branch that is taken, or a value that is chosen
+  abbrev pub chosen_text : Choice → List ℕ
+  chosen_text (Branch k) = codes "branch " ++ decimal k
+  chosen_text (Chosen value) = value_text types value
 
--- the names of what has a value in a counterexample
+  abbrev pub choice_text : Choice → List ℕ
+  choice_text c = line (codes "    choice " ++ chosen_text c)
+
+-- the names of types, and of what has a value in a counterexample
 pub record Names : Type 0 where
+  pub types : List (List ℕ)
   pub constants : List (List ℕ)
   pub functions : List Named
   pub variables : List (List ℕ)
@@ -54,7 +57,7 @@ pub record Names : Type 0 where
 -- the interpretation, the entry values of the variables, and the choices in order
 abbrev pub counterexample_text : Names → Interp → List Val → List Choice → List ℕ
 counterexample_text names i values choices =
-    interp_text names.constants names.functions i ++ (texts variable_text names.variables values ++ flat_map choice_text choices)
+    interp_text names.types names.constants names.functions i ++ (texts (variable_text names.types) names.variables values ++ flat_map (choice_text names.types) choices)
 
 -- a refuted place, and how it fails
 abbrev pub refuted_text : Names → Placed → Interp → List Val → List Choice → List ℕ

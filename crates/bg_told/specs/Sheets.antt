@@ -2,7 +2,7 @@
 use Rattle.std.specs.Prelude.{ℕ, List, ◌++◌, map, is_some}
 use Rattle.bg_base.specs.declared.pos.Pos.{Pos}
 use Rattle.bg_text.specs.Trees.{Id}
-use Rattle.bg_ast.specs.Resolved.{Declared, Fun, Impl, Program}
+use Rattle.bg_ast.specs.Resolved.{TypeName, Declared, Fun, Impl, Program}
 use Rattle.bg_opened.specs.Written.{global_for}
 use Rattle.bg_told.specs.Places.{Named, Names}
 
@@ -20,8 +20,12 @@ head_of m = record { name = m.name; pos = m.pos; params = m.params; results = m.
 abbrev pub named_of : Fun → Named
 named_of f = record { name = f.name.text; has_body = is_some f.body }
 
--- of what all implementations see; constants are declared as variables are
+abbrev pub type_name : TypeName → List ℕ
+type_name t = t.name.text
+
+-- of what all implementations see, with the names of types; constants are declared as variables are
 pub record Outer : Type 0 where
+  pub types : List (List ℕ)
   pub constants : List Declared
   pub functions : List Named
   pub globals : List Declared
@@ -29,6 +33,7 @@ pub record Outer : Type 0 where
 abbrev pub outer_of : Program → Outer
 outer_of p =
     record {
+      types = map type_name p.types;
       constants = map global_for p.constants;
       functions = map named_of p.functions;
       globals = p.globals;
@@ -51,7 +56,12 @@ name_in d = d.name.text
 abbrev pub variables_of : List Declared → Head → List (List ℕ)
 variables_of globals h = map name_in globals ++ (map name_in h.params ++ (map name_in h.results ++ map name_in h.locals))
 
--- and those of the constants and the functions
+-- and those of types, the constants and the functions
 abbrev pub names_of : Outer → Head → Names
 names_of o h =
-    record { constants = map name_in o.constants; functions = o.functions; variables = variables_of o.globals h }
+    record {
+      types = o.types;
+      constants = map name_in o.constants;
+      functions = o.functions;
+      variables = variables_of o.globals h;
+    }

@@ -272,8 +272,14 @@ fn put_interpretation(
     match axioms {
         Verdict::Refuted(cex) => {
             out.extend_from_slice(b"interpretation:\n")?;
-            put_constants(out, declared.constants, &cex.globals)?;
-            put_functions(out, declared.functions, declared.bodies, &cex.tables)
+            put_constants(out, declared.types, declared.constants, &cex.globals)?;
+            put_functions(
+                out,
+                declared.types,
+                declared.functions,
+                declared.bodies,
+                &cex.tables,
+            )
         }
         _ => Ok(()),
     }

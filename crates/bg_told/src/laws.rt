@@ -1,6 +1,6 @@
 //! Laws of what reports say.
 
-ghost use Rattle.std.specs.Prelude.{◌≡◌, ◌↔◌, ℕ, List, length, map, true, All};
+ghost use Rattle.std.specs.Prelude.{◌≡◌, ◌↔◌, ℕ, List, Some, filter, length, map, true, All};
 ghost use Rattle.std.specs.List.{list_all};
 ghost use Rattle.bg_ast.specs.Meaning.{meaning_of};
 ghost use Rattle.bg_ast.specs.Resolved.{Program};
@@ -11,6 +11,9 @@ ghost use Rattle.bg_inference.specs.Outcomes.{IsTrueOutcome};
 ghost use Rattle.bg_inference.specs.Told.{outcome_of};
 ghost use Rattle.bg_opened.specs.Openable.{IsOpenable};
 ghost use Rattle.bg_sound.specs.Told.{Why, Consistent, Judged, Outcome, retained, is_proved, word_of, AllProved, status_of};
+ghost use Rattle.bg_text.specs.declared.token.Kind.TheVariants as kinds;
+ghost use Rattle.bg_text.specs.Pieces.{Token, piece_of};
+ghost use Rattle.bg_told.specs.Lines.{is_printed};
 ghost use Rattle.bg_told.specs.Report.{result_text};
 ghost use Rattle.bg_told.specs.Settled.{is_settled, verdict_lines};
 ghost use Rattle.bg_tree.specs.declared.outcome.Budget.{Budget};
@@ -27,7 +30,12 @@ pub fn equal_reports_say_equal_words()
         result_text p o ≡ result_text p other → map word_of o.implementations ≡ map word_of other.implementations }
 {}
 
-/// They tell of the same retained set, and both that it is the greatest, or neither.
+/// Of a type that a text declares, the whole name is told: a name token has no byte below that of a space.
+pub fn names_in_texts_are_told_whole()
+    ensures { (word : List ℕ) → piece_of word ≡ Some (Token kinds.Name) → filter is_printed word ≡ word }
+{}
+
+/// Equal reports of one program tell of the same retained set, and both that it is the greatest, or neither.
 pub fn equal_reports_retain_equal_sets()
     ensures { (p : Program) (o other : Outcome) →
         length o.fates ≡ length p.candidates → length other.fates ≡ length p.candidates →

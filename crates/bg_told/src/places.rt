@@ -32,14 +32,31 @@ pub fn put_counterexample(
     ensures { OnOk result (out.new.items ≡ out.old.items ++ counterexample_text (names_for declared.entry (head_of (impl_of implementation.now))) (interp_by (length declared.entry.globals.now) cex.now) (entry_by (length declared.entry.globals.now) cex.now) (map choice_of cex.now.choices.items)) }
 {
     let count = declared.globals.len();
-    put_constants(out, declared.constants, behind(&cex.globals, count))?;
-    put_functions(out, declared.functions, declared.bodies, &cex.tables)?;
+    put_constants(
+        out,
+        declared.types,
+        declared.constants,
+        behind(&cex.globals, count),
+    )?;
+    put_functions(
+        out,
+        declared.types,
+        declared.functions,
+        declared.bodies,
+        &cex.tables,
+    )?;
     let values = Values {
         globals: front(&cex.globals, count),
         frame: &cex.frame,
     };
-    put_entry(out, declared.globals, implementation, values)?;
-    put_choices(out, &cex.choices)?;
+    put_entry(
+        out,
+        declared.types,
+        declared.globals,
+        implementation,
+        values,
+    )?;
+    put_choices(out, declared.types, &cex.choices)?;
     Ok(())
 }
 

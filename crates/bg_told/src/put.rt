@@ -1,11 +1,13 @@
 //! Parts of a line.
-ghost use Rattle.std.specs.Prelude.{◌≡◌, ◌++◌, OnOk};
+ghost use Rattle.std.specs.Prelude.{◌≡◌, ◌++◌, OnOk, filter, slice_get};
 ghost use Rattle.std.specs.Fmt.{signed_decimal};
 ghost use Rattle.bg_scalar.specs.Values.{val_of};
-ghost use Rattle.bg_told.specs.Lines.{truth_text, value_text, word_text};
+ghost use Rattle.bg_told.specs.Lines.{truth_text, text_or_none, is_printed, element_text, value_text, word_text};
+ghost use Rattle.bg_told.specs.Entries.{types_in};
 ghost use Rattle.bg_told.specs.Views.{told_word};
 
 use crate::word::Word;
+use bg_ast::resolved::TypeName;
 use bg_scalar::Scalar;
 use itoa::Buffer;
 use std::alloc::AllocError;
@@ -28,12 +30,44 @@ fn put_truth(out: &mut Vec<u8>, value: bool) -> Result<(), AllocError>
     }
 }
 
-pub fn put_scalar(out: &mut Vec<u8>, value: Scalar) -> Result<(), AllocError>
-    ensures { OnOk result (out.new.items ≡ out.old.items ++ value_text (val_of value)) }
+/// The bytes of a name that aren't below that of a space. A name in a text has no other bytes.
+fn put_printed(out: &mut Vec<u8>, name: &[u8]) -> Result<(), AllocError>
+    ensures { OnOk result (out.new.items ≡ out.old.items ++ filter is_printed name.now) }
+{
+    for b in name {
+        if *b >= 32 {
+            out.push(*b)?;
+        }
+    }
+    Ok(())
+}
+
+/// The name of the type with this number, where there is one.
+fn put_type(out: &mut Vec<u8>, types: &[TypeName], t: u32) -> Result<(), AllocError>
+    ensures { OnOk result (out.new.items ≡ out.old.items ++ filter is_printed (text_or_none (slice_get (types_in types.now) t))) }
+{
+    match types.get(t as usize) {
+        None => Ok(()),
+        Some(d) => put_printed(out, &d.name.text),
+    }
+}
+
+fn put_element(out: &mut Vec<u8>, types: &[TypeName], t: u32, z: i128) -> Result<(), AllocError>
+    ensures { OnOk result (out.new.items ≡ out.old.items ++ element_text (types_in types.now) t z) }
+{
+    put_type(out, types, t)?;
+    out.extend_from_slice(b"!")?;
+    put_integer(out, z)
+}
+
+/// A value, where these types are declared.
+pub fn put_scalar(out: &mut Vec<u8>, types: &[TypeName], value: Scalar) -> Result<(), AllocError>
+    ensures { OnOk result (out.new.items ≡ out.old.items ++ value_text (types_in types.now) (val_of value)) }
 {
     match value {
         Scalar::Truth(b) => put_truth(out, b),
         Scalar::Number(z) => put_integer(out, z),
+        Scalar::Element(t, z) => put_element(out, types, t, z),
     }
 }
 

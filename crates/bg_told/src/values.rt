@@ -3,10 +3,10 @@ ghost use Rattle.std.specs.Prelude.{◌≡◌, ◌++◌, OnOk, [], map, take, dr
 ghost use Rattle.bg_ast.specs.Views.{declared_of, impl_of};
 ghost use Rattle.bg_told.specs.Lines.{texts};
 ghost use Rattle.bg_told.specs.Sheets.{head_of, name_in, variables_of};
-ghost use Rattle.bg_told.specs.Entries.{values_of, names_in, entry_text, constant_line};
+ghost use Rattle.bg_told.specs.Entries.{types_in, values_of, names_in, entry_text, constant_line};
 
 use crate::put::put_scalar;
-use bg_ast::resolved::{Declared, Implementation};
+use bg_ast::resolved::{Declared, Implementation, TypeName};
 use bg_scalar::Scalar;
 use std::alloc::AllocError;
 
@@ -65,56 +65,68 @@ fn rest_of(values: Values<'_>, n: usize) -> Values<'_>
     }
 }
 
-fn put_value(out: &mut Vec<u8>, variable: &Declared, value: Scalar) -> Result<(), AllocError>
-    ensures { OnOk result (out.new.items ≡ out.old.items ++ entry_text (name_in (declared_of variable.now)) value) }
+fn put_value(
+    out: &mut Vec<u8>,
+    types: &[TypeName],
+    variable: &Declared,
+    value: Scalar,
+) -> Result<(), AllocError>
+    ensures { OnOk result (out.new.items ≡ out.old.items ++ entry_text (types_in types.now) (name_in (declared_of variable.now)) value) }
 {
     out.extend_from_slice(b"    var ")?;
     out.extend_from_slice(&variable.name.text)?;
     out.extend_from_slice(b" = ")?;
-    put_scalar(out, value)?;
+    put_scalar(out, types, value)?;
     out.extend_from_slice(b"\n")
 }
 
 /// The entry values of these variables.
 fn put_values(
     out: &mut Vec<u8>,
+    types: &[TypeName],
     variables: &[Declared],
     values: Values<'_>,
 ) -> Result<(), AllocError>
-    ensures { OnOk result (out.new.items ≡ out.old.items ++ texts entry_text (names_in variables.now) (values_of values.entry)) }
+    ensures { OnOk result (out.new.items ≡ out.old.items ++ texts (entry_text (types_in types.now)) (names_in variables.now) (values_of values.entry)) }
 {
     for (i, variable) in variables.iter().enumerate() {
         match value_at(values, i) {
-            Some(value) => put_value(out, variable, value)?,
+            Some(value) => put_value(out, types, variable, value)?,
             None => return Ok(()),
         }
     }
     Ok(())
 }
 
-fn put_constant(out: &mut Vec<u8>, constant: &Declared, value: Scalar) -> Result<(), AllocError>
-    ensures { OnOk result (out.new.items ≡ out.old.items ++ constant_line (name_in (declared_of constant.now)) value) }
+fn put_constant(
+    out: &mut Vec<u8>,
+    types: &[TypeName],
+    constant: &Declared,
+    value: Scalar,
+) -> Result<(), AllocError>
+    ensures { OnOk result (out.new.items ≡ out.old.items ++ constant_line (types_in types.now) (name_in (declared_of constant.now)) value) }
 {
     out.extend_from_slice(b"    const ")?;
     out.extend_from_slice(&constant.name.text)?;
     out.extend_from_slice(b" = ")?;
-    put_scalar(out, value)?;
+    put_scalar(out, types, value)?;
     out.extend_from_slice(b"\n")
 }
 
 /// The values of these constants.
 pub fn put_constants(
     out: &mut Vec<u8>,
+    types: &[TypeName],
     constants: &[Declared],
     values: &[Scalar],
 ) -> Result<(), AllocError>
-    ensures { OnOk result (out.new.items ≡ out.old.items ++ texts constant_line (names_in constants.now) values.now) }
+    ensures { OnOk result (out.new.items ≡ out.old.items ++ texts (constant_line (types_in types.now)) (names_in constants.now) values.now) }
 {
     for (i, constant) in constants.iter().enumerate() {
         if i >= values.len() {
             return Ok(());
         }
-        put_constant(out, constant, values[i])?;
+        put_constant(out, types, constant, values[i])?;
     }
     Ok(())
 }
@@ -122,30 +134,33 @@ pub fn put_constants(
 /// The entry values of three groups of variables.
 fn put_groups(
     out: &mut Vec<u8>,
+    types: &[TypeName],
     params: &[Declared],
     results: &[Declared],
     locals: &[Declared],
     values: Values<'_>,
 ) -> Result<(), AllocError>
-    ensures { OnOk result (out.new.items ≡ out.old.items ++ texts entry_text (names_in params.now ++ (names_in results.now ++ names_in locals.now)) (values_of values.entry)) }
+    ensures { OnOk result (out.new.items ≡ out.old.items ++ texts (entry_text (types_in types.now)) (names_in params.now ++ (names_in results.now ++ names_in locals.now)) (values_of values.entry)) }
 {
     let behind = rest_of(values, params.len());
-    put_values(out, params, values)?;
-    put_values(out, results, behind)?;
-    put_values(out, locals, rest_of(behind, results.len()))?;
+    put_values(out, types, params, values)?;
+    put_values(out, types, results, behind)?;
+    put_values(out, types, locals, rest_of(behind, results.len()))?;
     Ok(())
 }
 
 /// The entry values of parameters, results and locals.
 fn put_frame(
     out: &mut Vec<u8>,
+    types: &[TypeName],
     implementation: &Implementation,
     values: Values<'_>,
 ) -> Result<(), AllocError>
-    ensures { OnOk result (out.new.items ≡ out.old.items ++ texts entry_text (variables_of [] (head_of (impl_of implementation.now))) (values_of values.entry)) }
+    ensures { OnOk result (out.new.items ≡ out.old.items ++ texts (entry_text (types_in types.now)) (variables_of [] (head_of (impl_of implementation.now))) (values_of values.entry)) }
 {
     put_groups(
         out,
+        types,
         &implementation.params,
         &implementation.results,
         &implementation.locals,
@@ -156,13 +171,14 @@ fn put_frame(
 /// The entry values of globals, parameters, results and locals.
 pub fn put_entry(
     out: &mut Vec<u8>,
+    types: &[TypeName],
     globals: &[Declared],
     implementation: &Implementation,
     values: Values<'_>,
 ) -> Result<(), AllocError>
-    ensures { OnOk result (out.new.items ≡ out.old.items ++ texts entry_text (variables_of (map declared_of globals.now) (head_of (impl_of implementation.now))) (values_of values.entry)) }
+    ensures { OnOk result (out.new.items ≡ out.old.items ++ texts (entry_text (types_in types.now)) (variables_of (map declared_of globals.now) (head_of (impl_of implementation.now))) (values_of values.entry)) }
 {
-    put_values(out, globals, values)?;
-    put_frame(out, implementation, rest_of(values, globals.len()))?;
+    put_values(out, types, globals, values)?;
+    put_frame(out, types, implementation, rest_of(values, globals.len()))?;
     Ok(())
 }

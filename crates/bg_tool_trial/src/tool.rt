@@ -212,10 +212,10 @@ const TEXTS: [Case; 34] = [
     ),
     (
         VERIFY,
-        "type T; procedure P() { assert true; }",
+        "type T = [int]int; procedure P() { assert true; }",
         Status::Text,
         "",
-        "error: 1:1 unsupported type\n",
+        "error: 1:10 unsupported [\n",
     ),
     (&["bg", "verify"], COPY, Status::Usage, "", USAGE),
     (

@@ -40,7 +40,7 @@ solves =
       agree = agree;
     }
 
-point : IsPoint (0 ∷ []) rows (record { variable = 0; value = far; reason = 2 } ∷ [])
+point : IsPoint (λ x. pos 0) (0 ∷ []) rows (record { variable = 0; value = far; reason = 2 } ∷ [])
 point = record { variables = refl; near = refl; meets = refl }
 
 complete : IsComplete doubled all far_path
@@ -55,10 +55,10 @@ once a = by (a == 0) (a == 1) refl refl
     by false true e f = refl
     by false false e f = refl
 
-no_way : IsWay doubled all (root doubled) far_path → ⊥
-no_way w = up_no_gap (multiple (pos 2) (pos 1) ∷ multiple (pos 2) (pos 0) ∷ []) w.1.1.0.kept ((tt, tt), ((tt, tt), tt)) w.1.1.0.bound.gap
+no_way : (targets : ℕ → ℤ) → IsWay targets doubled all (root doubled) far_path → ⊥
+no_way targets w = up_no_gap targets (multiple (pos 2) (pos 1) ∷ multiple (pos 2) (pos 0) ∷ []) w.1.1.0.kept ((tt, tt), ((tt, tt), tt)) w.1.1.0.bound.gap
 
 -- all that once was asked of a leaf holds
-pub far_leaf : (l : Leaf) → IsFarLeaf l → IsComplete doubled all l.path.items × IsOnce l.path.items × SolvedBy (rows_on doubled.atoms l.path.items) l.order × IsPoint l.order.variables.items (map row_of l.order.rows.items) l.spots.items × (IsWay doubled all (root doubled) l.path.items → ⊥)
-far_leaf l h =
-    rw (h.path, h.variables, h.reasons, h.rows, h.spots) (complete, once, solves, point, no_way)
+pub far_leaf : (targets : ℕ → ℤ) (l : Leaf) → IsFarLeaf l → IsComplete doubled all l.path.items × IsOnce l.path.items × SolvedBy (rows_on doubled.atoms l.path.items) l.order × IsPoint (λ x. pos 0) l.order.variables.items (map row_of l.order.rows.items) l.spots.items × (IsWay targets doubled all (root doubled) l.path.items → ⊥)
+far_leaf targets l h =
+    rw (h.path, h.variables, h.reasons, h.rows, h.spots) (complete, once, solves, point, no_way targets)

@@ -197,8 +197,8 @@ kept_above order rows v x k n l i a m (Some up) e h =
     let b : bounds_below order x (above x k) ≡ true = rw (before_only order x (negsuc 0) (negsuc 0 -ℤ k) y, only_coefficient x (negsuc 0)) refl in
     clash_above v x k up (l n up e) (agree_at order v x rows rows n m.0 up (above x k) a e m.1 p.0 b) p.1
 
-pub gap_is_new : (xs : List AtomOf) (ds : List Decision) (k : Kept) → KeepsGap (rows_on xs ds) k → has_bound k.gap.variable k.gap.below ds ≡ false
-gap_is_new xs ds k g = by_test (has_bound k.gap.variable k.gap.below ds) refl
+pub gap_is_new : (targets : ℕ → ℤ) (xs : List AtomOf) (ds : List Decision) (k : Kept) → KeepsGap targets (rows_on xs ds) k → has_bound k.gap.variable k.gap.below ds ≡ false
+gap_is_new targets xs ds k g = by_test (has_bound k.gap.variable k.gap.below ds) refl
   where
     rows : List RowOf
     rows = map row_of k.order.rows.items

@@ -38,8 +38,8 @@ made_none order (Eliminated i j x ∷ rs) rows e = absurd (let bad : ⊥ = cc in
 keeps_none : (order : List ℕ) (v : ℕ → ℤ) (x low : ℕ) (k : ℤ) (rows : List RowOf) → rows ≡ [] → keeps_above order v x k (row_at rows low) ≡ true → ⊥
 keeps_none order v x low k rows e h = let g = rw e at h in cc
 
-no_gap : (k : Kept) → KeepsGap [] k → ⊥
-no_gap k g =
+no_gap : (targets : ℕ → ℤ) (k : Kept) → KeepsGap targets [] k → ⊥
+no_gap targets k g =
     keeps_none
     k.order.variables.items
     (value_of k.spots.items)
@@ -67,15 +67,15 @@ no_more xs (Atom b t ∷ ds) a s h e =
 no_more xs (AtMost x k true ∷ ds) a s h e = absurd (let bad : ⊥ = cc in bad)
 no_more xs (AtMost x k false ∷ ds) a s h e = absurd (let bad : ⊥ = cc in bad)
 
-no_bounds : (f : Formula) (set : ℕ → Bool) (bs ds : List Decision) → AreTruths f.atoms → rows_on f.atoms bs ≡ [] → IsWay f set (path_of f bs) ds → (x : ℕ) (k : ℤ) → has_bound x k ds ≡ false
-no_bounds f set bs [] h e w x k = refl
-no_bounds f set bs (Atom a s ∷ ds) h e w x k =
-    no_bounds f set (bs ++ (Atom a s ∷ [])) ds h (no_more f.atoms bs a s h e) w.1 x k
-no_bounds f set bs (AtMost y j s ∷ ds) h e w x k =
-    absurd (no_gap w.0.kept (subst (λ (given : List RowOf). KeepsGap given w.0.kept) e w.0.bound.gap))
+no_bounds : (targets : ℕ → ℤ) (f : Formula) (set : ℕ → Bool) (bs ds : List Decision) → AreTruths f.atoms → rows_on f.atoms bs ≡ [] → IsWay targets f set (path_of f bs) ds → (x : ℕ) (k : ℤ) → has_bound x k ds ≡ false
+no_bounds targets f set bs [] h e w x k = refl
+no_bounds targets f set bs (Atom a s ∷ ds) h e w x k =
+    no_bounds targets f set (bs ++ (Atom a s ∷ [])) ds h (no_more f.atoms bs a s h e) w.1 x k
+no_bounds targets f set bs (AtMost y j s ∷ ds) h e w x k =
+    absurd (no_gap targets w.0.kept (subst (λ (given : List RowOf). KeepsGap targets given w.0.kept) e w.0.bound.gap))
 
-pub ways_plain : (f : Formula) (set : ℕ → Bool) (ds : List Decision) → AreTruths f.atoms → IsWay f set (root f) ds → (x : ℕ) (k : ℤ) → has_bound x k ds ≡ false
-ways_plain f set ds h w x k = no_bounds f set [] ds h refl w x k
+pub ways_plain : (targets : ℕ → ℤ) (f : Formula) (set : ℕ → Bool) (ds : List Decision) → AreTruths f.atoms → IsWay targets f set (root f) ds → (x : ℕ) (k : ℤ) → has_bound x k ds ≡ false
+ways_plain targets f set ds h w x k = no_bounds targets f set [] ds h refl w x k
 
 -- ---- what once would do
 
@@ -86,20 +86,20 @@ wide_leaves : LeavesRange (rows_on refutable.atoms wide_path) (0 ∷ []) (Given 
 unfolding gcd_of
 wide_leaves = (refl, (refl, refl))
 
-wide_beyond : (o : Order) (f : Further) → IsWide o f → IsBeyond (rows_on refutable.atoms wide_path) (Elimination o f)
-wide_beyond o f w = rw (w.variables, w.reasons, w.first, w.second, w.variable, w.operation) wide_leaves
+wide_beyond : (targets : ℕ → ℤ) (o : Order) (f : Further) → IsWide o f → IsBeyond targets (rows_on refutable.atoms wide_path) (Elimination o f)
+wide_beyond targets o f w = rw (w.variables, w.reasons, w.first, w.second, w.variable, w.operation) wide_leaves
 
-wide_no_way : IsWay refutable all (root refutable) wide_path → ⊥
-wide_no_way w = let n = ways_plain refutable all wide_path tt w 0 least in cc
+wide_no_way : (targets : ℕ → ℤ) → IsWay targets refutable all (root refutable) wide_path → ⊥
+wide_no_way targets w = let n = ways_plain targets refutable all wide_path tt w 0 least in cc
 
-pub wide_range : (o : Order) (f : Further) → IsWide o f → IsComplete refutable all wide_path × IsBeyond (rows_on refutable.atoms wide_path) (Elimination o f) × (IsWay refutable all (root refutable) wide_path → ⊥)
-wide_range o f w = (wide_complete, wide_beyond o f w, wide_no_way)
+pub wide_range : (targets : ℕ → ℤ) (o : Order) (f : Further) → IsWide o f → IsComplete refutable all wide_path × IsBeyond targets (rows_on refutable.atoms wide_path) (Elimination o f) × (IsWay targets refutable all (root refutable) wide_path → ⊥)
+wide_range targets o f w = (wide_complete, wide_beyond targets o f w, wide_no_way targets)
 
 long_complete : IsComplete refutable all long_path
 long_complete = record { fine = refl; decided = refl }
 
-long_no_way : IsWay refutable all (root refutable) long_path → ⊥
-long_no_way w = let n = ways_plain refutable all long_path tt w 0 (pos 0) in cc
+long_no_way : (targets : ℕ → ℤ) → IsWay targets refutable all (root refutable) long_path → ⊥
+long_no_way targets w = let n = ways_plain targets refutable all long_path tt w 0 (pos 0) in cc
 
-pub long_rows : (o : Order) → IsLong o → IsComplete refutable all long_path × FillBudget (rows_on refutable.atoms long_path) 3 o.variables.items o.reasons.items × (IsWay refutable all (root refutable) long_path → ⊥)
-long_rows o w = (long_complete, rw w refl, long_no_way)
+pub long_rows : (targets : ℕ → ℤ) (o : Order) → IsLong o → IsComplete refutable all long_path × FillBudget (rows_on refutable.atoms long_path) 3 o.variables.items o.reasons.items × (IsWay targets refutable all (root refutable) long_path → ⊥)
+long_rows targets o w = (long_complete, rw w refl, long_no_way targets)

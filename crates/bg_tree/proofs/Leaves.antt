@@ -194,17 +194,17 @@ path_signs v xs (d ∷ ds) g m t a s l e =
         atom_signs v xs a s g l h (λ r n. k r (rw (sym q, sym w) n))
     first (AtMost x k u) h n i = absurd (cc)
 
-leaf_signs : (f : Formula) (set : ℕ → Bool) (leaf : Leaf) (v : Valuation) → AtomsAgree f.atoms → IsLeaf f set leaf → ((x : ℕ) → v.numbers x ≡ value_of leaf.spots.items x) → TruthsAgree v f.atoms leaf.path.items → Signs v f.atoms leaf.path.items
-leaf_signs f set leaf v g l n t =
-    let m = point_meets (rows_on f.atoms leaf.path.items) leaf.order.variables.items (map row_of leaf.order.rows.items) leaf.spots.items l.solved.kept l.point in
+leaf_signs : (targets : ℕ → ℤ) (f : Formula) (set : ℕ → Bool) (leaf : Leaf) (v : Valuation) → AtomsAgree f.atoms → IsLeaf targets f set leaf → ((x : ℕ) → v.numbers x ≡ value_of leaf.spots.items x) → TruthsAgree v f.atoms leaf.path.items → Signs v f.atoms leaf.path.items
+leaf_signs targets f set leaf v g l n t =
+    let m = point_meets targets (rows_on f.atoms leaf.path.items) leaf.order.variables.items (map row_of leaf.order.rows.items) leaf.spots.items l.solved.kept l.point in
     let e : value_of leaf.spots.items ≡ v.numbers = sym (funext v.numbers (value_of leaf.spots.items) n) in
     path_signs v f.atoms leaf.path.items g (subst (λ (w : ℕ → ℤ). AllMeet w (rows_on f.atoms leaf.path.items)) e m) t
 
-pub leaf_clauses : (f : Formula) (set : ℕ → Bool) (leaf : Leaf) (v : Valuation) → is_whole f ≡ true → AtomsAgree f.atoms → IsLeaf f set leaf → ((x : ℕ) → v.numbers x ≡ value_of leaf.spots.items x) → TruthsAgree v f.atoms leaf.path.items → clauses_true v f.atoms f.clauses ≡ true
-leaf_clauses f set leaf v w g l n t = complete_clauses f set leaf.path.items v w l.complete (leaf_signs f set leaf v g l n t)
+pub leaf_clauses : (targets : ℕ → ℤ) (f : Formula) (set : ℕ → Bool) (leaf : Leaf) (v : Valuation) → is_whole f ≡ true → AtomsAgree f.atoms → IsLeaf targets f set leaf → ((x : ℕ) → v.numbers x ≡ value_of leaf.spots.items x) → TruthsAgree v f.atoms leaf.path.items → clauses_true v f.atoms f.clauses ≡ true
+leaf_clauses targets f set leaf v w g l n t = complete_clauses f set leaf.path.items v w l.complete (leaf_signs targets f set leaf v g l n t)
 
-pub leaf_units : (f : Formula) (set : ℕ → Bool) (leaf : Leaf) (v : Valuation) → is_whole f ≡ true → AtomsAgree f.atoms → IsLeaf f set leaf → ((x : ℕ) → v.numbers x ≡ value_of leaf.spots.items x) → TruthsAgree v f.atoms leaf.path.items → MeetsUnits v f set
-leaf_units f set leaf v w g l n t = complete_units f set leaf.path.items v w l.complete (leaf_signs f set leaf v g l n t)
+pub leaf_units : (targets : ℕ → ℤ) (f : Formula) (set : ℕ → Bool) (leaf : Leaf) (v : Valuation) → is_whole f ≡ true → AtomsAgree f.atoms → IsLeaf targets f set leaf → ((x : ℕ) → v.numbers x ≡ value_of leaf.spots.items x) → TruthsAgree v f.atoms leaf.path.items → MeetsUnits v f set
+leaf_units targets f set leaf v w g l n t = complete_units f set leaf.path.items v w l.complete (leaf_signs targets f set leaf v g l n t)
 
-pub leaf_atoms : (f : Formula) (set : ℕ → Bool) (leaf : Leaf) (v : Valuation) → AtomsAgree f.atoms → IsLeaf f set leaf → ((x : ℕ) → v.numbers x ≡ value_of leaf.spots.items x) → TruthsAgree v f.atoms leaf.path.items → (a : ℕ) (s : Bool) → a < length f.atoms → decides a s leaf.path.items ≡ true → signed v (at f.atoms a) s ≡ true
-leaf_atoms f set leaf v g l n t = leaf_signs f set leaf v g l n t
+pub leaf_atoms : (targets : ℕ → ℤ) (f : Formula) (set : ℕ → Bool) (leaf : Leaf) (v : Valuation) → AtomsAgree f.atoms → IsLeaf targets f set leaf → ((x : ℕ) → v.numbers x ≡ value_of leaf.spots.items x) → TruthsAgree v f.atoms leaf.path.items → (a : ℕ) (s : Bool) → a < length f.atoms → decides a s leaf.path.items ≡ true → signed v (at f.atoms a) s ≡ true
+leaf_atoms targets f set leaf v g l n t = leaf_signs targets f set leaf v g l n t

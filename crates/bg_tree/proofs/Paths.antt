@@ -63,60 +63,60 @@ undecided_by n a ds cs m =
 -- ---- a way
 
 -- a way goes on by a decision that may be made at its end
-way_on : (f : Formula) (set : ℕ → Bool) (bs ds : List Decision) (d : Decision) → IsWay f set (path_of f bs) ds → MayDecide f set (path_of f (bs ++ ds)) d → IsWay f set (path_of f bs) (ds ++ (d ∷ []))
-way_on f set bs [] d w m = (subst (λ (es : List Decision). MayDecide f set (path_of f es) d) (append-nil bs) m, tt)
-way_on f set bs (e ∷ ds) d w m =
-    (w.0, way_on f set (bs ++ (e ∷ [])) ds d w.1 (subst (λ (es : List Decision). MayDecide f set (path_of f es) d) (sym (append_assoc bs (e ∷ []) ds)) m))
+way_on : (targets : ℕ → ℤ) (f : Formula) (set : ℕ → Bool) (bs ds : List Decision) (d : Decision) → IsWay targets f set (path_of f bs) ds → MayDecide targets f set (path_of f (bs ++ ds)) d → IsWay targets f set (path_of f bs) (ds ++ (d ∷ []))
+way_on targets f set bs [] d w m = (subst (λ (es : List Decision). MayDecide targets f set (path_of f es) d) (append-nil bs) m, tt)
+way_on targets f set bs (e ∷ ds) d w m =
+    (w.0, way_on targets f set (bs ++ (e ∷ [])) ds d w.1 (subst (λ (es : List Decision). MayDecide targets f set (path_of f es) d) (sym (append_assoc bs (e ∷ []) ds)) m))
 
-pub way_more : (f : Formula) (set : ℕ → Bool) (ds : List Decision) (d : Decision) → IsWay f set (root f) ds → MayDecide f set (path_of f ds) d → IsWay f set (root f) (ds ++ (d ∷ []))
-way_more f set ds d w m = way_on f set [] ds d w m
+pub way_more : (targets : ℕ → ℤ) (f : Formula) (set : ℕ → Bool) (ds : List Decision) (d : Decision) → IsWay targets f set (root f) ds → MayDecide targets f set (path_of f ds) d → IsWay targets f set (root f) (ds ++ (d ∷ []))
+way_more targets f set ds d w m = way_on targets f set [] ds d w m
 
-once_by : (f : Formula) (set : ℕ → Bool) (bs : List Decision) (d : Decision) → MayDecide f set (path_of f bs) d → IsOnce bs → IsOnce (bs ++ (d ∷ []))
-once_by f set bs (Atom a s) m o = once_more bs a s (undecided_by (length f.atoms) a bs (f.clauses ++ units_of f set) m.rule) o
-once_by f set bs (AtMost x k s) m o = once_bound bs x k s o
+once_by : (targets : ℕ → ℤ) (f : Formula) (set : ℕ → Bool) (bs : List Decision) (d : Decision) → MayDecide targets f set (path_of f bs) d → IsOnce bs → IsOnce (bs ++ (d ∷ []))
+once_by targets f set bs (Atom a s) m o = once_more bs a s (undecided_by (length f.atoms) a bs (f.clauses ++ units_of f set) m.rule) o
+once_by targets f set bs (AtMost x k s) m o = once_bound bs x k s o
 
-once_on : (f : Formula) (set : ℕ → Bool) (bs ds : List Decision) → IsWay f set (path_of f bs) ds → IsOnce bs → IsOnce (bs ++ ds)
-once_on f set bs [] w o = subst IsOnce (sym (append-nil bs)) o
-once_on f set bs (d ∷ ds) w o =
-    subst IsOnce (append_assoc bs (d ∷ []) ds) (once_on f set (bs ++ (d ∷ [])) ds w.1 (once_by f set bs d w.0 o))
+once_on : (targets : ℕ → ℤ) (f : Formula) (set : ℕ → Bool) (bs ds : List Decision) → IsWay targets f set (path_of f bs) ds → IsOnce bs → IsOnce (bs ++ ds)
+once_on targets f set bs [] w o = subst IsOnce (sym (append-nil bs)) o
+once_on targets f set bs (d ∷ ds) w o =
+    subst IsOnce (append_assoc bs (d ∷ []) ds) (once_on targets f set (bs ++ (d ∷ [])) ds w.1 (once_by targets f set bs d w.0 o))
 
 -- no atom has both signs on a way
-pub way_once : (f : Formula) (set : ℕ → Bool) (ds : List Decision) → IsWay f set (root f) ds → IsOnce ds
-way_once f set ds w = once_on f set [] ds w (λ a. refl)
+pub way_once : (targets : ℕ → ℤ) (f : Formula) (set : ℕ → Bool) (ds : List Decision) → IsWay targets f set (root f) ds → IsOnce ds
+way_once targets f set ds w = once_on targets f set [] ds w (λ a. refl)
 
 low_test : (x n : ℕ) → x < n → nat_lt x n ≡ true
 low_test x n l = grind (arith, nat_tests)
 
 -- each bound on a way is of a term that is there
-pub way_bounds : (f : Formula) (set : ℕ → Bool) (p : PathOf) (ds : List Decision) → IsWay f set p ds → bounds_in f.terms ds ≡ true
-way_bounds f set p [] w = refl
-way_bounds f set p (Atom a s ∷ ds) w = way_bounds f set (with_decision p (Atom a s)) ds w.1
-way_bounds f set p (AtMost x k s ∷ ds) w =
-    and_of (nat_lt x f.terms) (bounds_in f.terms ds) (low_test x f.terms (subst (λ (y : ℕ). y < f.terms) w.0.variable w.0.bound.there)) (way_bounds f set (with_decision p (AtMost x k s)) ds w.1)
+pub way_bounds : (targets : ℕ → ℤ) (f : Formula) (set : ℕ → Bool) (p : PathOf) (ds : List Decision) → IsWay targets f set p ds → bounds_in f.terms ds ≡ true
+way_bounds targets f set p [] w = refl
+way_bounds targets f set p (Atom a s ∷ ds) w = way_bounds targets f set (with_decision p (Atom a s)) ds w.1
+way_bounds targets f set p (AtMost x k s ∷ ds) w =
+    and_of (nat_lt x f.terms) (bounds_in f.terms ds) (low_test x f.terms (subst (λ (y : ℕ). y < f.terms) w.0.variable w.0.bound.there)) (way_bounds targets f set (with_decision p (AtMost x k s)) ds w.1)
 
 -- ---- all open paths
 
-pub paths_first : (f : Formula) (set : ℕ → Bool) (w : Walk) → stack_of f w ≡ path_of f [] ∷ [] → ArePaths f set (stack_of f w)
-paths_first f set w e = rw e (tt, tt)
+pub paths_first : (targets : ℕ → ℤ) (f : Formula) (set : ℕ → Bool) (w : Walk) → stack_of f w ≡ path_of f [] ∷ [] → ArePaths targets f set (stack_of f w)
+paths_first targets f set w e = rw e (tt, tt)
 
-pub paths_open : (f : Formula) (set : ℕ → Bool) (w : Walk) → w.is_open ≡ true → ArePaths f set (stack_of f w) → IsWay f set (root f) (decided_on w) × ArePaths f set (others_of f w)
-paths_open f set w o h = rw o at h
+pub paths_open : (targets : ℕ → ℤ) (f : Formula) (set : ℕ → Bool) (w : Walk) → w.is_open ≡ true → ArePaths targets f set (stack_of f w) → IsWay targets f set (root f) (decided_on w) × ArePaths targets f set (others_of f w)
+paths_open targets f set w o h = rw o at h
 
-pub open_bounds : (f : Formula) (set : ℕ → Bool) (w : Walk) → w.is_open ≡ true → ArePaths f set (stack_of f w) → bounds_in f.terms (decided_on w) ≡ true
-open_bounds f set w o h = way_bounds f set (root f) (decided_on w) (paths_open f set w o h).0
+pub open_bounds : (targets : ℕ → ℤ) (f : Formula) (set : ℕ → Bool) (w : Walk) → w.is_open ≡ true → ArePaths targets f set (stack_of f w) → bounds_in f.terms (decided_on w) ≡ true
+open_bounds targets f set w o h = way_bounds targets f set (root f) (decided_on w) (paths_open targets f set w o h).0
 
-pub paths_closed : (f : Formula) (set : ℕ → Bool) (old new : Walk) → old.is_open ≡ true → stack_of f new ≡ others_of f old → ArePaths f set (stack_of f old) → ArePaths f set (stack_of f new)
-paths_closed f set old new o s h = rw s ((paths_open f set old o h).1)
+pub paths_closed : (targets : ℕ → ℤ) (f : Formula) (set : ℕ → Bool) (old new : Walk) → old.is_open ≡ true → stack_of f new ≡ others_of f old → ArePaths targets f set (stack_of f old) → ArePaths targets f set (stack_of f new)
+paths_closed targets f set old new o s h = rw s ((paths_open targets f set old o h).1)
 
-pub paths_split : (f : Formula) (set : ℕ → Bool) (old new : Walk) (a : ℕ) → old.is_open ≡ true → IsSplit f set (path_of f (decided_on old)) a → stack_of f new ≡ path_of f (decided_on old ++ (Atom a true ∷ [])) ∷ path_of f (decided_on old ++ (Atom a false ∷ [])) ∷ others_of f old → ArePaths f set (stack_of f old) → ArePaths f set (stack_of f new)
-paths_split f set old new a o m s h =
-    let g = paths_open f set old o h in
-    rw s (way_more f set (decided_on old) (Atom a true) g.0 m, (way_more f set (decided_on old) (Atom a false) g.0 m, g.1))
+pub paths_split : (targets : ℕ → ℤ) (f : Formula) (set : ℕ → Bool) (old new : Walk) (a : ℕ) → old.is_open ≡ true → IsSplit f set (path_of f (decided_on old)) a → stack_of f new ≡ path_of f (decided_on old ++ (Atom a true ∷ [])) ∷ path_of f (decided_on old ++ (Atom a false ∷ [])) ∷ others_of f old → ArePaths targets f set (stack_of f old) → ArePaths targets f set (stack_of f new)
+paths_split targets f set old new a o m s h =
+    let g = paths_open targets f set old o h in
+    rw s (way_more targets f set (decided_on old) (Atom a true) g.0 m, (way_more targets f set (decided_on old) (Atom a false) g.0 m, g.1))
 
-pub paths_bound : (f : Formula) (set : ℕ → Bool) (old new : Walk) (k : Kept) → old.is_open ≡ true → IsBound f set (path_of f (decided_on old)) k → stack_of f new ≡ path_of f (decided_on old ++ (AtMost k.gap.variable k.gap.below true ∷ [])) ∷ path_of f (decided_on old ++ (AtMost k.gap.variable k.gap.below false ∷ [])) ∷ others_of f old → ArePaths f set (stack_of f old) → ArePaths f set (stack_of f new)
-paths_bound f set old new k o m s h =
-    let g = paths_open f set old o h in
-    rw s (way_more f set (decided_on old) (AtMost k.gap.variable k.gap.below true) g.0 gap, (way_more f set (decided_on old) (AtMost k.gap.variable k.gap.below false) g.0 gap, g.1))
+pub paths_bound : (targets : ℕ → ℤ) (f : Formula) (set : ℕ → Bool) (old new : Walk) (k : Kept) → old.is_open ≡ true → IsBound targets f set (path_of f (decided_on old)) k → stack_of f new ≡ path_of f (decided_on old ++ (AtMost k.gap.variable k.gap.below true ∷ [])) ∷ path_of f (decided_on old ++ (AtMost k.gap.variable k.gap.below false ∷ [])) ∷ others_of f old → ArePaths targets f set (stack_of f old) → ArePaths targets f set (stack_of f new)
+paths_bound targets f set old new k o m s h =
+    let g = paths_open targets f set old o h in
+    rw s (way_more targets f set (decided_on old) (AtMost k.gap.variable k.gap.below true) g.0 gap, (way_more targets f set (decided_on old) (AtMost k.gap.variable k.gap.below false) g.0 gap, g.1))
   where
-    gap : HasGap f set (path_of f (decided_on old)) k.gap.variable k.gap.below
+    gap : HasGap targets f set (path_of f (decided_on old)) k.gap.variable k.gap.below
     gap = record { kept = k; bound = m; variable = refl; below = refl }

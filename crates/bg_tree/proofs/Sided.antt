@@ -102,8 +102,8 @@ none_below order v x k (Some r) w h =
     let q = (and_parts (none_before order x r) (int_lt (coefficient x r.entries) (pos 0)) p.0).1 in
     not_below (coefficient x r.entries) (pos_coefficient x r.entries (w r refl)) q
 
-pub up_no_gap : (given : List RowOf) (k : Kept) → AreUp given → KeepsGap given k → ⊥
-up_no_gap given k u g =
+pub up_no_gap : (targets : ℕ → ℤ) (given : List RowOf) (k : Kept) → AreUp given → KeepsGap targets given k → ⊥
+up_no_gap targets given k u g =
     let rows = map row_of k.order.rows.items in
     let all = made_up given k.order.variables.items [] k.order.reasons.items rows u tt g.solved.made in
     none_below k.order.variables.items (value_of k.spots.items) k.gap.variable k.gap.below (row_at rows k.gap.low) (λ r e. up_at rows k.gap.low r all e) g.gap.above

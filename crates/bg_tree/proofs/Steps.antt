@@ -97,15 +97,15 @@ kept_after f set old new c o s p k q l =
 plus_none : (n : ℕ) → n ≡ n + 0
 plus_none n = omega arith
 
-leaf_tree : (f : Formula) (set : ℕ → Bool) (n : ℕ) (seen : Bool) (trail : List Decision) (ps : List PathOf) (node : Node) (rest : List Part) → closes f set (path_of f trail) (node_of node) ≡ true → AreTrees f set n seen ps rest → AreTrees f set n seen (path_of f trail ∷ ps) (Plain node ∷ rest)
-leaf_tree f set n seen trail ps (Clause c) rest h t = (h, t)
-leaf_tree f set n seen trail ps (UnitNode c) rest h t = (h, t)
-leaf_tree f set n seen trail ps (Rows ss) rest h t = (h, t)
-leaf_tree f set n seen trail ps (Split a) rest h t = absurd (cc)
-leaf_tree f set n seen trail ps (BoundNode x k) rest h t = absurd (cc)
-leaf_tree f set n seen trail ps (Cut r) rest h t = absurd (cc)
-leaf_tree f set n seen trail ps (Lemma ls) rest h t = absurd (cc)
-leaf_tree f set n seen trail ps (Known i) rest h t = (h, t)
+leaf_tree : (targets : ℕ → ℤ) (f : Formula) (set : ℕ → Bool) (n : ℕ) (seen : Bool) (trail : List Decision) (ps : List PathOf) (node : Node) (rest : List Part) → closes f set (path_of f trail) (node_of node) ≡ true → AreTrees targets f set n seen ps rest → AreTrees targets f set n seen (path_of f trail ∷ ps) (Plain node ∷ rest)
+leaf_tree targets f set n seen trail ps (Clause c) rest h t = (h, t)
+leaf_tree targets f set n seen trail ps (UnitNode c) rest h t = (h, t)
+leaf_tree targets f set n seen trail ps (Rows ss) rest h t = (h, t)
+leaf_tree targets f set n seen trail ps (Split a) rest h t = absurd (cc)
+leaf_tree targets f set n seen trail ps (BoundNode x k) rest h t = absurd (cc)
+leaf_tree targets f set n seen trail ps (Cut r) rest h t = absurd (cc)
+leaf_tree targets f set n seen trail ps (Lemma ls) rest h t = absurd (cc)
+leaf_tree targets f set n seen trail ps (Known i) rest h t = (h, t)
 
 leaf_accepts : (f : Formula) (set : ℕ → Bool) (trail : List Decision) (ps : List PathOf) (node : Node) (rest : List NodeOf) → closes f set (path_of f trail) (node_of node) ≡ true → accepts f set no_instance (path_of f trail ∷ ps) (node_of node ∷ rest) ≡ accepts f set no_instance ps rest
 leaf_accepts f set trail ps (Clause c) rest h = rw h refl
@@ -137,39 +137,39 @@ leaf_counts f set p ps qs old new (Cut r) rest h v e = absurd (cc)
 leaf_counts f set p ps qs old new (Lemma ls) rest h v e = absurd (cc)
 leaf_counts f set p ps qs old new (Known i) rest h v e = rw e (omega (arith, v))
 
-pub leaf_moves : (f : Formula) (set : ℕ → Bool) (old new : Search) (node : Node) → IsWalk new.walk → atoms_on new.walk ≡ atoms_on old.walk → old.walk.is_open ≡ true → closes f set (path_of f (decided_on old.walk)) (node_of node) ≡ true → new.parts.items ≡ old.parts.items ++ (Plain node ∷ []) → stack_of f new.walk ≡ others_of f old.walk → new.inner ≡ old.inner → new.seen ≡ old.seen → paths_open new.walk < paths_open old.walk → KeepsCount f set old → (old.seen ≡ true → old.book.head ≡ Due) → Passes old.book true new.book → Moves f set old new
-leaf_moves f set old new node w z o h p s l e r k d q =
+pub leaf_moves : (targets : ℕ → ℤ) (f : Formula) (set : ℕ → Bool) (old new : Search) (node : Node) → IsWalk new.walk → atoms_on new.walk ≡ atoms_on old.walk → old.walk.is_open ≡ true → closes f set (path_of f (decided_on old.walk)) (node_of node) ≡ true → new.parts.items ≡ old.parts.items ++ (Plain node ∷ []) → stack_of f new.walk ≡ others_of f old.walk → new.inner ≡ old.inner → new.seen ≡ old.seen → paths_open new.walk < paths_open old.walk → KeepsCount f set old → (old.seen ≡ true → old.book.head ≡ Due) → Passes old.book true new.book → Moves targets f set old new
+leaf_moves targets f set old new node w z o h p s l e r k d q =
     record {
       walks = w;
       sized = z;
       part = Plain node;
       made = p;
-      tells = λ n rest. rw (o, e, s, leaf_inner f set (path_of f (decided_on old.walk)) node h) (λ t. leaf_tree f set (n + 0) old.seen (decided_on old.walk) (others_of f old.walk) node rest h (subst (λ (m : ℕ). AreTrees f set m old.seen (others_of f old.walk) rest) (plus_none n) t));
+      tells = λ n rest. rw (o, e, s, leaf_inner f set (path_of f (decided_on old.walk)) node h) (λ t. leaf_tree targets f set (n + 0) old.seen (decided_on old.walk) (others_of f old.walk) node rest h (subst (λ (m : ℕ). AreTrees targets f set m old.seen (others_of f old.walk) rest) (plus_none n) t));
       inner = rw (leaf_inner f set (path_of f (decided_on old.walk)) node h) (omega (arith, l));
       counts = λ rest. rw (o, s) (leaf_counts f set (path_of f (decided_on old.walk)) (others_of f old.walk) (others_of f old.walk) old.book new.book node rest h q.counts (q.stack f set (others_of f old.walk) (open_book f set old k o).1.0).1);
       whole = λ g. (sym e ∙ g, λ rest. rw (o, s) (leaf_accepts f set (decided_on old.walk) (others_of f old.walk) node rest h));
-      paths = paths_closed f set old.walk new.walk o s;
+      paths = paths_closed targets f set old.walk new.walk o s;
       smaller = omega (arith, l, r);
       kept = kept_after f set old new true o s q k (λ g. same_spent old new (q.same (inl (d (sym e ∙ g)))) l (k.spent (sym e ∙ g))) (λ g. inl (head_late f set old k o (sym e ∙ g)));
     }
 
 -- ---- an open leaf
 
-open_tree : (f : Formula) (set : ℕ → Bool) (n : ℕ) (seen : Bool) (trail : List Decision) (ps : List PathOf) (rest : List Part) → any_false trail (f.clauses ++ units_of f set) ≡ false → AreTrees f set n true ps rest → AreTrees f set n seen (path_of f trail ∷ ps) (Open ∷ rest)
-open_tree f set n seen trail ps rest h t = (h, t)
+open_tree : (targets : ℕ → ℤ) (f : Formula) (set : ℕ → Bool) (n : ℕ) (seen : Bool) (trail : List Decision) (ps : List PathOf) (rest : List Part) → any_false trail (f.clauses ++ units_of f set) ≡ false → AreTrees targets f set n true ps rest → AreTrees targets f set n seen (path_of f trail ∷ ps) (Open ∷ rest)
+open_tree targets f set n seen trail ps rest h t = (h, t)
 
-pub open_moves : (f : Formula) (set : ℕ → Bool) (old new : Search) → IsWalk new.walk → atoms_on new.walk ≡ atoms_on old.walk → old.walk.is_open ≡ true → any_false (decided_on old.walk) (f.clauses ++ units_of f set) ≡ false → new.parts.items ≡ old.parts.items ++ (Open ∷ []) → stack_of f new.walk ≡ others_of f old.walk → new.inner ≡ old.inner → new.seen ≡ true → IsSpent old → paths_open new.walk < paths_open old.walk → KeepsCount f set old → Passes old.book false new.book → Moves f set old new
-open_moves f set old new w q o h p s l e z r k b =
+pub open_moves : (targets : ℕ → ℤ) (f : Formula) (set : ℕ → Bool) (old new : Search) → IsWalk new.walk → atoms_on new.walk ≡ atoms_on old.walk → old.walk.is_open ≡ true → any_false (decided_on old.walk) (f.clauses ++ units_of f set) ≡ false → new.parts.items ≡ old.parts.items ++ (Open ∷ []) → stack_of f new.walk ≡ others_of f old.walk → new.inner ≡ old.inner → new.seen ≡ true → IsSpent old → paths_open new.walk < paths_open old.walk → KeepsCount f set old → Passes old.book false new.book → Moves targets f set old new
+open_moves targets f set old new w q o h p s l e z r k b =
     record {
       walks = w;
       sized = q;
       part = Open;
       made = p;
-      tells = λ n rest. rw (o, e, s) (λ t. open_tree f set (n + 0) old.seen (decided_on old.walk) (others_of f old.walk) rest h (subst (λ (m : ℕ). AreTrees f set m true (others_of f old.walk) rest) (plus_none n) t));
+      tells = λ n rest. rw (o, e, s) (λ t. open_tree targets f set (n + 0) old.seen (decided_on old.walk) (others_of f old.walk) rest h (subst (λ (m : ℕ). AreTrees targets f set m true (others_of f old.walk) rest) (plus_none n) t));
       inner = omega (arith, l);
       counts = λ rest. rw (o, s) (let v = b.counts in rw (b.stack f set (others_of f old.walk) (open_book f set old k o).1.0).1 (omega (arith, v)));
       whole = λ g. absurd (let y = sym e ∙ g in cc);
-      paths = paths_closed f set old.walk new.walk o s;
+      paths = paths_closed targets f set old.walk new.walk o s;
       smaller = omega (arith, l, r);
       kept = kept_after f set old new false o s b k (λ g. same_spent old new (b.same (inr refl)) l z) (λ g. inr refl);
     }
@@ -182,8 +182,8 @@ one_off n = omega arith
 some_more : (n : ℕ) → 0 < n + 1
 some_more n = omega arith
 
-split_tree : (f : Formula) (set : ℕ → Bool) (n : ℕ) (seen : Bool) (trail : List Decision) (ps : List PathOf) (a : ℕ) (rest : List Part) → MaySplit f set trail a → AreTrees f set n seen (path_of f (trail ++ (Atom a true ∷ [])) ∷ path_of f (trail ++ (Atom a false ∷ [])) ∷ ps) rest → AreTrees f set (n + 1) seen (path_of f trail ∷ ps) (Plain (Split a) ∷ rest)
-split_tree f set n seen trail ps a rest m t = (record { fine = m.fine; rule = m.rule }, some_more n, subst (λ (k : ℕ). AreTrees f set k seen (path_of f (trail ++ (Atom a true ∷ [])) ∷ path_of f (trail ++ (Atom a false ∷ [])) ∷ ps) rest) (one_off n) t)
+split_tree : (targets : ℕ → ℤ) (f : Formula) (set : ℕ → Bool) (n : ℕ) (seen : Bool) (trail : List Decision) (ps : List PathOf) (a : ℕ) (rest : List Part) → MaySplit f set trail a → AreTrees targets f set n seen (path_of f (trail ++ (Atom a true ∷ [])) ∷ path_of f (trail ++ (Atom a false ∷ [])) ∷ ps) rest → AreTrees targets f set (n + 1) seen (path_of f trail ∷ ps) (Plain (Split a) ∷ rest)
+split_tree targets f set n seen trail ps a rest m t = (record { fine = m.fine; rule = m.rule }, some_more n, subst (λ (k : ℕ). AreTrees targets f set k seen (path_of f (trail ++ (Atom a true ∷ [])) ∷ path_of f (trail ++ (Atom a false ∷ [])) ∷ ps) rest) (one_off n) t)
 
 there : (xs : List AtomOf) (a : ℕ) → a < length xs → is_there (at xs a) ≡ true
 there [] a h = absurd (omega arith)
@@ -212,26 +212,26 @@ kept_split f set old new p q b o s h k l i e w g r u =
 more_inner : (n m : ℕ) → m ≡ n - 1 → 0 < n → m + 1 ≡ n
 more_inner n m e l = omega (arith, e, l)
 
-pub split_moves : (f : Formula) (set : ℕ → Bool) (old new : Search) (a : ℕ) → IsWalk new.walk → atoms_on new.walk ≡ atoms_on old.walk → old.walk.is_open ≡ true → MaySplit f set (decided_on old.walk) a → new.parts.items ≡ old.parts.items ++ (Plain (Split a) ∷ []) → stack_of f new.walk ≡ path_of f (decided_on old.walk ++ (Atom a true ∷ [])) ∷ path_of f (decided_on old.walk ++ (Atom a false ∷ [])) ∷ others_of f old.walk → new.inner ≡ old.inner - 1 → 0 < old.inner → new.seen ≡ old.seen → paths_open new.walk ≡ paths_open old.walk + 1 → (t : Bool) → KeepsCount f set old → 0 < old.book.left → new.book.owed.items ≡ old.book.owed.items ++ (t ∷ []) → new.book.head ≡ First → new.book.left + one t ≡ old.book.left → IsOwed f set (path_of f (decided_on old.walk ++ (Atom a false ∷ []))) t → Moves f set old new
-split_moves f set old new a w z o m p s l b e r t k j x y v u =
+pub split_moves : (targets : ℕ → ℤ) (f : Formula) (set : ℕ → Bool) (old new : Search) (a : ℕ) → IsWalk new.walk → atoms_on new.walk ≡ atoms_on old.walk → old.walk.is_open ≡ true → MaySplit f set (decided_on old.walk) a → new.parts.items ≡ old.parts.items ++ (Plain (Split a) ∷ []) → stack_of f new.walk ≡ path_of f (decided_on old.walk ++ (Atom a true ∷ [])) ∷ path_of f (decided_on old.walk ++ (Atom a false ∷ [])) ∷ others_of f old.walk → new.inner ≡ old.inner - 1 → 0 < old.inner → new.seen ≡ old.seen → paths_open new.walk ≡ paths_open old.walk + 1 → (t : Bool) → KeepsCount f set old → 0 < old.book.left → new.book.owed.items ≡ old.book.owed.items ++ (t ∷ []) → new.book.head ≡ First → new.book.left + one t ≡ old.book.left → IsOwed f set (path_of f (decided_on old.walk ++ (Atom a false ∷ []))) t → Moves targets f set old new
+split_moves targets f set old new a w z o m p s l b e r t k j x y v u =
     record {
       walks = w;
       sized = z;
       part = Plain (Split a);
       made = p;
-      tells = λ n rest. rw (o, e, s) (split_tree f set n old.seen (decided_on old.walk) (others_of f old.walk) a rest m);
+      tells = λ n rest. rw (o, e, s) (split_tree targets f set n old.seen (decided_on old.walk) (others_of f old.walk) a rest m);
       inner = more_inner old.inner new.inner l b;
       counts = λ rest. rw (o, s, x, y, waits_snoc old.book.owed.items t) (let c = owes_value old.book new.book t x y v (fine_not_due f set old k o m.fine) in let d = rw (x, y) at c in omega (arith, c, d));
       whole = λ g. (sym e ∙ g, λ rest. rw (o, s) (split_accepts f set (decided_on old.walk) (others_of f old.walk) a rest (below_by (length f.atoms) a (decided_on old.walk) (f.clauses ++ units_of f set) m.rule)));
-      paths = paths_split f set old.walk new.walk a o (record { fine = m.fine; rule = m.rule }) s;
+      paths = paths_split targets f set old.walk new.walk a o (record { fine = m.fine; rule = m.rule }) s;
       smaller = omega (arith, l, b, r);
       kept = kept_split f set old new (path_of f (decided_on old.walk ++ (Atom a true ∷ []))) (path_of f (decided_on old.walk ++ (Atom a false ∷ []))) t o s m.fine k j b e x y v u;
     }
 
 -- ---- a bound
 
-bound_tree : (f : Formula) (set : ℕ → Bool) (n : ℕ) (seen : Bool) (trail : List Decision) (ps : List PathOf) (k : Kept) (rest : List Part) → IsBound f set (path_of f trail) k → AreTrees f set n seen (path_of f (trail ++ (AtMost k.gap.variable k.gap.below true ∷ [])) ∷ path_of f (trail ++ (AtMost k.gap.variable k.gap.below false ∷ [])) ∷ ps) rest → AreTrees f set (n + 1) seen (path_of f trail ∷ ps) (Bound k ∷ rest)
-bound_tree f set n seen trail ps k rest m t = (m, some_more n, subst (λ (j : ℕ). AreTrees f set j seen (path_of f (trail ++ (AtMost k.gap.variable k.gap.below true ∷ [])) ∷ path_of f (trail ++ (AtMost k.gap.variable k.gap.below false ∷ [])) ∷ ps) rest) (one_off n) t)
+bound_tree : (targets : ℕ → ℤ) (f : Formula) (set : ℕ → Bool) (n : ℕ) (seen : Bool) (trail : List Decision) (ps : List PathOf) (k : Kept) (rest : List Part) → IsBound targets f set (path_of f trail) k → AreTrees targets f set n seen (path_of f (trail ++ (AtMost k.gap.variable k.gap.below true ∷ [])) ∷ path_of f (trail ++ (AtMost k.gap.variable k.gap.below false ∷ [])) ∷ ps) rest → AreTrees targets f set (n + 1) seen (path_of f trail ∷ ps) (Bound k ∷ rest)
+bound_tree targets f set n seen trail ps k rest m t = (m, some_more n, subst (λ (j : ℕ). AreTrees targets f set j seen (path_of f (trail ++ (AtMost k.gap.variable k.gap.below true ∷ [])) ∷ path_of f (trail ++ (AtMost k.gap.variable k.gap.below false ∷ [])) ∷ ps) rest) (one_off n) t)
 
 low_test : (x n : ℕ) → x < n → nat_lt x n ≡ true
 low_test x n l = grind (arith, nat_tests)
@@ -239,18 +239,18 @@ low_test x n l = grind (arith, nat_tests)
 bound_accepts : (f : Formula) (set : ℕ → Bool) (trail : List Decision) (ps : List PathOf) (x : ℕ) (k : ℤ) (rest : List NodeOf) → x < f.terms → accepts f set no_instance (path_of f trail ∷ ps) (Bounds x k ∷ rest) ≡ accepts f set no_instance (path_of f (trail ++ (AtMost x k true ∷ [])) ∷ path_of f (trail ++ (AtMost x k false ∷ [])) ∷ ps) rest
 bound_accepts f set trail ps x k rest h = rw (low_test x f.terms h) refl
 
-pub bound_moves : (f : Formula) (set : ℕ → Bool) (old new : Search) (k : Kept) → IsWalk new.walk → atoms_on new.walk ≡ atoms_on old.walk → old.walk.is_open ≡ true → IsBound f set (path_of f (decided_on old.walk)) k → new.parts.items ≡ old.parts.items ++ (Bound k ∷ []) → stack_of f new.walk ≡ path_of f (decided_on old.walk ++ (AtMost k.gap.variable k.gap.below true ∷ [])) ∷ path_of f (decided_on old.walk ++ (AtMost k.gap.variable k.gap.below false ∷ [])) ∷ others_of f old.walk → new.inner ≡ old.inner - 1 → 0 < old.inner → new.seen ≡ old.seen → paths_open new.walk ≡ paths_open old.walk + 1 → KeepsCount f set old → 0 < old.book.left → new.book.owed.items ≡ old.book.owed.items ++ (true ∷ []) → new.book.head ≡ First → new.book.left + one true ≡ old.book.left → Moves f set old new
-bound_moves f set old new k w z o m p s l b e r c j x y v =
+pub bound_moves : (targets : ℕ → ℤ) (f : Formula) (set : ℕ → Bool) (old new : Search) (k : Kept) → IsWalk new.walk → atoms_on new.walk ≡ atoms_on old.walk → old.walk.is_open ≡ true → IsBound targets f set (path_of f (decided_on old.walk)) k → new.parts.items ≡ old.parts.items ++ (Bound k ∷ []) → stack_of f new.walk ≡ path_of f (decided_on old.walk ++ (AtMost k.gap.variable k.gap.below true ∷ [])) ∷ path_of f (decided_on old.walk ++ (AtMost k.gap.variable k.gap.below false ∷ [])) ∷ others_of f old.walk → new.inner ≡ old.inner - 1 → 0 < old.inner → new.seen ≡ old.seen → paths_open new.walk ≡ paths_open old.walk + 1 → KeepsCount f set old → 0 < old.book.left → new.book.owed.items ≡ old.book.owed.items ++ (true ∷ []) → new.book.head ≡ First → new.book.left + one true ≡ old.book.left → Moves targets f set old new
+bound_moves targets f set old new k w z o m p s l b e r c j x y v =
     record {
       walks = w;
       sized = z;
       part = Bound k;
       made = p;
-      tells = λ n rest. rw (o, e, s) (bound_tree f set n old.seen (decided_on old.walk) (others_of f old.walk) k rest m);
+      tells = λ n rest. rw (o, e, s) (bound_tree targets f set n old.seen (decided_on old.walk) (others_of f old.walk) k rest m);
       inner = more_inner old.inner new.inner l b;
       counts = λ rest. rw (o, s, x, y, waits_snoc old.book.owed.items true) (let q = owes_value old.book new.book true x y v (fine_not_due f set old c o m.fine) in let d = rw (x, y) at q in omega (arith, q, d));
       whole = λ g. (sym e ∙ g, λ rest. rw (o, s) (bound_accepts f set (decided_on old.walk) (others_of f old.walk) k.gap.variable k.gap.below rest m.there));
-      paths = paths_bound f set old.walk new.walk k o m s;
+      paths = paths_bound targets f set old.walk new.walk k o m s;
       smaller = omega (arith, l, b, r);
       kept = kept_split f set old new (path_of f (decided_on old.walk ++ (AtMost k.gap.variable k.gap.below true ∷ []))) (path_of f (decided_on old.walk ++ (AtMost k.gap.variable k.gap.below false ∷ []))) true o s m.fine c j b e x y v (bound_fine f set (decided_on old.walk) k.gap.variable k.gap.below false m.fine);
     }
@@ -269,8 +269,8 @@ same_kept f set old new s k =
       late = λ e. rw (same_stack f old new s, s.book) (k.late (sym s.seen ∙ e));
     }
 
-pub same_moves : (f : Formula) (set : ℕ → Bool) (old mid new : Search) → IsSame old mid → Moves f set mid new → Moves f set old new
-same_moves f set old mid new s m =
+pub same_moves : (targets : ℕ → ℤ) (f : Formula) (set : ℕ → Bool) (old mid new : Search) → IsSame old mid → Moves targets f set mid new → Moves targets f set old new
+same_moves targets f set old mid new s m =
     record {
       walks = m.walks;
       sized = m.sized ∙ s.sized;

@@ -160,8 +160,8 @@ kept_mentions order v x k (Some r) w h =
     let u = rw z at q in
     cc
 
-pub gap_is_there : (n : ℕ) (path : List Row) (order : List ℕ) (reasons : List Reason) (rows : List RowOf) (spots : List Spot) (x : ℕ) (k : ℤ) (low up : ℕ) → AllBelow n (map row_of path) → made_rows (map row_of path) order [] reasons ≡ Some rows → IsGap order rows spots x k low up → x < n
-gap_is_there n path order reasons rows spots x k low up b m g = by_test (nat_lt x n) refl
+pub gap_is_there : (targets : ℕ → ℤ) (n : ℕ) (path : List Row) (order : List ℕ) (reasons : List Reason) (rows : List RowOf) (spots : List Spot) (x : ℕ) (k : ℤ) (low up : ℕ) → AllBelow n (map row_of path) → made_rows (map row_of path) order [] reasons ≡ Some rows → IsGap targets order rows spots x k low up → x < n
+gap_is_there targets n path order reasons rows spots x k low up b m g = by_test (nat_lt x n) refl
   where
     by_test : (t : Bool) → nat_lt x n ≡ t → x < n
     by_test true e = grind (arith, nat_tests)

@@ -1,5 +1,5 @@
 -- What the search has told when it ends.
-use Rattle.std.proofs.Common.{◌≡◌, ℕ, ◌+◌, ◌-◌, ◌*◌, ◌^◌, ◌<◌, ◌≤◌, ◌⊎◌, inl, inr, Bool, true, false, List, [], ◌∷◌, ◌++◌, map, refl, sym, ap, ◌∙◌, subst, append-nil, append_assoc, arith}
+use Rattle.std.proofs.Common.{◌≡◌, ℕ, ◌+◌, ◌-◌, ◌*◌, ◌^◌, ◌<◌, ◌≤◌, ◌⊎◌, inl, inr, Bool, true, false, List, [], ◌∷◌, ◌++◌, ℤ, map, refl, sym, ap, ◌∙◌, subst, append-nil, append_assoc, arith}
 use Rattle.std.specs.Prelude.{Option, Some, None}
 use Rattle.bg_formula.specs.Formulas.{Formula}
 use Rattle.bg_cert.specs.declared.cert.Node.{Node}
@@ -16,25 +16,25 @@ use Rattle.bg_tree.specs.Counts.{Alone, counted, IsUsedUp}
 use Rattle.bg_tree.specs.Books.{besides, value, IsBook}
 use Rattle.bg_tree.specs.Trees.{AreTrees, nodes_of, inner_of, KeepsCount, Moves, Steps}
 
-pub moved : (f : Formula) (set : ℕ → Bool) (rows : ℕ) (old new : Search) (halt : Option Halt) → halt ≡ None → Steps f set rows old new halt → Moves f set old new
-moved f set rows old new (Some h) e s = absurd (cc)
-moved f set rows old new None e s = s
+pub moved : (targets : ℕ → ℤ) (f : Formula) (set : ℕ → Bool) (rows : ℕ) (old new : Search) (halt : Option Halt) → halt ≡ None → Steps targets f set rows old new halt → Moves targets f set old new
+moved targets f set rows old new (Some h) e s = absurd (cc)
+moved targets f set rows old new None e s = s
 
 -- ---- the unfinished tree
 
-abbrev pub Told : Formula → (ℕ → Bool) → ℕ → Search → Type 0
-Told f set most s =
-    (n m : ℕ) (rest : List Part) → AreTrees f set n s.seen (stack_of f s.walk) rest → m + s.inner ≡ n + most → AreTrees f set m false (root f ∷ []) (s.parts.items ++ rest)
+abbrev pub Told : (ℕ → ℤ) → Formula → (ℕ → Bool) → ℕ → Search → Type 0
+Told targets f set most s =
+    (n m : ℕ) (rest : List Part) → AreTrees targets f set n s.seen (stack_of f s.walk) rest → m + s.inner ≡ n + most → AreTrees targets f set m false (root f ∷ []) (s.parts.items ++ rest)
 
-pub told_first : (f : Formula) (set : ℕ → Bool) (most : ℕ) (s : Search) → s.parts.items ≡ [] → stack_of f s.walk ≡ root f ∷ [] → s.seen ≡ false → s.inner ≡ most → Told f set most s
-told_first f set most s p t e i n m rest h q =
+pub told_first : (targets : ℕ → ℤ) (f : Formula) (set : ℕ → Bool) (most : ℕ) (s : Search) → s.parts.items ≡ [] → stack_of f s.walk ≡ root f ∷ [] → s.seen ≡ false → s.inner ≡ most → Told targets f set most s
+told_first targets f set most s p t e i n m rest h q =
     let k : n ≡ m = omega (arith, i, q) in
-    rw p (subst (λ (j : ℕ). AreTrees f set j false (root f ∷ []) rest) k (rw (e, t) at h))
+    rw p (subst (λ (j : ℕ). AreTrees targets f set j false (root f ∷ []) rest) k (rw (e, t) at h))
 
-pub told_more : (f : Formula) (set : ℕ → Bool) (most : ℕ) (old new : Search) → Moves f set old new → Told f set most old → Told f set most new
-told_more f set most old new v t n m rest h q =
+pub told_more : (targets : ℕ → ℤ) (f : Formula) (set : ℕ → Bool) (most : ℕ) (old new : Search) → Moves targets f set old new → Told targets f set most old → Told targets f set most new
+told_more targets f set most old new v t n m rest h q =
     let e : new.parts.items ++ rest ≡ old.parts.items ++ (v.part ∷ rest) = ap (λ ps. ps ++ rest) v.made ∙ append_assoc old.parts.items (v.part ∷ []) rest in
-    subst (λ (ps : List Part). AreTrees f set m false (root f ∷ []) ps) (sym e) (t (n + inner_of v.part) m (v.part ∷ rest) (v.tells n rest h) (let i = v.inner in omega (arith, i, q)))
+    subst (λ (ps : List Part). AreTrees targets f set m false (root f ∷ []) ps) (sym e) (t (n + inner_of v.part) m (v.part ∷ rest) (v.tells n rest h) (let i = v.inner in omega (arith, i, q)))
 
 -- ---- the nodes that count
 
@@ -42,8 +42,8 @@ abbrev pub Tallied : Formula → (ℕ → Bool) → ℕ → Search → Type 0
 Tallied f set budget s =
     (rest : List Part) → counted (Alone ∷ []) (s.parts.items ++ rest) + value s.book ≡ counted (besides (stack_of f s.walk) s.book) rest + budget
 
-pub tallied_more : (f : Formula) (set : ℕ → Bool) (budget : ℕ) (old new : Search) → Moves f set old new → Tallied f set budget old → Tallied f set budget new
-tallied_more f set budget old new m t rest =
+pub tallied_more : (targets : ℕ → ℤ) (f : Formula) (set : ℕ → Bool) (budget : ℕ) (old new : Search) → Moves targets f set old new → Tallied f set budget old → Tallied f set budget new
+tallied_more targets f set budget old new m t rest =
     let e : new.parts.items ++ rest ≡ old.parts.items ++ (m.part ∷ rest) = ap (λ ps. ps ++ rest) m.made ∙ append_assoc old.parts.items (m.part ∷ []) rest in
     let x = t (m.part ∷ rest) in
     let y = m.counts rest in
@@ -79,11 +79,11 @@ used_up : (budget inner c left : ℕ) → c + left ≡ budget → inner ≤ 20 *
 used_up budget inner c left e l (inl z) = inl (omega (arith, e, z), omega (arith, l))
 used_up budget inner c left e l (inr z) = inr (omega (arith, l, z), omega (arith, e))
 
-pub told_all : (f : Formula) (set : ℕ → Bool) (budget : ℕ) (s : Search) → Told f set (20 * budget) s → Tallied f set budget s → KeepsCount f set s → s.inner ≤ 20 * budget → s.walk.is_open ≡ false → s.seen ≡ true → (n : ℕ) × (AreTrees f set n false (root f ∷ []) s.parts.items × IsUsedUp budget n (counted (Alone ∷ []) s.parts.items))
-told_all f set budget s t c k l o e = (
+pub told_all : (targets : ℕ → ℤ) (f : Formula) (set : ℕ → Bool) (budget : ℕ) (s : Search) → Told targets f set (20 * budget) s → Tallied f set budget s → KeepsCount f set s → s.inner ≤ 20 * budget → s.walk.is_open ≡ false → s.seen ≡ true → (n : ℕ) × (AreTrees targets f set n false (root f ∷ []) s.parts.items × IsUsedUp budget n (counted (Alone ∷ []) s.parts.items))
+told_all targets f set budget s t c k l o e = (
   20 * budget - s.inner,
   (
-    subst (λ (ps : List Part). AreTrees f set (20 * budget - s.inner) false (root f ∷ []) ps) (append-nil s.parts.items) (t 0 (20 * budget - s.inner) [] (rw (o, e) (refl, refl)) (omega (arith, l))),
+    subst (λ (ps : List Part). AreTrees targets f set (20 * budget - s.inner) false (root f ∷ []) ps) (append-nil s.parts.items) (t 0 (20 * budget - s.inner) [] (rw (o, e) (refl, refl)) (omega (arith, l))),
     used_up budget s.inner (counted (Alone ∷ []) s.parts.items) s.book.left whole l (k.spent e),
   ),
 )
@@ -117,8 +117,8 @@ abbrev pub Whole : Formula → (ℕ → Bool) → Search → Type 0
 Whole f set s =
     s.seen ≡ false → (rest : List NodeOf) → accepts f set no_instance (root f ∷ []) (nodes_of s.parts.items ++ rest) ≡ accepts f set no_instance (stack_of f s.walk) rest
 
-pub whole_more : (f : Formula) (set : ℕ → Bool) (old new : Search) → Moves f set old new → Whole f set old → Whole f set new
-whole_more f set old new m w g rest =
+pub whole_more : (targets : ℕ → ℤ) (f : Formula) (set : ℕ → Bool) (old new : Search) → Moves targets f set old new → Whole f set old → Whole f set new
+whole_more targets f set old new m w g rest =
     let n = m.whole g in
     let e : nodes_of new.parts.items ≡ nodes_of old.parts.items ++ nodes_of (m.part ∷ []) = ap nodes_of m.made ∙ nodes_append old.parts.items (m.part ∷ []) in
     ap (λ ns. accepts f set no_instance (root f ∷ []) (ns ++ rest)) e

@@ -1,5 +1,5 @@
 -- What the rows of a path tell that decides every atom.
-use Rattle.std.specs.Prelude.{◌≡◌, ℕ, ◌<◌, Bool, true, false, List, [], map, Some, Vec}
+use Rattle.std.specs.Prelude.{◌≡◌, ℕ, ℤ, ◌<◌, Bool, true, false, List, [], map, Some, Vec}
 use Rattle.std.specs.declared.alloc.Global.{Global}
 use Rattle.bg_rows.specs.Rows.{RowOf, row_of}
 use Rattle.bg_rows.specs.Steps.{derives}
@@ -28,32 +28,32 @@ pub use Rattle.bg_tree.specs.Gaps.{KeepsGap}
 use Rattle.bg_tree.specs.Ways.{IsWay}
 
 -- an operation of a further elimination, or of the next near value, leaves the range
-abbrev pub IsBeyond : List RowOf → Beyond → Type 0
-IsBeyond given (Elimination o f) =
+abbrev pub IsBeyond : (ℕ → ℤ) → List RowOf → Beyond → Type 0
+IsBeyond targets given (Elimination o f) =
     LeavesRange given o.variables.items o.reasons.items f.first f.second f.variable f.operation
-IsBeyond given (Value o spots far) =
-    SolvedBy given o × IsFar o.variables.items (map row_of o.rows.items) spots.items far.variable far.row far.operation
+IsBeyond targets given (Value o spots far) =
+    SolvedBy given o × IsFar targets o.variables.items (map row_of o.rows.items) spots.items far.variable far.row far.operation
 
 -- a near point, the budget's number of different rows, or an operation that leaves the range
-abbrev pub IsHalt : List RowOf → ℕ → Halt → Type 0
-IsHalt given budget (Point o spots) = SolvedBy given o × IsPoint o.variables.items (map row_of o.rows.items) spots.items
-IsHalt given budget (Rows o) = FillBudget given budget o.variables.items o.reasons.items
-IsHalt given budget (Range beyond) = IsBeyond given beyond
+abbrev pub IsHalt : (ℕ → ℤ) → List RowOf → ℕ → Halt → Type 0
+IsHalt targets given budget (Point o spots) = SolvedBy given o × IsPoint targets o.variables.items (map row_of o.rows.items) spots.items
+IsHalt targets given budget (Rows o) = FillBudget given budget o.variables.items o.reasons.items
+IsHalt targets given budget (Range beyond) = IsBeyond targets given beyond
 
 -- a derivation of a false row, a gap at one of the first n terms, or an end
-abbrev pub IsEnd : List RowOf → ℕ → ℕ → End → Type 0
-IsEnd given n budget (Refuted steps) = derives given [] false steps.items ≡ true
-IsEnd given n budget (Split k) = KeepsGap given k × (k.gap.variable < n)
-IsEnd given n budget (Halted halt) = IsHalt given budget halt
+abbrev pub IsEnd : (ℕ → ℤ) → List RowOf → ℕ → ℕ → End → Type 0
+IsEnd targets given n budget (Refuted steps) = derives given [] false steps.items ≡ true
+IsEnd targets given n budget (Split k) = KeepsGap targets given k × (k.gap.variable < n)
+IsEnd targets given n budget (Halted halt) = IsHalt targets given budget halt
 
 -- the same where an order solves the rows
-abbrev pub IsPlacedEnd : List RowOf → End → Type 0
-IsPlacedEnd given (Refuted steps) = ⊥
-IsPlacedEnd given (Split k) = KeepsGap given k
-IsPlacedEnd given (Halted (Rows o)) = ⊥
-IsPlacedEnd given (Halted (Range (Elimination o f))) = ⊥
-IsPlacedEnd given (Halted (Point o spots)) = IsHalt given 0 (Point o spots)
-IsPlacedEnd given (Halted (Range (Value o spots far))) = IsBeyond given (Value o spots far)
+abbrev pub IsPlacedEnd : (ℕ → ℤ) → List RowOf → End → Type 0
+IsPlacedEnd targets given (Refuted steps) = ⊥
+IsPlacedEnd targets given (Split k) = KeepsGap targets given k
+IsPlacedEnd targets given (Halted (Rows o)) = ⊥
+IsPlacedEnd targets given (Halted (Range (Elimination o f))) = ⊥
+IsPlacedEnd targets given (Halted (Point o spots)) = IsHalt targets given 0 (Point o spots)
+IsPlacedEnd targets given (Halted (Range (Value o spots far))) = IsBeyond targets given (Value o spots far)
 
 -- where the search ends at a path
 abbrev pub outcome_of : Vec Decision Global → Halt → Outcome
@@ -62,12 +62,12 @@ outcome_of path (Rows order) = Unknown (ByRows path order)
 outcome_of path (Range beyond) = Unknown (ByRange path beyond)
 
 -- a complete leaf: a path that a search may go decides every atom, none both ways, nothing is false, and a near point meets the path's rows
-pub record IsLeaf (f : Formula) (set : ℕ → Bool) (l : Leaf) : Type 0 where
-  pub way : IsWay f set (root f) l.path.items
+pub record IsLeaf (targets : ℕ → ℤ) (f : Formula) (set : ℕ → Bool) (l : Leaf) : Type 0 where
+  pub way : IsWay targets f set (root f) l.path.items
   pub complete : IsComplete f set l.path.items
   pub once : IsOnce l.path.items
   pub solved : SolvedBy (rows_on f.atoms l.path.items) l.order
-  pub point : IsPoint l.order.variables.items (map row_of l.order.rows.items) l.spots.items
+  pub point : IsPoint targets l.order.variables.items (map row_of l.order.rows.items) l.spots.items
 
 -- a valuation agrees with the truth variables that a path decides
 abbrev pub TruthsAgree : Valuation → List AtomOf → List Decision → Type 0

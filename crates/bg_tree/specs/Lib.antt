@@ -1,3 +1,4 @@
+pub mod Targets
 pub mod Once
 pub mod Gaps
 pub mod Ways

@@ -1,5 +1,5 @@
 -- The trees that the search makes.
-use Rattle.std.specs.Prelude.{◌≡◌, ℕ, ◌+◌, ◌-◌, ◌*◌, ◌^◌, ◌<◌, ◌⊎◌, Bool, true, false, List, [], ◌∷◌, ◌++◌, map, reverse, Option, Some, None}
+use Rattle.std.specs.Prelude.{◌≡◌, ℕ, ℤ, ◌+◌, ◌-◌, ◌*◌, ◌^◌, ◌<◌, ◌⊎◌, Bool, true, false, List, [], ◌∷◌, ◌++◌, map, reverse, Option, Some, None}
 use Rattle.bg_formula.specs.Formulas.{Formula}
 use Rattle.bg_cert.specs.declared.cert.Node.TheVariants.{Split}
 use Rattle.bg_cert.specs.declared.cert.Decision.TheVariants.{Atom, AtMost}
@@ -28,18 +28,18 @@ use Rattle.bg_tree.specs.Counts.{Alone, counted, IsUsedUp}
 use Rattle.bg_tree.specs.Books.{besides, value, IsBook, IsLate}
 
 -- the parts are one tree for each path, with n inner nodes together, and an open leaf where none was `seen` before
-abbrev pub AreTrees : Formula → (ℕ → Bool) → ℕ → Bool → List PathOf → List Part → Type 0
-AreTrees f set n seen [] [] = (n ≡ 0) × (seen ≡ true)
-AreTrees f set n seen [] (part ∷ rest) = ⊥
-AreTrees f set n seen (p ∷ ps) [] = ⊥
-AreTrees f set n seen (p ∷ ps) (Open ∷ rest) = IsFine f set p × AreTrees f set n true ps rest
-AreTrees f set n seen (p ∷ ps) (Plain (Split a) ∷ rest) =
+abbrev pub AreTrees : (ℕ → ℤ) → Formula → (ℕ → Bool) → ℕ → Bool → List PathOf → List Part → Type 0
+AreTrees targets f set n seen [] [] = (n ≡ 0) × (seen ≡ true)
+AreTrees targets f set n seen [] (part ∷ rest) = ⊥
+AreTrees targets f set n seen (p ∷ ps) [] = ⊥
+AreTrees targets f set n seen (p ∷ ps) (Open ∷ rest) = IsFine f set p × AreTrees targets f set n true ps rest
+AreTrees targets f set n seen (p ∷ ps) (Plain (Split a) ∷ rest) =
     IsSplit f set p a × (0 < n) ×
-    AreTrees f set (n - 1) seen (with_decision p (Atom a true) ∷ with_decision p (Atom a false) ∷ ps) rest
-AreTrees f set n seen (p ∷ ps) (Bound k ∷ rest) =
-    IsBound f set p k × (0 < n) ×
-    AreTrees f set (n - 1) seen (with_decision p (AtMost k.gap.variable k.gap.below true) ∷ with_decision p (AtMost k.gap.variable k.gap.below false) ∷ ps) rest
-AreTrees f set n seen (p ∷ ps) (Plain leaf ∷ rest) = (closes f set p (node_of leaf) ≡ true) × AreTrees f set n seen ps rest
+    AreTrees targets f set (n - 1) seen (with_decision p (Atom a true) ∷ with_decision p (Atom a false) ∷ ps) rest
+AreTrees targets f set n seen (p ∷ ps) (Bound k ∷ rest) =
+    IsBound targets f set p k × (0 < n) ×
+    AreTrees targets f set (n - 1) seen (with_decision p (AtMost k.gap.variable k.gap.below true) ∷ with_decision p (AtMost k.gap.variable k.gap.below false) ∷ ps) rest
+AreTrees targets f set n seen (p ∷ ps) (Plain leaf ∷ rest) = (closes f set p (node_of leaf) ≡ true) × AreTrees targets f set n seen ps rest
 
 -- the nodes of a tree, in order
 abbrev pub nodes_of : List Part → List NodeOf
@@ -50,19 +50,19 @@ nodes_of (Bound k ∷ rest) = Bounds k.gap.variable k.gap.below ∷ nodes_of res
 
 -- what is kept of a formula with the units of a set that is left unknown: a tree that uses the budget of nodes up; or a path that a
 -- search may go, which decides every atom and makes nothing false, with the budget's number of rows, or an operation that leaves the range
-abbrev pub IsCause : Formula → (ℕ → Bool) → Budget → Why → Type 0
-IsCause f set budget (Nodes parts kept) =
-    (kept ≡ budget.nodes) × (n : ℕ) × (AreTrees f set n false (root f ∷ []) parts.items × IsUsedUp budget.nodes n (counted (Alone ∷ []) parts.items))
-IsCause f set budget (Rows path o) =
-    IsEndOf f set path.items × FillBudget (rows_on f.atoms path.items) budget.rows o.variables.items o.reasons.items
-IsCause f set budget (Range path beyond) =
-    IsEndOf f set path.items × IsBeyond (rows_on f.atoms path.items) beyond
+abbrev pub IsCause : (ℕ → ℤ) → Formula → (ℕ → Bool) → Budget → Why → Type 0
+IsCause targets f set budget (Nodes parts kept) =
+    (kept ≡ budget.nodes) × (n : ℕ) × (AreTrees targets f set n false (root f ∷ []) parts.items × IsUsedUp budget.nodes n (counted (Alone ∷ []) parts.items))
+IsCause targets f set budget (Rows path o) =
+    IsEndOf targets f set path.items × FillBudget (rows_on f.atoms path.items) budget.rows o.variables.items o.reasons.items
+IsCause targets f set budget (Range path beyond) =
+    IsEndOf targets f set path.items × IsBeyond targets (rows_on f.atoms path.items) beyond
 
 -- what each answer of the search claims
-abbrev pub IsOutcome : Formula → (ℕ → Bool) → Budget → Outcome → Type 0
-IsOutcome f set budget (Closed cert) = Accepts f set no_instance (cert_of cert)
-IsOutcome f set budget (Leaf leaf) = IsLeaf f set leaf
-IsOutcome f set budget (Unknown why) = IsCause f set budget why
+abbrev pub IsOutcome : (ℕ → ℤ) → Formula → (ℕ → Bool) → Budget → Outcome → Type 0
+IsOutcome targets f set budget (Closed cert) = Accepts f set no_instance (cert_of cert)
+IsOutcome targets f set budget (Leaf leaf) = IsLeaf targets f set leaf
+IsOutcome targets f set budget (Unknown why) = IsCause targets f set budget why
 
 -- ---- steps
 
@@ -98,16 +98,16 @@ Continues f set old new part =
     ((rest : List NodeOf) → accepts f set no_instance (stack_of f old.walk) (nodes_of (part ∷ []) ++ rest) ≡ accepts f set no_instance (stack_of f new.walk) rest)
 
 -- one more part is made, and what follows it says of the paths after what it says with the part of those before
-pub record Moves (f : Formula) (set : ℕ → Bool) (old new : Search) : Type 0 where
+pub record Moves (targets : ℕ → ℤ) (f : Formula) (set : ℕ → Bool) (old new : Search) : Type 0 where
   pub walks : IsWalk new.walk
   pub sized : atoms_on new.walk ≡ atoms_on old.walk
   pub part : Part
   pub made : new.parts.items ≡ old.parts.items ++ (part ∷ [])
-  pub tells : (n : ℕ) (rest : List Part) → AreTrees f set n new.seen (stack_of f new.walk) rest → AreTrees f set (n + inner_of part) old.seen (stack_of f old.walk) (part ∷ rest)
+  pub tells : (n : ℕ) (rest : List Part) → AreTrees targets f set n new.seen (stack_of f new.walk) rest → AreTrees targets f set (n + inner_of part) old.seen (stack_of f old.walk) (part ∷ rest)
   pub inner : new.inner + inner_of part ≡ old.inner
   pub counts : (rest : List Part) → counted (besides (stack_of f old.walk) old.book) (part ∷ rest) + value new.book ≡ counted (besides (stack_of f new.walk) new.book) rest + value old.book
   pub whole : new.seen ≡ false → Continues f set old new part
-  pub paths : ArePaths f set (stack_of f old.walk) → ArePaths f set (stack_of f new.walk)
+  pub paths : ArePaths targets f set (stack_of f old.walk) → ArePaths targets f set (stack_of f new.walk)
   pub smaller : work new < work old
   pub kept : KeepsCount f set new
 
@@ -124,7 +124,7 @@ pub record IsSame (old new : Search) : Type 0 where
   pub seen : new.seen ≡ old.seen
 
 -- a step: nothing changed at the end, else one more part
-abbrev pub Steps : Formula → (ℕ → Bool) → ℕ → Search → Search → Option Halt → Type 0
-Steps f set rows old new (Some halt) =
-    IsComplete f set (decided_on old.walk) × IsHalt (rows_on f.atoms (decided_on old.walk)) rows halt × (new ≡ old)
-Steps f set rows old new None = Moves f set old new
+abbrev pub Steps : (ℕ → ℤ) → Formula → (ℕ → Bool) → ℕ → Search → Search → Option Halt → Type 0
+Steps targets f set rows old new (Some halt) =
+    IsComplete f set (decided_on old.walk) × IsHalt targets (rows_on f.atoms (decided_on old.walk)) rows halt × (new ≡ old)
+Steps targets f set rows old new None = Moves targets f set old new

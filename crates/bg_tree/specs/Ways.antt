@@ -20,35 +20,35 @@ pub record IsSplit (f : Formula) (set : ℕ → Bool) (p : PathOf) (a : ℕ) : T
   pub rule : may_split (length p.atoms) a p.decided (p.clauses ++ units_of f set) ≡ true
 
 -- a new bound of a term that is there is split where all is decided, at a gap of the path's rows
-pub record IsBound (f : Formula) (set : ℕ → Bool) (p : PathOf) (k : Kept) : Type 0 where
+pub record IsBound (targets : ℕ → ℤ) (f : Formula) (set : ℕ → Bool) (p : PathOf) (k : Kept) : Type 0 where
   pub fine : IsFine f set p
   pub there : k.gap.variable < f.terms
   pub rule : may_bound (length p.atoms) k.gap.variable k.gap.below p.decided ≡ true
-  pub gap : KeepsGap (rows_on p.atoms p.decided) k
+  pub gap : KeepsGap targets (rows_on p.atoms p.decided) k
 
 -- a gap at which this bound may be split on the path
-pub record HasGap (f : Formula) (set : ℕ → Bool) (p : PathOf) (x : ℕ) (k : ℤ) : Type 0 where
+pub record HasGap (targets : ℕ → ℤ) (f : Formula) (set : ℕ → Bool) (p : PathOf) (x : ℕ) (k : ℤ) : Type 0 where
   pub kept : Kept
-  pub bound : IsBound f set p kept
+  pub bound : IsBound targets f set p kept
   pub variable : kept.gap.variable ≡ x
   pub below : kept.gap.below ≡ k
 
 -- a node of the search may make this decision on the path
-abbrev pub MayDecide : Formula → (ℕ → Bool) → PathOf → Decision → Type 0
-MayDecide f set p (Atom a s) = IsSplit f set p a
-MayDecide f set p (AtMost x k s) = HasGap f set p x k
+abbrev pub MayDecide : (ℕ → ℤ) → Formula → (ℕ → Bool) → PathOf → Decision → Type 0
+MayDecide targets f set p (Atom a s) = IsSplit f set p a
+MayDecide targets f set p (AtMost x k s) = HasGap targets f set p x k
 
 -- each of these decisions may be made on the path behind those before it
-abbrev pub IsWay : Formula → (ℕ → Bool) → PathOf → List Decision → Type 0
-IsWay f set p [] = Unit {0}
-IsWay f set p (d ∷ ds) = MayDecide f set p d × IsWay f set (with_decision p d) ds
+abbrev pub IsWay : (ℕ → ℤ) → Formula → (ℕ → Bool) → PathOf → List Decision → Type 0
+IsWay targets f set p [] = Unit {0}
+IsWay targets f set p (d ∷ ds) = MayDecide targets f set p d × IsWay targets f set (with_decision p d) ds
 
 -- a path that is kept where the search ends: one that a search may go, which decides every atom and makes nothing false
-pub record IsEndOf (f : Formula) (set : ℕ → Bool) (ds : List Decision) : Type 0 where
-  pub way : IsWay f set (root f) ds
+pub record IsEndOf (targets : ℕ → ℤ) (f : Formula) (set : ℕ → Bool) (ds : List Decision) : Type 0 where
+  pub way : IsWay targets f set (root f) ds
   pub complete : IsComplete f set ds
 
 -- each open path is one that a search may go
-abbrev pub ArePaths : Formula → (ℕ → Bool) → List PathOf → Type 0
-ArePaths f set [] = Unit {0}
-ArePaths f set (p ∷ ps) = IsWay f set (root f) p.decided × ArePaths f set ps
+abbrev pub ArePaths : (ℕ → ℤ) → Formula → (ℕ → Bool) → List PathOf → Type 0
+ArePaths targets f set [] = Unit {0}
+ArePaths targets f set (p ∷ ps) = IsWay targets f set (root f) p.decided × ArePaths targets f set ps

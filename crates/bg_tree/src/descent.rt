@@ -1,5 +1,6 @@
 //! A walk down to a path that decides every atom, along values that were proposed.
 ghost use Rattle.std.specs.Prelude.{◌≡◌, ◌⊎◌, true, false, length, IfOk, OnOk, IfSome};
+ghost use Rattle.bg_point.specs.Points.{target_of};
 ghost use Rattle.bg_formula.specs.Formulas.{formula_of, is_whole};
 ghost use Rattle.bg_cert.specs.declared.cert.Decision.TheVariants.{AtMost};
 ghost use Rattle.bg_cert.specs.Walks.{has};
@@ -7,6 +8,7 @@ ghost use Rattle.bg_pick.specs.Index.{IsIndex};
 ghost use Rattle.bg_pick.specs.Marks.{IsMark};
 ghost use Rattle.bg_pick.specs.Picks.{MaySplit, IsComplete};
 ghost use Rattle.bg_pick.specs.Problems.{formula_in, set_in};
+ghost use Rattle.bg_tree.specs.Targets.{targets_in};
 ghost use Rattle.bg_cert.specs.Certs.{root};
 ghost use Rattle.bg_tree.specs.Ways.{IsWay};
 ghost use Rattle.bg_tree.specs.Trees.{IsOutcome};
@@ -74,12 +76,12 @@ fn finish(
 ) -> Result<Turn, AllocError>
     requires whole { is_whole (formula_in problem.now) ≡ true }
     requires sized { length d.old.trail.counts.items ≡ length (formula_in problem.now).atoms }
-    requires way { IsWay (formula_in problem.now) (set_in problem.now) (root (formula_in problem.now)) d.old.trail.decisions.items }
+    requires way { IsWay (targets_in problem.now) (formula_in problem.now) (set_in problem.now) (root (formula_in problem.now)) d.old.trail.decisions.items }
     requires complete { IsComplete (formula_in problem.now) (set_in problem.now) d.old.trail.decisions.items }
     requires mark { IsMark (formula_in problem.now) (set_in problem.now) problem.now.index.now d.old.trail.decisions.items d.old.guide.mark }
-    ensures { IfOk result (λ turn. IsTurn (formula_in problem.now) (set_in problem.now) problem.now.index.now rows d.new turn) }
+    ensures { IfOk result (λ turn. IsTurn (targets_in problem.now) (formula_in problem.now) (set_in problem.now) problem.now.index.now rows d.new turn) }
 {
-    match settle(alloc, problem.formula, &d.trail, rows)? {
+    match settle(alloc, problem.formula, problem.targets, &d.trail, rows)? {
         End::Refuted(_) => Ok(Turn::Lost),
         End::Split(kept) => {
             decide(&mut d.trail, side_of(values, &kept.gap))?;
@@ -98,10 +100,10 @@ fn advance(
 ) -> Result<(), AllocError>
     requires named { IsIndex (formula_in problem.now) (set_in problem.now) problem.now.index.now }
     requires sized { length d.old.trail.counts.items ≡ length (formula_in problem.now).atoms }
-    requires way { IsWay (formula_in problem.now) (set_in problem.now) (root (formula_in problem.now)) d.old.trail.decisions.items }
+    requires way { IsWay (targets_in problem.now) (formula_in problem.now) (set_in problem.now) (root (formula_in problem.now)) d.old.trail.decisions.items }
     requires may { MaySplit (formula_in problem.now) (set_in problem.now) d.old.trail.decisions.items a }
     requires mark { IsMark (formula_in problem.now) (set_in problem.now) problem.now.index.now d.old.trail.decisions.items d.old.guide.mark }
-    ensures { OnOk result (IsDescent (formula_in problem.now) (set_in problem.now) problem.now.index.now d.new) }
+    ensures { OnOk result (IsDescent (targets_in problem.now) (formula_in problem.now) (set_in problem.now) problem.now.index.now d.new) }
 {
     decide(&mut d.trail, Decision::Atom(a, sign_of(values, a)))?;
     Ok(())
@@ -118,8 +120,8 @@ fn step_down(
 ) -> Result<Turn, AllocError>
     requires whole { is_whole (formula_in problem.now) ≡ true }
     requires named { IsIndex (formula_in problem.now) (set_in problem.now) problem.now.index.now }
-    requires descends { IsDescent (formula_in problem.now) (set_in problem.now) problem.now.index.now d.old }
-    ensures { IfOk result (λ turn. IsTurn (formula_in problem.now) (set_in problem.now) problem.now.index.now rows d.new turn) }
+    requires descends { IsDescent (targets_in problem.now) (formula_in problem.now) (set_in problem.now) problem.now.index.now d.old }
+    ensures { IfOk result (λ turn. IsTurn (targets_in problem.now) (formula_in problem.now) (set_in problem.now) problem.now.index.now rows d.new turn) }
 {
     match next_at(problem, &d.trail, &mut d.guide.mark, probe) {
         Pick::Close(_) => Ok(Turn::Lost),
@@ -141,7 +143,7 @@ fn walked(
 ) -> Result<Option<Outcome>, AllocError>
     requires whole { is_whole (formula_in problem.now) ≡ true }
     requires named { IsIndex (formula_in problem.now) (set_in problem.now) problem.now.index.now }
-    ensures { IfOk result (λ found. IfSome found (λ outcome. IsOutcome (formula_in problem.now) (set_in problem.now) budget outcome)) }
+    ensures { IfOk result (λ found. IfSome found (λ outcome. IsOutcome (targets_in problem.now) (formula_in problem.now) (set_in problem.now) budget outcome)) }
 {
     let atoms = problem.formula.atoms.len();
     let mut d = Descent {
@@ -161,18 +163,20 @@ fn walked(
 }
 
 /// Walks down from the root along values that were proposed, by the search's own rules and without a way back: to a complete leaf
-/// or to why the search ends there; or nothing, where a clause, a unit of the set or the rows are false on the way.
+/// or to why the search ends there; or nothing, where a clause, a unit of the set or the rows are false on the way. A point has each term
+/// as near to its target as may be: the targets are any numbers of 128 bits, by the terms' numbers, 0 behind the list's end.
 ///
 /// Only want of memory is an error.
 pub fn follow(
     alloc: Global,
     f: &Clauses,
     set: &[bool],
+    targets: &[i128],
     budget: Budget,
     values: Values<'_>,
 ) -> Result<Option<Outcome>, AllocError>
     requires { is_whole (formula_of f.now) ≡ true }
-    ensures { IfOk result (λ found. IfSome found (λ outcome. IsOutcome (formula_of f.now) (has set.now) budget outcome)) }
+    ensures { IfOk result (λ found. IfSome found (λ outcome. IsOutcome (target_of targets.now) (formula_of f.now) (has set.now) budget outcome)) }
 {
     let index = index_of(alloc, f, set)?;
     let mut probe = new_probe(alloc, f, set)?;
@@ -180,6 +184,7 @@ pub fn follow(
         formula: f,
         set,
         index: &index,
+        targets,
     };
     walked(alloc, &problem, &mut probe, budget, values)
 }

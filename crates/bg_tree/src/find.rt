@@ -1,11 +1,13 @@
 //! The search.
 ghost use Rattle.std.specs.Prelude.{◌≡◌, ◌<◌, ◌*◌, ◌^◌, ◌∷◌, [], IfOk, true, false};
+ghost use Rattle.bg_point.specs.Points.{target_of};
 ghost use Rattle.bg_formula.specs.Formulas.{Formula, formula_of, is_whole};
 ghost use Rattle.bg_cert.specs.Certs.{root};
 ghost use Rattle.bg_cert.specs.Walks.{IsWalk, atoms_on, stack_of, has};
 ghost use Rattle.bg_tree.specs.declared.book.Head.TheVariants.{First};
 ghost use Rattle.bg_pick.specs.Index.{IsIndex};
 ghost use Rattle.bg_pick.specs.Problems.{formula_in, set_in};
+ghost use Rattle.bg_tree.specs.Targets.{targets_in};
 ghost use Rattle.bg_tree.specs.Trees.{IsOutcome};
 
 use crate::book::{Book, Head};
@@ -55,7 +57,7 @@ fn searched(
 ) -> Result<Outcome, AllocError>
     requires whole { is_whole (formula_in problem.now) ≡ true }
     requires named { IsIndex (formula_in problem.now) (set_in problem.now) problem.now.index.now }
-    ensures { IfOk result (λ outcome. IsOutcome (formula_in problem.now) (set_in problem.now) budget outcome) }
+    ensures { IfOk result (λ outcome. IsOutcome (targets_in problem.now) (formula_in problem.now) (set_in problem.now) budget outcome) }
 {
     let mut s = first_search(alloc, problem.formula.atoms.len(), budget.nodes)?;
     let mut guide = first_guide(alloc);
@@ -75,15 +77,17 @@ fn searched(
 /// hold, or until a budget is used up or an operation leaves 128 bits. A node takes time for the
 /// clauses of its last decision's atom, for what the path's mark passes, and where no clause is a
 /// unit for a look ahead and an elimination of the nearest rows beside a row that is new. The budget
-/// of rows counts where a path decides every atom.
+/// of rows counts where a path decides every atom. A point has each term as near to its target as may be: the targets are any numbers
+/// of 128 bits, one for each term by its number, 0 for a term behind the list's end.
 pub fn search(
     alloc: Global,
     f: &Clauses,
     set: &[bool],
+    targets: &[i128],
     budget: Budget,
 ) -> Result<Outcome, AllocError>
     requires { is_whole (formula_of f.now) ≡ true }
-    ensures { IfOk result (λ outcome. IsOutcome (formula_of f.now) (has set.now) budget outcome) }
+    ensures { IfOk result (λ outcome. IsOutcome (target_of targets.now) (formula_of f.now) (has set.now) budget outcome) }
 {
     let index = index_of(alloc, f, set)?;
     let mut aids = Aids {
@@ -94,6 +98,7 @@ pub fn search(
         formula: f,
         set,
         index: &index,
+        targets,
     };
     searched(alloc, &problem, budget, &mut aids)
 }

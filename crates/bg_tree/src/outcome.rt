@@ -16,7 +16,7 @@ pub struct Budget {
 }
 
 /// A path that decides every atom and makes no clause and no unit of the set false, with an order
-/// that solves its rows and a near point that meets them.
+/// that solves its rows and a point near the targets that meets them.
 #[derive(Drop)]
 pub struct Leaf {
     pub path: Vec<Decision>,

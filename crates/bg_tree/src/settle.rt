@@ -3,6 +3,7 @@ ghost use Rattle.std.specs.Prelude.{◌≡◌, [], true, false, IfOk, IfSome, ma
 ghost use Rattle.bg_rows.specs.Rows.{row_of, RowOf};
 ghost use Rattle.bg_rows.specs.Steps.{derives};
 ghost use Rattle.bg_elim.specs.Answers.{SolvedBy};
+ghost use Rattle.bg_point.specs.Points.{target_of};
 ghost use Rattle.bg_formula.specs.Formulas.{formula_of, is_whole};
 ghost use Rattle.bg_cert.specs.Paths.{rows_on};
 ghost use Rattle.bg_tree.specs.Once.{bounds_in};
@@ -19,12 +20,12 @@ use bg_point::{Placed, point};
 use bg_rows::{Row, Step};
 use std::alloc::{AllocError, Global};
 
-/// A point of an order that solves the rows, or why there is none.
-fn placed(alloc: Global, given: &[Row], order: Order) -> Result<End, AllocError>
+/// A point near the targets, of an order that solves the rows, or why there is none.
+fn placed(alloc: Global, given: &[Row], targets: &[i128], order: Order) -> Result<End, AllocError>
     requires { SolvedBy (map row_of given.now) order }
-    ensures { IfOk result (λ end. IsPlacedEnd (map row_of given.now) end) }
+    ensures { IfOk result (λ end. IsPlacedEnd (target_of targets.now) (map row_of given.now) end) }
 {
-    match point(alloc, &order)? {
+    match point(alloc, &order, targets)? {
         Placed::Point(spots) => Ok(End::Halted(Halt::Point(order, spots))),
         Placed::Split(spots, gap) => Ok(End::Split(Kept { order, spots, gap })),
         Placed::Unknown(spots, far) => Ok(End::Halted(Halt::Range(Beyond::Value(
@@ -35,16 +36,22 @@ fn placed(alloc: Global, given: &[Row], order: Order) -> Result<End, AllocError>
 
 /// What the rows of a path tell that decides every atom, where as many different rows may be kept
 /// as the budget says.
-pub fn settle(alloc: Global, f: &Clauses, trail: &Trail, budget: u32) -> Result<End, AllocError>
+pub fn settle(
+    alloc: Global,
+    f: &Clauses,
+    targets: &[i128],
+    trail: &Trail,
+    budget: u32,
+) -> Result<End, AllocError>
     requires whole { is_whole (formula_of f.now) ≡ true }
     requires bounds { bounds_in (formula_of f.now).terms trail.now.decisions.items ≡ true }
-    ensures { IfOk result (λ end. IsEnd (rows_on (formula_of f.now).atoms trail.now.decisions.items) (formula_of f.now).terms budget end) }
+    ensures { IfOk result (λ end. IsEnd (target_of targets.now) (rows_on (formula_of f.now).atoms trail.now.decisions.items) (formula_of f.now).terms budget end) }
 {
     let given = rows_on(alloc, &f.atoms, &trail.decisions)?;
     match refute_or_order(alloc, &given, budget)? {
         Found::Refuted(steps) => Ok(End::Refuted(steps)),
         Found::Solvable(order) => {
-            let end = placed(alloc, &given, order)?;
+            let end = placed(alloc, &given, targets, order)?;
             Ok(end)
         }
         Found::Unknown(Stop::Rows(order)) => Ok(End::Halted(Halt::Rows(order))),

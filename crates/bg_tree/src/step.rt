@@ -9,6 +9,7 @@ ghost use Rattle.bg_pick.specs.Index.{IsIndex};
 ghost use Rattle.bg_pick.specs.Marks.{marks_of, IsMark, AllReady};
 ghost use Rattle.bg_pick.specs.Picks.{MaySplit, IsComplete};
 ghost use Rattle.bg_pick.specs.Problems.{formula_in, set_in};
+ghost use Rattle.bg_tree.specs.Targets.{targets_in};
 ghost use Rattle.bg_tree.specs.Ways.{ArePaths};
 ghost use Rattle.bg_tree.specs.declared.book.Head.TheVariants.{Due};
 ghost use Rattle.bg_tree.specs.Books.{IsOwed, is_paid};
@@ -49,7 +50,7 @@ fn emit_leaf(problem: &Problem<'_>, s: &mut Search, node: Node) -> Result<(), Al
     requires kept { KeepsCount (formula_in problem.now) (set_in problem.now) s.old }
     requires due { s.old.seen ≡ true → s.old.book.head ≡ Due }
     requires holds { closes (formula_in problem.now) (set_in problem.now) (path_of (formula_in problem.now) (decided_on s.old.walk)) (node_of node) ≡ true }
-    ensures moves { OnOk result (Moves (formula_in problem.now) (set_in problem.now) s.old s.new) }
+    ensures moves { OnOk result (Moves (targets_in problem.now) (formula_in problem.now) (set_in problem.now) s.old s.new) }
     ensures stack { OnOk result (stack_of (formula_in problem.now) s.new.walk ≡ others_of (formula_in problem.now) s.old.walk) }
 {
     s.parts.push(Part::Plain(node))?;
@@ -65,7 +66,7 @@ fn emit_open(problem: &Problem<'_>, s: &mut Search) -> Result<(), AllocError>
     requires is_fine { any_false (decided_on s.old.walk) ((formula_in problem.now).clauses ++ units_of (formula_in problem.now) (set_in problem.now)) ≡ false }
     requires kept { KeepsCount (formula_in problem.now) (set_in problem.now) s.old }
     requires is_spent { IsSpent s.old }
-    ensures moves { OnOk result (Moves (formula_in problem.now) (set_in problem.now) s.old s.new) }
+    ensures moves { OnOk result (Moves (targets_in problem.now) (formula_in problem.now) (set_in problem.now) s.old s.new) }
     ensures stack { OnOk result (stack_of (formula_in problem.now) s.new.walk ≡ others_of (formula_in problem.now) s.old.walk) }
 {
     s.parts.push(Part::Open)?;
@@ -90,7 +91,7 @@ fn emit_split(
     requires is_left { 0 < s.old.book.left }
     requires is_inner { 0 < s.old.inner }
     requires owed { IsOwed (formula_in problem.now) (set_in problem.now) (path_of (formula_in problem.now) (decided_on s.old.walk ++ (Atom a false ∷ []))) is_paid }
-    ensures moves { OnOk result (Moves (formula_in problem.now) (set_in problem.now) s.old s.new) }
+    ensures moves { OnOk result (Moves (targets_in problem.now) (formula_in problem.now) (set_in problem.now) s.old s.new) }
     ensures stack { OnOk result (stack_of (formula_in problem.now) s.new.walk ≡ path_of (formula_in problem.now) (decided_on s.old.walk ++ (Atom a true ∷ [])) ∷ path_of (formula_in problem.now) (decided_on s.old.walk ++ (Atom a false ∷ [])) ∷ others_of (formula_in problem.now) s.old.walk) }
 {
     s.parts.push(Part::Plain(Node::Split(a as u128)))?;
@@ -115,11 +116,11 @@ fn at_gap(gap: &Gap, s: bool) -> Decision
 fn emit_bound(problem: &Problem<'_>, s: &mut Search, kept: Kept) -> Result<(), AllocError>
     requires is_walk { IsWalk s.old.walk }
     requires is_open { IsTrue s.old.walk.is_open }
-    requires may { IsBound (formula_in problem.now) (set_in problem.now) (path_of (formula_in problem.now) (decided_on s.old.walk)) kept }
+    requires may { IsBound (targets_in problem.now) (formula_in problem.now) (set_in problem.now) (path_of (formula_in problem.now) (decided_on s.old.walk)) kept }
     requires kept { KeepsCount (formula_in problem.now) (set_in problem.now) s.old }
     requires is_left { 0 < s.old.book.left }
     requires is_inner { 0 < s.old.inner }
-    ensures moves { OnOk result (Moves (formula_in problem.now) (set_in problem.now) s.old s.new) }
+    ensures moves { OnOk result (Moves (targets_in problem.now) (formula_in problem.now) (set_in problem.now) s.old s.new) }
     ensures stack { OnOk result (stack_of (formula_in problem.now) s.new.walk ≡ path_of (formula_in problem.now) (decided_on s.old.walk ++ (AtMost kept.gap.variable kept.gap.below true ∷ [])) ∷ path_of (formula_in problem.now) (decided_on s.old.walk ++ (AtMost kept.gap.variable kept.gap.below false ∷ [])) ∷ others_of (formula_in problem.now) s.old.walk) }
 {
     let inner = s.inner - 1;
@@ -145,7 +146,7 @@ fn close_by(
     requires due { s.old.seen ≡ true → s.old.book.head ≡ Due }
     requires holds { closes (formula_in problem.now) (set_in problem.now) (path_of (formula_in problem.now) (decided_on s.old.walk)) (node_of node) ≡ true }
     requires others { OthersReady (formula_in problem.now) (set_in problem.now) problem.now.index.now s.old.walk guide.old }
-    ensures moves { OnOk result (Moves (formula_in problem.now) (set_in problem.now) s.old s.new) }
+    ensures moves { OnOk result (Moves (targets_in problem.now) (formula_in problem.now) (set_in problem.now) s.old s.new) }
     ensures ready { OnOk result (AllReady (formula_in problem.now) (set_in problem.now) problem.now.index.now (stack_of (formula_in problem.now) s.new.walk) (marks_of guide.new)) }
 {
     emit_leaf(problem, s, node)?;
@@ -161,7 +162,7 @@ fn leave(problem: &Problem<'_>, s: &mut Search, guide: &mut Guide) -> Result<(),
     requires is_fine { any_false (decided_on s.old.walk) ((formula_in problem.now).clauses ++ units_of (formula_in problem.now) (set_in problem.now)) ≡ false }
     requires is_spent { IsSpent s.old }
     requires others { OthersReady (formula_in problem.now) (set_in problem.now) problem.now.index.now s.old.walk guide.old }
-    ensures moves { OnOk result (Moves (formula_in problem.now) (set_in problem.now) s.old s.new) }
+    ensures moves { OnOk result (Moves (targets_in problem.now) (formula_in problem.now) (set_in problem.now) s.old s.new) }
     ensures ready { OnOk result (AllReady (formula_in problem.now) (set_in problem.now) problem.now.index.now (stack_of (formula_in problem.now) s.new.walk) (marks_of guide.new)) }
 {
     emit_open(problem, s)?;
@@ -194,7 +195,7 @@ fn fork(problem: &Problem<'_>, s: &mut Search, mark: &Mark, a: usize) -> Result<
     requires kept { KeepsCount (formula_in problem.now) (set_in problem.now) s.old }
     requires is_left { 0 < s.old.book.left }
     requires is_inner { 0 < s.old.inner }
-    ensures moves { OnOk result (Moves (formula_in problem.now) (set_in problem.now) s.old s.new) }
+    ensures moves { OnOk result (Moves (targets_in problem.now) (formula_in problem.now) (set_in problem.now) s.old s.new) }
     ensures stack { OnOk result (stack_of (formula_in problem.now) s.new.walk ≡ path_of (formula_in problem.now) (decided_on s.old.walk ++ (Atom a true ∷ [])) ∷ path_of (formula_in problem.now) (decided_on s.old.walk ++ (Atom a false ∷ [])) ∷ others_of (formula_in problem.now) s.old.walk) }
 {
     let is_false = peek(problem, s, mark, a)?;
@@ -217,7 +218,7 @@ fn divide(
     requires mark { IsMark (formula_in problem.now) (set_in problem.now) problem.now.index.now (decided_on s.old.walk) guide.old.mark }
     requires others { OthersReady (formula_in problem.now) (set_in problem.now) problem.now.index.now s.old.walk guide.old }
     requires kept { KeepsCount (formula_in problem.now) (set_in problem.now) s.old }
-    ensures moves { OnOk result (Moves (formula_in problem.now) (set_in problem.now) s.old s.new) }
+    ensures moves { OnOk result (Moves (targets_in problem.now) (formula_in problem.now) (set_in problem.now) s.old s.new) }
     ensures ready { OnOk result (AllReady (formula_in problem.now) (set_in problem.now) problem.now.index.now (stack_of (formula_in problem.now) s.new.walk) (marks_of guide.new)) }
 {
     if s.inner == 0 || s.book.left == 0 {
@@ -238,11 +239,11 @@ fn halve(
 ) -> Result<(), AllocError>
     requires is_walk { IsWalk s.old.walk }
     requires is_open { IsTrue s.old.walk.is_open }
-    requires may { IsBound (formula_in problem.now) (set_in problem.now) (path_of (formula_in problem.now) (decided_on s.old.walk)) kept }
+    requires may { IsBound (targets_in problem.now) (formula_in problem.now) (set_in problem.now) (path_of (formula_in problem.now) (decided_on s.old.walk)) kept }
     requires mark { IsMark (formula_in problem.now) (set_in problem.now) problem.now.index.now (decided_on s.old.walk) guide.old.mark }
     requires others { OthersReady (formula_in problem.now) (set_in problem.now) problem.now.index.now s.old.walk guide.old }
     requires kept { KeepsCount (formula_in problem.now) (set_in problem.now) s.old }
-    ensures moves { OnOk result (Moves (formula_in problem.now) (set_in problem.now) s.old s.new) }
+    ensures moves { OnOk result (Moves (targets_in problem.now) (formula_in problem.now) (set_in problem.now) s.old s.new) }
     ensures ready { OnOk result (AllReady (formula_in problem.now) (set_in problem.now) problem.now.index.now (stack_of (formula_in problem.now) s.new.walk) (marks_of guide.new)) }
 {
     if s.inner > 0 && s.book.left > 0 {
@@ -270,11 +271,11 @@ fn finish(
     requires unseen { s.old.seen ≡ false }
     requires mark { IsMark (formula_in problem.now) (set_in problem.now) problem.now.index.now (decided_on s.old.walk) guide.old.mark }
     requires others { OthersReady (formula_in problem.now) (set_in problem.now) problem.now.index.now s.old.walk guide.old }
-    requires paths { ArePaths (formula_in problem.now) (set_in problem.now) (stack_of (formula_in problem.now) s.old.walk) }
-    ensures steps { IfOk result (λ halt. Steps (formula_in problem.now) (set_in problem.now) rows s.old s.new halt) }
+    requires paths { ArePaths (targets_in problem.now) (formula_in problem.now) (set_in problem.now) (stack_of (formula_in problem.now) s.old.walk) }
+    ensures steps { IfOk result (λ halt. Steps (targets_in problem.now) (formula_in problem.now) (set_in problem.now) rows s.old s.new halt) }
     ensures ready { IfOk result (λ halt. halt ≡ None → AllReady (formula_in problem.now) (set_in problem.now) problem.now.index.now (stack_of (formula_in problem.now) s.new.walk) (marks_of guide.new)) }
 {
-    match settle(alloc, problem.formula, &s.walk.trail, rows)? {
+    match settle(alloc, problem.formula, problem.targets, &s.walk.trail, rows)? {
         End::Refuted(steps) => {
             close_by(problem, s, guide, Node::Rows(steps))?;
             Ok(None)
@@ -306,7 +307,7 @@ fn advance(
     requires others { OthersReady (formula_in problem.now) (set_in problem.now) problem.now.index.now s.old.walk guide.old }
     requires kept { KeepsCount (formula_in problem.now) (set_in problem.now) s.old }
     requires unseen { s.old.seen ≡ false }
-    ensures moves { OnOk result (Moves (formula_in problem.now) (set_in problem.now) s.old s.new) }
+    ensures moves { OnOk result (Moves (targets_in problem.now) (formula_in problem.now) (set_in problem.now) s.old s.new) }
     ensures ready { OnOk result (AllReady (formula_in problem.now) (set_in problem.now) problem.now.index.now (stack_of (formula_in problem.now) s.new.walk) (marks_of guide.new)) }
 {
     let whole = !choice.is_forced;
@@ -351,8 +352,8 @@ pub fn step(
     requires named { IsIndex (formula_in problem.now) (set_in problem.now) problem.now.index.now }
     requires ready { AllReady (formula_in problem.now) (set_in problem.now) problem.now.index.now (stack_of (formula_in problem.now) s.old.walk) (marks_of guide.old) }
     requires kept { KeepsCount (formula_in problem.now) (set_in problem.now) s.old }
-    requires paths { ArePaths (formula_in problem.now) (set_in problem.now) (stack_of (formula_in problem.now) s.old.walk) }
-    ensures steps { IfOk result (λ halt. Steps (formula_in problem.now) (set_in problem.now) rows s.old s.new halt) }
+    requires paths { ArePaths (targets_in problem.now) (formula_in problem.now) (set_in problem.now) (stack_of (formula_in problem.now) s.old.walk) }
+    ensures steps { IfOk result (λ halt. Steps (targets_in problem.now) (formula_in problem.now) (set_in problem.now) rows s.old s.new halt) }
     ensures ready { IfOk result (λ halt. halt ≡ None → AllReady (formula_in problem.now) (set_in problem.now) problem.now.index.now (stack_of (formula_in problem.now) s.new.walk) (marks_of guide.new)) }
 {
     if s.seen && is_paid(&s.book) {

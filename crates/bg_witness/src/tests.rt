@@ -75,6 +75,12 @@ const OPENED: &str =
 const ARGUMENT: &str =
     "function f(int): int; procedure P(x: int) { assume x >= 170141183460469231731687303715884105727; assert f(x + 1) == 0; }";
 
+const ELEMENTS: &str =
+    "type T; type S = T; const unique a, b: T; var x: S; function next(t: T): S; procedure P(t: S) modifies x; { assert a != b; assert next(a) != next(b); havoc x; assert x == t ==> next(next(x)) == next(next(t)); assert x != t; }";
+
+const APART: &str =
+    "type T; type U; function f(t: T, u: U): int; procedure P(t, s: T, u, v: U) { assert f(t, u) == f(s, u) || t != s; assert f(t, u) == f(t, v); assert t == s || u != v; }";
+
 /// Whether the certificate of a place is accepted behind these instances.
 fn is_accepted(
     alloc: Global,
@@ -217,7 +223,7 @@ fn letters(alloc: Global, program: &Resolved) -> Result<String, Fail>
 #[test]
 fn each_verdict_holds_when_it_is_looked_at_again(rt: HostRuntime) -> Result<(), Fail> {
     let alloc = rt.alloc();
-    let table: [(&str, &str); 16] = [
+    let table: [(&str, &str); 18] = [
         (LOOP, "prp;"),
         (LEFT, "ppr;"),
         (CALLS, "rpr;"),
@@ -234,6 +240,8 @@ fn each_verdict_holds_when_it_is_looked_at_again(rt: HostRuntime) -> Result<(), 
         (NESTED, "pr;"),
         (OPENED, "pr;"),
         (ARGUMENT, "a;"),
+        (ELEMENTS, "prpr;"),
+        (APART, "prr;"),
     ];
     for (text, want) in table {
         let Some(program) = judged_program(alloc, text) else {

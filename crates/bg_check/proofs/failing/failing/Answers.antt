@@ -1,5 +1,8 @@
-use Rattle.std.proofs.Common.{◌≡◌, Option, length, take, map, sym, ap, ◌∙◌, subst}
+use Rattle.std.proofs.Common.{◌≡◌, Option, length, take, map, sym, ap, ◌∙◌, subst, ℤ, List}
 use Rattle.std.proofs.lemmas.List.{length-map, take-map}
+use Rattle.bg_tree.specs.Ends.{IsLeaf}
+use Rattle.bg_point.specs.Points.{target_of}
+use Rattle.bg_cert.specs.Walks.{has}
 use Rattle.bg_text.specs.Views.{option_of}
 use Rattle.bg_ast.specs.Meaning.{meaning_of}
 use Rattle.bg_ast.specs.Views.{program_of, candidate_of}
@@ -29,12 +32,13 @@ unreachable-requires c =
     let es = instances_of c.args.instances.now in
     let f = formula_of c.args.met.clauses.now in
     let leaf = c.args.met.leaf.now in
+    let near = subst (λ (zs : List ℤ). IsLeaf (target_of zs) f (has c.args.question.set.now) leaf) c.requires.prepared.targets c.requires.leaf in
     let laws : LeafLaws = record {
       bodies = c.typed_programs_have_typed_bodies.ensures.implementations;
       fits = c.arrivals_fit.ensures;
       whole = c.clauses_of_encodings_are_whole.ensures;
-      values = c.scalar_values_are_typed.ensures.all;
-      first = c.scalar_values_are_typed.ensures.first;
+      stand_ins = c.built_values_are_typed.ensures.scalars;
+      first = c.built_values_are_typed.ensures.first;
       starts = c.typed_values_begin_with_a_state.ensures;
       meets = c.tables_meet_programs_over_scalars.ensures;
       holds = c.scalar_values_hold.ensures;
@@ -49,10 +53,12 @@ unreachable-requires c =
       own_spots = c.places_have_spots_of_their_own.ensures.candidate;
       checks = c.checks_of_passive_blocks_are_places.ensures;
       tabled = c.programs_over_scalars_are_tabled.ensures;
-      mapless = c.implementations_over_scalars_have_scalars.ensures.mapless;
+      mapless = c.implementations_over_scalars_have_no_maps.ensures.mapless;
       terms = c.passive_blocks_have_terms.ensures;
       flat = c.flat_expressions_say_the_same.ensures;
-      models = c.congruent_scalars_are_models.ensures;
+      alike = c.scalars_say_the_same.ensures;
+      stands = c.built_values_are_models.ensures.stand;
+      models = c.built_values_are_models.ensures.models;
     } in
     let X = c.requires.values h in
     let off = subst (λ vs. AreReadOff P.functions (count_in P n (impl p n w h) (proc p n w h)) (terms_in P n (impl p n w h) (proc p n w h)) vs (tables_of (tables_in c.args.tables.items))) X (c.requires.read_off h) in
@@ -60,9 +66,9 @@ unreachable-requires c =
     let forms : behind_front (length c.args.instances.now) (map form_block_of c.deref-3.result.now) ≡ behind_front (length es) (encoding_in c.args.cut.now).blocks = ap (λ k. behind_front k (map form_block_of c.deref-3.result.now)) front ∙ ap (λ l. behind_front (length es) (map form_block_of l)) c.deref-3.ensures.value in
     let first : map val_of c.first.result.now ≡ take (count_in P n (impl p n w h) (proc p n w h)) (map val_of c.args.met.values.now) = ap (map val_of) c.first.ensures ∙ (sym (take-map val_of w.count c.args.met.values.now) ∙ ap (λ k. take k (map val_of c.args.met.values.now)) h.count) in
     let vals = first ∙ ap (take (count_in P n (impl p n w h) (proc p n w h))) X in
-    let R : Option Counterexample → Type 0 = IsRun laws p n w h c.requires.typed c.requires.scalars es (spot_of place.spot) (option_of candidate_of place.candidate) c.args.cut.now c.requires.slice f c.args.question.set.now leaf c.requires.clauses c.requires.leaf c.requires.asked in
+    let R : Option Counterexample → Type 0 = IsRun laws p n w h c.requires.typed c.requires.scalars es (spot_of place.spot) (option_of candidate_of place.candidate) c.args.cut.now c.requires.slice f c.args.question.set.now leaf c.requires.clauses near c.requires.asked in
     subst R c.in-None.is
-    (refutes laws p n w h c.requires.typed c.requires.scalars es (spot_of place.spot) (option_of candidate_of place.candidate) c.args.cut.now c.requires.slice f c.args.question.set.now leaf c.requires.clauses c.requires.leaf c.requires.asked (tables_in c.args.tables.items) off c.deref.result.now c.deref-2.result.now (behind_front (length c.args.instances.now) (map form_block_of c.deref-3.result.now)) c.args.met.truths.now (map val_of c.first.result.now) c.in_ok-cex.field-0 c.deref.ensures.value c.deref-2.ensures.value forms c.requires.truths vals c.in_ok-cex.ensures)
+    (refutes laws p n w h c.requires.typed c.requires.scalars es (spot_of place.spot) (option_of candidate_of place.candidate) c.args.cut.now c.requires.slice f c.args.question.set.now leaf c.requires.clauses near c.requires.asked (tables_in c.args.tables.items) off c.deref.result.now c.deref-2.result.now (behind_front (length c.args.instances.now) (map form_block_of c.deref-3.result.now)) c.args.met.truths.now (map val_of c.first.result.now) c.in_ok-cex.field-0 c.deref.ensures.value c.deref-2.ensures.value forms c.requires.truths vals c.in_ok-cex.ensures)
 
 pub returns : goal.returns
 returns c =
@@ -75,12 +81,13 @@ returns c =
     let es = instances_of c.args.instances.now in
     let f = formula_of c.args.met.clauses.now in
     let leaf = c.args.met.leaf.now in
+    let near = subst (λ (zs : List ℤ). IsLeaf (target_of zs) f (has c.args.question.set.now) leaf) c.requires.prepared.targets c.requires.leaf in
     let laws : LeafLaws = record {
       bodies = c.typed_programs_have_typed_bodies.ensures.implementations;
       fits = c.arrivals_fit.ensures;
       whole = c.clauses_of_encodings_are_whole.ensures;
-      values = c.scalar_values_are_typed.ensures.all;
-      first = c.scalar_values_are_typed.ensures.first;
+      stand_ins = c.built_values_are_typed.ensures.scalars;
+      first = c.built_values_are_typed.ensures.first;
       starts = c.typed_values_begin_with_a_state.ensures;
       meets = c.tables_meet_programs_over_scalars.ensures;
       holds = c.scalar_values_hold.ensures;
@@ -95,10 +102,12 @@ returns c =
       own_spots = c.places_have_spots_of_their_own.ensures.candidate;
       checks = c.checks_of_passive_blocks_are_places.ensures;
       tabled = c.programs_over_scalars_are_tabled.ensures;
-      mapless = c.implementations_over_scalars_have_scalars.ensures.mapless;
+      mapless = c.implementations_over_scalars_have_no_maps.ensures.mapless;
       terms = c.passive_blocks_have_terms.ensures;
       flat = c.flat_expressions_say_the_same.ensures;
-      models = c.congruent_scalars_are_models.ensures;
+      alike = c.scalars_say_the_same.ensures;
+      stands = c.built_values_are_models.ensures.stand;
+      models = c.built_values_are_models.ensures.models;
     } in
     let X = c.requires.values h in
     let off = subst (λ vs. AreReadOff P.functions (count_in P n (impl p n w h) (proc p n w h)) (terms_in P n (impl p n w h) (proc p n w h)) vs (tables_of (tables_in c.args.tables.items))) X (c.requires.read_off h) in
@@ -106,6 +115,6 @@ returns c =
     let forms : behind_front (length c.args.instances.now) (map form_block_of c.deref-3.result.now) ≡ behind_front (length es) (encoding_in c.args.cut.now).blocks = ap (λ k. behind_front k (map form_block_of c.deref-3.result.now)) front ∙ ap (λ l. behind_front (length es) (map form_block_of l)) c.deref-3.ensures.value in
     let first : map val_of c.first.result.now ≡ take (count_in P n (impl p n w h) (proc p n w h)) (map val_of c.args.met.values.now) = ap (map val_of) c.first.ensures ∙ (sym (take-map val_of w.count c.args.met.values.now) ∙ ap (λ k. take k (map val_of c.args.met.values.now)) h.count) in
     let vals = first ∙ ap (take (count_in P n (impl p n w h) (proc p n w h))) X in
-    let R : Option Counterexample → Type 0 = IsRun laws p n w h c.requires.typed c.requires.scalars es (spot_of place.spot) (option_of candidate_of place.candidate) c.args.cut.now c.requires.slice f c.args.question.set.now leaf c.requires.clauses c.requires.leaf c.requires.asked in
+    let R : Option Counterexample → Type 0 = IsRun laws p n w h c.requires.typed c.requires.scalars es (spot_of place.spot) (option_of candidate_of place.candidate) c.args.cut.now c.requires.slice f c.args.question.set.now leaf c.requires.clauses near c.requires.asked in
     subst R c.in-Some.is
-    (refutes laws p n w h c.requires.typed c.requires.scalars es (spot_of place.spot) (option_of candidate_of place.candidate) c.args.cut.now c.requires.slice f c.args.question.set.now leaf c.requires.clauses c.requires.leaf c.requires.asked (tables_in c.args.tables.items) off c.deref.result.now c.deref-2.result.now (behind_front (length c.args.instances.now) (map form_block_of c.deref-3.result.now)) c.args.met.truths.now (map val_of c.first.result.now) c.in_ok-cex.field-0 c.deref.ensures.value c.deref-2.ensures.value forms c.requires.truths vals c.in_ok-cex.ensures)
+    (refutes laws p n w h c.requires.typed c.requires.scalars es (spot_of place.spot) (option_of candidate_of place.candidate) c.args.cut.now c.requires.slice f c.args.question.set.now leaf c.requires.clauses near c.requires.asked (tables_in c.args.tables.items) off c.deref.result.now c.deref-2.result.now (behind_front (length c.args.instances.now) (map form_block_of c.deref-3.result.now)) c.args.met.truths.now (map val_of c.first.result.now) c.in_ok-cex.field-0 c.deref.ensures.value c.deref-2.ensures.value forms c.requires.truths vals c.in_ok-cex.ensures)

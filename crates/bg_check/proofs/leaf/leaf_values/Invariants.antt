@@ -4,4 +4,4 @@ use Rattle.bg_check.proofs.leaf.leaf_values.Given as goal
 
 abbrev pub invariant-loop-j : goal.invariant-loop-j
 invariant-loop-j l =
-    l.made.items ++ scalars_from l.truths l.numbers.items l.j l.n (drop l.j l.sorts) ≡ scalars_from l.truths l.numbers.items 0 0 l.sorts
+    l.made.items ++ scalars_from l.truths l.numbers.items l.j l.n (drop l.j l.holdings) ≡ scalars_from l.truths l.numbers.items 0 0 l.holdings

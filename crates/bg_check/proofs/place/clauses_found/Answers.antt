@@ -1,11 +1,13 @@
-use Rattle.std.proofs.Common.{subst}
+use Rattle.std.proofs.Common.{subst, ℤ, List, ◌∙◌}
+use Rattle.bg_tree.specs.Ends.{IsLeaf}
+use Rattle.bg_point.specs.Points.{target_of}
 use Rattle.bg_text.specs.Views.{option_of}
 use Rattle.bg_ast.specs.Meaning.{meaning_of}
 use Rattle.bg_ast.specs.Views.{program_of, candidate_of}
 use Rattle.bg_cert.specs.Walks.{has}
 use Rattle.bg_formula.specs.Formulas.{formula_of}
 use Rattle.bg_places.specs.Views.{placed_of, spot_of}
-use Rattle.bg_tree.specs.Trees.{IsOutcome}
+use Rattle.bg_tree.specs.Trees.{IsOutcome, IsCause}
 use Rattle.bg_term_table.specs.Instances.{instances_of}
 use Rattle.bg_termed.specs.Termed.{sorts_in, behind_in}
 use Rattle.bg_task.specs.Slices.{encoding_in}
@@ -32,7 +34,7 @@ returns-in-Closed c =
       formula = formula_of c.args.f.now;
       is = clauses_here p n w c.requires.prepared es (spot_of c.args.question.place.now.spot) (option_of candidate_of c.args.question.place.now.candidate) c.args.cut.now (formula_of c.args.f.now) c.requires.slice c.requires.clauses;
       there = there_here p n w c.requires.prepared es c.requires.there;
-      accepted = subst (IsOutcome (formula_of c.args.f.now) (has c.args.question.set.now) c.args.left) c.in-Closed.is c.in_ok-cert.ensures;
+      accepted = subst (IsOutcome (target_of c.deref.result.now) (formula_of c.args.f.now) (has c.args.question.set.now) c.args.left) c.in-Closed.is c.in_ok-cert.ensures;
     }
 
 pub returns-in-Unknown : goal.returns-in-Unknown
@@ -40,8 +42,12 @@ returns-in-Unknown c =
     record {
       formula = formula_of c.args.f.now;
       is = clauses_here (program_of c.args.question.program.now) c.args.question.place.now.implementation c.args.question.prepared.now c.requires.prepared (instances_of c.args.instances.now) (spot_of c.args.question.place.now.spot) (option_of candidate_of c.args.question.place.now.candidate) c.args.cut.now (formula_of c.args.f.now) c.requires.slice c.requires.clauses;
-      cause = subst (IsOutcome (formula_of c.args.f.now) (has c.args.question.set.now) c.args.left) c.in-Unknown.is c.in_ok-cert.ensures;
+      cause = subst (λ (zs : List ℤ). IsCause (target_of zs) (formula_of c.args.f.now) (has c.args.question.set.now) c.args.left c.in-Unknown.why) (c.deref.ensures.value ∙ c.requires.prepared.targets) (subst (IsOutcome (target_of c.deref.result.now) (formula_of c.args.f.now) (has c.args.question.set.now) c.args.left) c.in-Unknown.is c.in_ok-cert.ensures);
     }
+
+pub leaf_found-requires-clause-leaf : goal.leaf_found-requires-clause-leaf
+leaf_found-requires-clause-leaf c =
+    subst (λ (zs : List ℤ). IsLeaf (target_of zs) (formula_of c.args.f.now) (has c.args.question.set.now) c.in-Leaf.leaf) c.deref.ensures.value (subst (IsOutcome (target_of c.deref.result.now) (formula_of c.args.f.now) (has c.args.question.set.now) c.args.left) c.in-Leaf.is c.in_ok-cert.ensures)
 
 pub returns-in-Leaf : goal.returns-in-Leaf
 returns-in-Leaf c =

@@ -1,6 +1,9 @@
-use Rattle.std.proofs.Common.{◌≡◌, List, length, map, sym, ap, ◌∙◌, subst, arith}
+use Rattle.std.proofs.Common.{◌≡◌, List, length, map, sym, ap, ◌∙◌, subst, arith, ℤ}
 use Rattle.std.proofs.lemmas.List.{length-map}
 use Rattle.std.proofs.lemmas.Result.{IfOk-weaker}
+use Rattle.bg_tree.specs.Ends.{IsLeaf}
+use Rattle.bg_point.specs.Points.{target_of}
+use Rattle.bg_cert.specs.Walks.{has}
 use Rattle.bg_text.specs.Views.{option_of}
 use Rattle.bg_ast.specs.Values.{Val}
 use Rattle.bg_ast.specs.Meaning.{meaning_of}
@@ -13,7 +16,7 @@ use Rattle.bg_scalar.specs.Views.{tables_in}
 use Rattle.bg_term_table.specs.Instances.{instances_of}
 use Rattle.bg_finish.specs.Finished.{AreReadOff, AreFalse, IsFinish}
 use Rattle.bg_termed.specs.Termed.{count_in, terms_in}
-use Rattle.bg_task.proofs.Prepares.{impl, proc, clauses_here}
+use Rattle.bg_task.proofs.Prepares.{impl, proc, impl_at, proc_at, clauses_here}
 use Rattle.bg_check.proofs.Placing.{values_from, truths_from, finish_here}
 use Rattle.bg_check.proofs.place.leaf_found.Goals as goal
 
@@ -26,9 +29,10 @@ unreachable-requires c =
     let f = formula_of c.args.f.now in
     let many : c.len.result ≡ length f.atoms = omega (arith, c.len.ensures, c.args.f.now.atoms.ok.0, length-map c.args.f.now.atoms.items atom_of) in
     let truths = c.in_ok-truths.ensures ∙ truths_from f c.args.leaf c.deref.result.now c.len.result c.deref.ensures.value many in
-    let values = ap (map val_of) c.in_ok-values.ensures ∙ values_from p n w h f c.args.leaf c.deref-2.result.now c.deref-3.result.now c.deref-4.result.now c.deref-2.ensures.value (c.deref-3.ensures.value ∙ truths) c.deref-4.ensures.value in
+    let mapless = c.implementations_over_scalars_have_no_maps.ensures.all (meaning_of p) n (impl p n w h) (proc p n w h) c.requires.typed c.requires.scalars (impl_at p n w h) (proc_at p n w h) in
+    let values = ap (map val_of) c.in_ok-values.ensures ∙ values_from p n w h f c.args.leaf mapless c.deref-2.result.now c.deref-3.result.now c.deref-4.result.now c.deref-2.ensures.value (c.deref-3.ensures.value ∙ truths) c.deref-4.ensures.value in
     let X = ap (map val_of) c.deref-7.ensures.value ∙ values in
-    let finish = finish_here p n w h f c.args.leaf c.implementations_over_scalars_have_scalars.ensures.scalar c.scalar_values_are_typed.ensures.all c.programs_over_scalars_are_tabled.ensures c.implementations_over_scalars_have_scalars.ensures.mapless c.passive_blocks_have_terms.ensures c.requires.typed c.requires.scalars c.deref-5.result.now c.deref-7.result.now c.deref-6.result.now c.in_ok-tables.field-0 (ap (map val_of) c.deref-5.ensures.value ∙ c.in_ok-defaults.ensures) X c.deref-6.ensures.value c.in_ok-tables.ensures in
+    let finish = finish_here p n w h f c.args.leaf c.built_values_are_typed.ensures.all c.programs_over_scalars_are_tabled.ensures c.implementations_over_scalars_have_no_maps.ensures.mapless c.passive_blocks_have_terms.ensures c.requires.typed c.requires.scalars c.deref-5.result.now c.deref-7.result.now c.deref-6.result.now c.in_ok-tables.field-0 (ap (map val_of) c.deref-5.ensures.value ∙ c.in_ok-defaults.ensures) X c.deref-6.ensures.value c.in_ok-tables.ensures in
     let came = subst (IsFinish (meaning_of p).functions (count_in (meaning_of p) n (impl p n w h) (proc p n w h)) (terms_in (meaning_of p) n (impl p n w h) (proc p n w h)) c.deref-7.result.now) c.in-NoScalars.is finish in
     came
 
@@ -47,7 +51,8 @@ failing-requires-clause-values c h =
     let f = formula_of c.args.f.now in
     let many : c.len.result ≡ length f.atoms = omega (arith, c.len.ensures, c.args.f.now.atoms.ok.0, length-map c.args.f.now.atoms.items atom_of) in
     let truths = c.in_ok-truths.ensures ∙ truths_from f c.args.leaf c.deref.result.now c.len.result c.deref.ensures.value many in
-    let values = ap (map val_of) c.in_ok-values.ensures ∙ values_from p n w h f c.args.leaf c.deref-2.result.now c.deref-3.result.now c.deref-4.result.now c.deref-2.ensures.value (c.deref-3.ensures.value ∙ truths) c.deref-4.ensures.value in
+    let mapless = c.implementations_over_scalars_have_no_maps.ensures.all (meaning_of p) n (impl p n w h) (proc p n w h) c.requires.typed c.requires.scalars (impl_at p n w h) (proc_at p n w h) in
+    let values = ap (map val_of) c.in_ok-values.ensures ∙ values_from p n w h f c.args.leaf mapless c.deref-2.result.now c.deref-3.result.now c.deref-4.result.now c.deref-2.ensures.value (c.deref-3.ensures.value ∙ truths) c.deref-4.ensures.value in
     ap (map val_of) c.deref-in-Tables-2.ensures.value ∙ values
 
 pub failing-requires-clause-read_off : goal.failing-requires-clause-read_off
@@ -58,9 +63,10 @@ failing-requires-clause-read_off c h =
     let f = formula_of c.args.f.now in
     let many : c.len.result ≡ length f.atoms = omega (arith, c.len.ensures, c.args.f.now.atoms.ok.0, length-map c.args.f.now.atoms.items atom_of) in
     let truths = c.in_ok-truths.ensures ∙ truths_from f c.args.leaf c.deref.result.now c.len.result c.deref.ensures.value many in
-    let values = ap (map val_of) c.in_ok-values.ensures ∙ values_from p n w h f c.args.leaf c.deref-2.result.now c.deref-3.result.now c.deref-4.result.now c.deref-2.ensures.value (c.deref-3.ensures.value ∙ truths) c.deref-4.ensures.value in
+    let mapless = c.implementations_over_scalars_have_no_maps.ensures.all (meaning_of p) n (impl p n w h) (proc p n w h) c.requires.typed c.requires.scalars (impl_at p n w h) (proc_at p n w h) in
+    let values = ap (map val_of) c.in_ok-values.ensures ∙ values_from p n w h f c.args.leaf mapless c.deref-2.result.now c.deref-3.result.now c.deref-4.result.now c.deref-2.ensures.value (c.deref-3.ensures.value ∙ truths) c.deref-4.ensures.value in
     let X = ap (map val_of) c.deref-7.ensures.value ∙ values in
-    let finish = finish_here p n w h f c.args.leaf c.implementations_over_scalars_have_scalars.ensures.scalar c.scalar_values_are_typed.ensures.all c.programs_over_scalars_are_tabled.ensures c.implementations_over_scalars_have_scalars.ensures.mapless c.passive_blocks_have_terms.ensures c.requires.typed c.requires.scalars c.deref-5.result.now c.deref-7.result.now c.deref-6.result.now c.in_ok-tables.field-0 (ap (map val_of) c.deref-5.ensures.value ∙ c.in_ok-defaults.ensures) X c.deref-6.ensures.value c.in_ok-tables.ensures in
+    let finish = finish_here p n w h f c.args.leaf c.built_values_are_typed.ensures.all c.programs_over_scalars_are_tabled.ensures c.implementations_over_scalars_have_no_maps.ensures.mapless c.passive_blocks_have_terms.ensures c.requires.typed c.requires.scalars c.deref-5.result.now c.deref-7.result.now c.deref-6.result.now c.in_ok-tables.field-0 (ap (map val_of) c.deref-5.ensures.value ∙ c.in_ok-defaults.ensures) X c.deref-6.ensures.value c.in_ok-tables.ensures in
     let came = subst (IsFinish (meaning_of p).functions (count_in (meaning_of p) n (impl p n w h) (proc p n w h)) (terms_in (meaning_of p) n (impl p n w h) (proc p n w h)) c.deref-7.result.now) c.in-Tables.is finish in
     subst (λ (vs : List Val). AreReadOff (meaning_of p).functions (count_in (meaning_of p) n (impl p n w h) (proc p n w h)) (terms_in (meaning_of p) n (impl p n w h) (proc p n w h)) vs (tables_of (tables_in c.in-Tables.tables.items))) (ap (map val_of) (c.deref-7.ensures.value ∙ sym c.deref-in-Tables-2.ensures.value)) came
 
@@ -77,15 +83,16 @@ returns-in-Instances c left =
     let f = formula_of c.args.f.now in
     let many : c.len.result ≡ length f.atoms = omega (arith, c.len.ensures, c.args.f.now.atoms.ok.0, length-map c.args.f.now.atoms.items atom_of) in
     let truths = c.in_ok-truths.ensures ∙ truths_from f c.args.leaf c.deref.result.now c.len.result c.deref.ensures.value many in
-    let values = ap (map val_of) c.in_ok-values.ensures ∙ values_from p n w h f c.args.leaf c.deref-2.result.now c.deref-3.result.now c.deref-4.result.now c.deref-2.ensures.value (c.deref-3.ensures.value ∙ truths) c.deref-4.ensures.value in
+    let mapless = c.implementations_over_scalars_have_no_maps.ensures.all (meaning_of p) n (impl p n w h) (proc p n w h) c.requires.typed c.requires.scalars (impl_at p n w h) (proc_at p n w h) in
+    let values = ap (map val_of) c.in_ok-values.ensures ∙ values_from p n w h f c.args.leaf mapless c.deref-2.result.now c.deref-3.result.now c.deref-4.result.now c.deref-2.ensures.value (c.deref-3.ensures.value ∙ truths) c.deref-4.ensures.value in
     let X = ap (map val_of) c.deref-7.ensures.value ∙ values in
-    let finish = finish_here p n w h f c.args.leaf c.implementations_over_scalars_have_scalars.ensures.scalar c.scalar_values_are_typed.ensures.all c.programs_over_scalars_are_tabled.ensures c.implementations_over_scalars_have_scalars.ensures.mapless c.passive_blocks_have_terms.ensures c.requires.typed c.requires.scalars c.deref-5.result.now c.deref-7.result.now c.deref-6.result.now c.in_ok-tables.field-0 (ap (map val_of) c.deref-5.ensures.value ∙ c.in_ok-defaults.ensures) X c.deref-6.ensures.value c.in_ok-tables.ensures in
+    let finish = finish_here p n w h f c.args.leaf c.built_values_are_typed.ensures.all c.programs_over_scalars_are_tabled.ensures c.implementations_over_scalars_have_no_maps.ensures.mapless c.passive_blocks_have_terms.ensures c.requires.typed c.requires.scalars c.deref-5.result.now c.deref-7.result.now c.deref-6.result.now c.in_ok-tables.field-0 (ap (map val_of) c.deref-5.ensures.value ∙ c.in_ok-defaults.ensures) X c.deref-6.ensures.value c.in_ok-tables.ensures in
     let came = subst (IsFinish (meaning_of p).functions (count_in (meaning_of p) n (impl p n w h) (proc p n w h)) (terms_in (meaning_of p) n (impl p n w h) (proc p n w h)) c.deref-7.result.now) c.in-Instances.is finish in
     let is = clauses_here p n w h (instances_of c.args.instances.now) (spot_of c.args.question.place.now.spot) (option_of candidate_of c.args.question.place.now.candidate) c.args.cut.now f c.requires.slice c.requires.clauses in
     record {
       formula = f;
       is = is;
-      is_leaf = c.requires.leaf;
+      is_leaf = subst (λ (zs : List ℤ). IsLeaf (target_of zs) f (has c.args.question.set.now) c.args.leaf) c.requires.prepared.targets c.requires.leaf;
       wanted = subst (λ (vs : List Val). AreFalse (count_in (meaning_of p) n (impl p n w h) (proc p n w h)) (terms_in (meaning_of p) n (impl p n w h) (proc p n w h)) vs (instances_of c.in-Instances.more.items)) X came;
     }
 
@@ -98,9 +105,10 @@ returns-in-Leaves c left =
     let f = formula_of c.args.f.now in
     let many : c.len.result ≡ length f.atoms = omega (arith, c.len.ensures, c.args.f.now.atoms.ok.0, length-map c.args.f.now.atoms.items atom_of) in
     let truths = c.in_ok-truths.ensures ∙ truths_from f c.args.leaf c.deref.result.now c.len.result c.deref.ensures.value many in
-    let values = ap (map val_of) c.in_ok-values.ensures ∙ values_from p n w h f c.args.leaf c.deref-2.result.now c.deref-3.result.now c.deref-4.result.now c.deref-2.ensures.value (c.deref-3.ensures.value ∙ truths) c.deref-4.ensures.value in
+    let mapless = c.implementations_over_scalars_have_no_maps.ensures.all (meaning_of p) n (impl p n w h) (proc p n w h) c.requires.typed c.requires.scalars (impl_at p n w h) (proc_at p n w h) in
+    let values = ap (map val_of) c.in_ok-values.ensures ∙ values_from p n w h f c.args.leaf mapless c.deref-2.result.now c.deref-3.result.now c.deref-4.result.now c.deref-2.ensures.value (c.deref-3.ensures.value ∙ truths) c.deref-4.ensures.value in
     let X = ap (map val_of) c.deref-7.ensures.value ∙ values in
-    let finish = finish_here p n w h f c.args.leaf c.implementations_over_scalars_have_scalars.ensures.scalar c.scalar_values_are_typed.ensures.all c.programs_over_scalars_are_tabled.ensures c.implementations_over_scalars_have_scalars.ensures.mapless c.passive_blocks_have_terms.ensures c.requires.typed c.requires.scalars c.deref-5.result.now c.deref-7.result.now c.deref-6.result.now c.in_ok-tables.field-0 (ap (map val_of) c.deref-5.ensures.value ∙ c.in_ok-defaults.ensures) X c.deref-6.ensures.value c.in_ok-tables.ensures in
+    let finish = finish_here p n w h f c.args.leaf c.built_values_are_typed.ensures.all c.programs_over_scalars_are_tabled.ensures c.implementations_over_scalars_have_no_maps.ensures.mapless c.passive_blocks_have_terms.ensures c.requires.typed c.requires.scalars c.deref-5.result.now c.deref-7.result.now c.deref-6.result.now c.in_ok-tables.field-0 (ap (map val_of) c.deref-5.ensures.value ∙ c.in_ok-defaults.ensures) X c.deref-6.ensures.value c.in_ok-tables.ensures in
     let came = subst (IsFinish (meaning_of p).functions (count_in (meaning_of p) n (impl p n w h) (proc p n w h)) (terms_in (meaning_of p) n (impl p n w h) (proc p n w h)) c.deref-7.result.now) c.in-Leaves.is finish in
     let is = clauses_here p n w h (instances_of c.args.instances.now) (spot_of c.args.question.place.now.spot) (option_of candidate_of c.args.question.place.now.candidate) c.args.cut.now f c.requires.slice c.requires.clauses in
-    record { formula = f; is = is; is_leaf = c.requires.leaf; values = c.deref-7.result.now; are = X; leaves = came }
+    record { formula = f; is = is; is_leaf = subst (λ (zs : List ℤ). IsLeaf (target_of zs) f (has c.args.question.set.now) c.args.leaf) c.requires.prepared.targets c.requires.leaf; values = c.deref-7.result.now; are = X; leaves = came }

@@ -8,5 +8,5 @@ use Rattle.bg_confirm.proofs.functions.entries_fit.Given as goal
 
 abbrev pub invariant-loop-entry : goal.invariant-loop-entry
 invariant-loop-entry l =
-    entries_fit (m.fun_of (named_of (map type_name_of l.types)) (fun_of l.f)) (map entry_of (drop l.entry-index l.entries))
-    ≡ entries_fit (m.fun_of (named_of (map type_name_of l.types)) (fun_of l.f)) (map entry_of l.entries)
+    entries_fit (map type_name_of l.types) (m.fun_of (named_of (map type_name_of l.types)) (fun_of l.f)) (map entry_of (drop l.entry-index l.entries))
+    ≡ entries_fit (map type_name_of l.types) (m.fun_of (named_of (map type_name_of l.types)) (fun_of l.f)) (map entry_of l.entries)

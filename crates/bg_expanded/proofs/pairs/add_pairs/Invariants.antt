@@ -1,8 +1,10 @@
-use Rattle.std.proofs.Common.{ℕ, List, ◌+◌, ◌*◌}
-use Rattle.bg_expanded.specs.Bodies.{IsAlike, worth}
-use Rattle.bg_expanded.specs.Pairs.{pair_count}
+use Rattle.std.proofs.Common.{ℕ, List}
+use Rattle.bg_expanded.specs.Bodies.{worth}
+use Rattle.bg_expanded.proofs.Tallies.{Counts, Has}
 use Rattle.bg_expanded.proofs.pairs.add_pairs.Given as goal
 
-abbrev pub invariant-loop-before : goal.invariant-loop-before
-invariant-loop-before l =
-    (ws : List ℕ) → IsAlike (worth l.count ws) (worth l.fn.count ws + 3 * pair_count l.before)
+abbrev pub invariant-loop-done : goal.invariant-loop-done
+invariant-loop-done l = record {
+  counts : Counts l.told l.later l.done;
+  has : (ws : List ℕ) → Has l.told (worth l.fn.count ws) (worth l.count ws) l.done;
+}

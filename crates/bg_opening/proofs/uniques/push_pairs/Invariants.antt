@@ -6,4 +6,4 @@ use Rattle.bg_opening.proofs.uniques.push_pairs.Given as goal
 
 abbrev pub invariant-loop-place : goal.invariant-loop-place
 invariant-loop-place l =
-    map ex_of l.out.items ++ map apart (pairs (drop l.place l.ks)) ≡ map ex_of l.fn.out.items ++ map apart (pairs l.ks)
+    map ex_of l.out.items ++ map apart (pairs (drop l.place l.told)) ≡ map ex_of l.fn.out.items ++ map apart (pairs l.told)

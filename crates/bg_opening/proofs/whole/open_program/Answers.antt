@@ -3,7 +3,7 @@ use Rattle.std.proofs.lemmas.List.{length-map, map-append}
 use Rattle.bg_ast.specs.Views.{ex_of, const_of, fun_of, declared_of, proc_of, impl_of, program_of}
 use Rattle.bg_opened.specs.Unique.{unique_pairs}
 use Rattle.bg_opened.specs.Written as w
-use Rattle.bg_opening.specs.Scalars.{constants_in}
+use Rattle.bg_opening.specs.Constants.{constants_in}
 use Rattle.bg_opening.proofs.OpenedWhole.{whole_is}
 use Rattle.bg_opening.proofs.whole.open_program.Goals as goal
 

@@ -1,6 +1,6 @@
 use Rattle.std.proofs.Common.{◌≡◌, ◌<◌, ◌-◌, length, map, arith, refl, subst, rules}
 use Rattle.bg_rows.specs.Rows.{row_of}
-use Rattle.bg_point.specs.Points.{value_of}
+use Rattle.bg_point.specs.Points.{value_of, target_of}
 use Rattle.bg_point.specs.Spans.{IsNext}
 use Rattle.bg_point.specs.declared.span.Next.TheVariants.{Value, Empty, Refused}
 use Rattle.bg_point.proofs.Upto.{Upto, turn_of, at_start, at_end, value_step, gap_step, far_step, ordered_from}
@@ -11,7 +11,7 @@ loop-i-init c =
     let o = ordered_from c.requires.solved.0 c.args.order.now c.requires.solved.1 in
     let n : c.len-i.result ≡ length c.args.order.now.variables.items = search rules in
     let e = c.new-spots.ensures.items in
-    record { within = omega arith; upto = rw (n, e) (at_start c.args.order.now.variables.items (map row_of c.args.order.now.rows.items) o) }
+    record { within = omega arith; upto = rw (n, e) (at_start (target_of c.args.targets.now) c.args.order.now.variables.items (map row_of c.args.order.now.rows.items) o) }
 
 pub loop-i-preserved : goal.loop-i-preserved
 loop-i-preserved c =
@@ -23,9 +23,9 @@ loop-i-preserved c =
     let spots = c.loop-i.spots.items in
     let p : 0 < c.loop-i.i = omega arith in
     let t = turn_of order c.loop-i.i (c.loop-i.i - 1) x p i.within refl c.index-x.ensures in
-    let n = subst (λ ss. IsNext order rows (value_of ss) x (Value c.in-Value.spot)) c.deref.ensures.value c.in-Value.ensures in
+    let n = subst (λ ss. IsNext (target_of c.args.targets.now) order rows (value_of ss) x (Value c.in-Value.spot)) c.deref.ensures.value c.in-Value.ensures in
     let w = i.within in
-    record { within = omega arith; upto = rw c.in_ok-push-in-Value.ensures.items (value_step order rows c.loop-i.i x (c.loop-i.i - 1) spots c.in-Value.spot o t i.upto n) }
+    record { within = omega arith; upto = rw c.in_ok-push-in-Value.ensures.items (value_step (target_of c.args.targets.now) order rows c.loop-i.i x (c.loop-i.i - 1) spots c.in-Value.spot o t i.upto n) }
 
 pub returns-in-Empty : goal.returns-in-Empty
 returns-in-Empty c =
@@ -37,8 +37,8 @@ returns-in-Empty c =
     let spots = c.loop-i.spots.items in
     let p : 0 < c.loop-i.i = omega arith in
     let t = turn_of order c.loop-i.i (c.loop-i.i - 1) x p i.within refl c.index-x.ensures in
-    let n = subst (λ ss. IsNext order rows (value_of ss) x (Empty c.in-Empty.gap)) c.deref.ensures.value c.in-Empty.ensures in
-    gap_step order rows c.loop-i.i x (c.loop-i.i - 1) spots c.in-Empty.gap o t i.upto n
+    let n = subst (λ ss. IsNext (target_of c.args.targets.now) order rows (value_of ss) x (Empty c.in-Empty.gap)) c.deref.ensures.value c.in-Empty.ensures in
+    gap_step (target_of c.args.targets.now) order rows c.loop-i.i x (c.loop-i.i - 1) spots c.in-Empty.gap o t i.upto n
 
 pub returns-in-Refused : goal.returns-in-Refused
 returns-in-Refused c =
@@ -50,11 +50,11 @@ returns-in-Refused c =
     let spots = c.loop-i.spots.items in
     let p : 0 < c.loop-i.i = omega arith in
     let t = turn_of order c.loop-i.i (c.loop-i.i - 1) x p i.within refl c.index-x.ensures in
-    let n = subst (λ ss. IsNext order rows (value_of ss) x (Refused c.in-Refused.far)) c.deref.ensures.value c.in-Refused.ensures in
-    far_step order rows c.loop-i.i x (c.loop-i.i - 1) spots c.in-Refused.far o t i.upto n
+    let n = subst (λ ss. IsNext (target_of c.args.targets.now) order rows (value_of ss) x (Refused c.in-Refused.far)) c.deref.ensures.value c.in-Refused.ensures in
+    far_step (target_of c.args.targets.now) order rows c.loop-i.i x (c.loop-i.i - 1) spots c.in-Refused.far o t i.upto n
 
 pub returns : goal.returns
 returns c =
     let z : c.loop-i.i ≡ 0 = omega arith in
-    let u = subst (λ k. Upto c.args.order.now.variables.items (map row_of c.args.order.now.rows.items) k c.loop-i.spots.items) z c.loop-i.invariant.upto in
-    at_end c.args.order.now.variables.items (map row_of c.args.order.now.rows.items) c.loop-i.spots.items u
+    let u = subst (λ k. Upto (target_of c.args.targets.now) c.args.order.now.variables.items (map row_of c.args.order.now.rows.items) k c.loop-i.spots.items) z c.loop-i.invariant.upto in
+    at_end (target_of c.args.targets.now) c.args.order.now.variables.items (map row_of c.args.order.now.rows.items) c.loop-i.spots.items u

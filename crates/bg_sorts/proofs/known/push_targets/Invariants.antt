@@ -1,9 +1,9 @@
 use Rattle.std.proofs.Common.{◌≡◌, ◌++◌, drop, map}
 use Rattle.bg_ast.specs.Views.{target_of}
 use Rattle.bg_blocks.specs.Views.{target_variable}
-use Rattle.bg_sorts.specs.Views.{sorts_in}
+use Rattle.bg_sorts.specs.Views.{holdings_in}
 use Rattle.bg_sorts.proofs.known.push_targets.Given as goal
 
 abbrev pub invariant-loop-t : goal.invariant-loop-t
 invariant-loop-t l =
-    l.made.items ++ map (sorts_in l.known) (map target_variable (map target_of (drop l.t-index l.targets))) ≡ l.fn.made.items ++ map (sorts_in l.known) (map target_variable (map target_of l.targets))
+    l.made.items ++ map (holdings_in l.known) (map target_variable (map target_of (drop l.t-index l.targets))) ≡ l.fn.made.items ++ map (holdings_in l.known) (map target_variable (map target_of l.targets))

@@ -27,7 +27,7 @@ unreachable-requires c =
     ∙ (ap (λ ts. in_front (stated w.count (table.terms_in P.functions ts) es) (map passive_block_of c.deref-2.result.now)) c.deref.ensures.value
     ∙ ap (in_front (stated w.count (table.terms_in P.functions w.terms.items) es)) flats) in
     let blocks = ap (map passive_block_of) c.deref-4.ensures.value ∙ behind_is p n w h c.requires.typed c.requires.scalars c.requires.terms es (map passive_block_of c.in_ok-blocks.blocks.items) made in
-    let law = sort_law c.programs_over_scalars_are_tabled.ensures c.implementations_over_scalars_have_scalars.ensures.mapless c.implementations_over_scalars_have_scalars.ensures.linear c.blocks_behind_instances_are_sorted.ensures in
+    let law = sort_law c.programs_over_scalars_are_tabled.ensures c.implementations_over_scalars_have_no_maps.ensures.mapless c.implementations_over_scalars_have_no_maps.ensures.linear c.blocks_behind_instances_are_sorted.ensures in
     let sorted = sorted_behind p n w h c.requires.typed c.requires.scalars c.requires.terms law es c.deref-3.result.now c.in_ok-candidates.candidates (map passive_block_of c.deref-4.result.now) c.deref-3.ensures.value c.in_ok-candidates.ensures blocks in
     let bad : false ≡ true = sym (ap is_some c.in-None.is) ∙ (c.in_ok-made.ensures.none ∙ sorted) in
     cc

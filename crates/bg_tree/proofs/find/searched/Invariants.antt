@@ -1,4 +1,5 @@
 use Rattle.std.proofs.Common.{◌≡◌, ◌*◌, ◌≤◌, length}
+use Rattle.bg_point.specs.Points.{target_of}
 use Rattle.bg_formula.specs.Formulas.{formula_of}
 use Rattle.bg_cert.specs.Walks.{IsWalk, atoms_on, stack_of, has}
 use Rattle.bg_pick.specs.Marks.{marks_of, AllReady}
@@ -12,12 +13,12 @@ invariant-loop-s l =
     record {
       walks : IsWalk l.s.walk;
       sized : atoms_on l.s.walk ≡ length l.problem.formula.now.atoms.items;
-      told : Told (formula_of l.problem.formula.now) (has l.problem.set.now) (20 * l.budget.nodes) l.s;
+      told : Told (target_of l.problem.targets.now) (formula_of l.problem.formula.now) (has l.problem.set.now) (20 * l.budget.nodes) l.s;
       tallied : Tallied (formula_of l.problem.formula.now) (has l.problem.set.now) l.budget.nodes l.s;
       kept : KeepsCount (formula_of l.problem.formula.now) (has l.problem.set.now) l.s;
       within : l.s.inner ≤ 20 * l.budget.nodes;
       whole : Whole (formula_of l.problem.formula.now) (has l.problem.set.now) l.s;
-      paths : ArePaths (formula_of l.problem.formula.now) (has l.problem.set.now) (stack_of (formula_of l.problem.formula.now) l.s.walk);
+      paths : ArePaths (target_of l.problem.targets.now) (formula_of l.problem.formula.now) (has l.problem.set.now) (stack_of (formula_of l.problem.formula.now) l.s.walk);
       ready : AllReady (formula_of l.problem.formula.now) (has l.problem.set.now) l.problem.index.now (stack_of (formula_of l.problem.formula.now) l.s.walk) (marks_of l.guide);
     }
 

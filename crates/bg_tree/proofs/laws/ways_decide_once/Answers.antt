@@ -6,4 +6,4 @@ pub returns-clause-once : goal.returns-clause-once
 returns-clause-once c = way_once
 
 pub returns-clause-bounds : goal.returns-clause-bounds
-returns-clause-bounds c = λ f set ds w. way_bounds f set (root f) ds w
+returns-clause-bounds c = λ targets f set ds w. way_bounds targets f set (root f) ds w
