@@ -16,8 +16,8 @@ then_ (Some x) f = f x
 abbrev pub term_in : ℕ → ℕ → Option ℕ
 term_in n a = if nat_lt a n then Some a else None
 
--- A line as an instance, where so many terms are there: the congruence of two of these. A program over truth values and whole numbers
--- has no maps, and its constants are no terms; so a line of another kind names what isn't there
+-- A line as an instance, where so many terms are there: the congruence of two of these. A program over truth values, whole numbers and
+-- elements of user types has no maps, and its constants are no terms; so a line of another kind names what isn't there
 abbrev pub instance_in : ℕ → Stated → Option Instance
 instance_in n (said.Congruent a b) = then_ (term_in n a) (λ i. then_ (term_in n b) (λ j. Some (Congruent i j)))
 instance_in n _ = None

@@ -37,7 +37,7 @@ pub record AreTables (p : r.Program) (ss : List SectionOf) (t : Tables) : Type 0
   pub places : ArePlaces p t.all.items
   pub firsts : AreFirsts t.all.items ss t.firsts.items
 
--- a typed program over truth values and whole numbers, sections that have a text, and their tables
+-- a typed program over truth values, whole numbers and elements of user types, sections that have a text, and their tables
 pub record IsReading (q : Reading) : Type 0 where
   pub typed : IsTyped (meaning_of (program_of q.program.now))
   pub scalars : is_over_scalars true (meaning_of (program_of q.program.now)) ≡ true

@@ -13,8 +13,8 @@ use bg_places::laws::placed_are_places;
 use bg_sense::laws::what_fails_at_no_place_is_safe;
 use bg_task::laws::{a_place_has_one_list_of_clauses, accepted_places_do_not_fail};
 
-/// Where a typed program over truth values and whole numbers accepts a certificate, the retained candidates are an inductive set, and
-/// under it no execution of an implementation fails, of any number of steps.
+/// Where a typed program over truth values, whole numbers and elements of user types accepts a certificate, the retained candidates are
+/// an inductive set, and under it no execution of an implementation fails, of any number of steps.
 pub fn accepted_programs_are_safe()
     ensures { (p : Program) (c : CertOf) → IsTyped (meaning_of p) → is_over_scalars true (meaning_of p) ≡ true → IsAccepted p c →
         (IsSetOf (meaning_of p) (retained_by p c)) × (Inductive (meaning_of p) (retained_by p c)) × ((k : ℕ) → k < length p.implementations → Safe (meaning_of p) (retained_by p c) k) }

@@ -71,8 +71,8 @@ fn check_sections<'c>(
     answer(alloc, program, cert, set, &tables)
 }
 
-/// Whether a typed program over truth values and whole numbers accepts a certificate that has a text, or the first reason why not.
-/// Takes time for each part of the program and of the text, and memory for one place's clauses at a time.
+/// Whether a typed program over truth values, whole numbers and elements of user types accepts a certificate that has a text, or the
+/// first reason why not. Takes time for each part of the program and of the text, and memory for one place's clauses at a time.
 ///
 /// Only want of memory is an error; 2^32 incarnations and terms, or atoms, of an implementation count as such.
 pub fn check<'c>(

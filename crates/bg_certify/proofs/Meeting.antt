@@ -5,14 +5,15 @@ use Rattle.std.proofs.lemmas.List.{length-map}
 use Rattle.bg_ast.specs.Syntax.{Impl, Proc, Const, Prog}
 use Rattle.bg_ast.specs.Resolved as r
 use Rattle.bg_ast.specs.Meaning.{meaning_of}
-use Rattle.bg_fits.specs.Holdings.{holdings_of}
 use Rattle.bg_sense.specs.Flow.{Failed}
 use Rattle.bg_sense.specs.Types.{are_of, types_of}
 use Rattle.bg_sense.specs.Variables.{procedure_of}
 use Rattle.bg_flow.specs.Core.{frame_decls}
 use Rattle.bg_block_types.specs.Typed.{blocks_in}
-use Rattle.bg_scalar.specs.Tables.{TableOf}
-use Rattle.bg_scalar.specs.Views.{tables_in}
+use Rattle.bg_ast.specs.Values.{Val}
+use Rattle.bg_scalar.specs.Choices.{choice_of}
+use Rattle.bg_scalar.specs.Views.{tables_in, vals_in}
+use Rattle.bg_scalar.specs.declared.table.Table.{Table}
 use Rattle.bg_scalar.specs.Values.{val_of}
 use Rattle.bg_scalar.specs.declared.scalar.Scalar.{Scalar}
 use Rattle.bg_replay.specs.Moments.{Around}
@@ -36,7 +37,7 @@ use Rattle.bg_inference.specs.declared.outcome.Outcome.{Outcome}
 use Rattle.bg_inference.specs.Outcomes.{IsTrueOutcome}
 use Rattle.bg_certtext.specs.Views.{ValueOf, GivenOf, InterpOf, CertOf}
 use Rattle.bg_confirm.specs.Typed.{values_fit}
-use Rattle.bg_confirm.specs.Met.{scalars_in, run_in, axioms_of, constants_hold, values_in, IsMet}
+use Rattle.bg_confirm.specs.Met.{vals_for, run_in, axioms_of, constant_types, values_in, IsMet}
 use Rattle.bg_confirm.specs.Accepted.{AreMet, IsInterpMet}
 use Rattle.bg_confirm.proofs.Candidates.{M, Q}
 use Rattle.bg_certify.specs.Given.{value_of, givens, interp_by, type_names, constant_names}
@@ -50,7 +51,7 @@ const_count : (ks : List Const) → length (types_of (map global_for ks)) ≡ le
 const_count [] = refl
 const_count (k ∷ ks) = let h = const_count ks in omega (arith, h)
 
-no_frame : (xs : List Scalar) → are_of [] (map val_of xs) ≡ true → xs ≡ []
+no_frame : (xs : List Val) → are_of [] xs ≡ true → xs ≡ []
 no_frame [] h = refl
 no_frame (x ∷ xs) h = absurd (let f : false ≡ true = h in cc)
 
@@ -64,8 +65,8 @@ module _ (budget : Budget) (p : r.Program) (set : ℕ → Bool) (cex : Counterex
   abbrev gs : List GivenOf
   gs = givens (type_names p.types) (constant_names p.constants) xs
 
-  abbrev ts : List TableOf
-  ts = tables_in cex.tables.items
+  abbrev ts : List Table
+  ts = cex.tables.items
 
   abbrev its : InterpOf
   its = record { constants = gs; functions = given_to p.types p.functions ts }
@@ -79,37 +80,37 @@ module _ (budget : Budget) (p : r.Program) (set : ℕ → Bool) (cex : Counterex
   values : values_in its ≡ map (value_of (type_names p.types)) xs
   values = values_given p.types (constant_names p.constants) xs count
 
-  back : scalars_in (constants_hold p) (values_in its) ≡ xs
+  back : vals_for (constant_types p) (values_in its) ≡ vals_in xs
   back =
-      ap (λ (vs : List ValueOf). scalars_in (constants_hold p) vs) values
+      ap (λ (vs : List ValueOf). vals_for (constant_types p) vs) values
       ∙ held_back p.types (axioms_of p).globals xs right.0.state.globals
 
-  frame : cex.frame.items ≡ []
-  frame = no_frame cex.frame.items right.0.state.frame
+  frame : vals_in cex.frame.items ≡ []
+  frame = no_frame (vals_in cex.frame.items) right.0.state.frame
 
   -- the run of the counterexample, of these
-  abbrev ran : Impl → Proc → List Scalar → List Scalar → Said
+  abbrev ran : Impl → Proc → List Val → List Val → Said
   ran m q ys fs =
       runs
-      (record { set = set; tables = ts; before = ys; globals = holdings_of (axioms_of p).globals; frame = holdings_of (frame_decls m q) })
-      0 (blocks_in (axioms_of p) 0 m q) (moment_in ys fs cex.choices.items)
+      (record { set = set; tables = tables_in ts; before = ys; globals = types_of (axioms_of p).globals; frame = types_of (frame_decls m q) })
+      0 (blocks_in (axioms_of p) 0 m q) (moment_in ys fs (map choice_of cex.choices.items))
 
-  says : (m : Impl) (q : Proc) → M most_bodies P ≡ m → Q most_bodies P ≡ q → ran m q xs cex.frame.items ≡ Stops (Failed axiom_place.spot) → run_in (axioms_of p) set 0 m q ts (scalars_in (constants_hold p) (values_in its)) ≡ Stops (Failed axiom_place.spot)
+  says : (m : Impl) (q : Proc) → M most_bodies P ≡ m → Q most_bodies P ≡ q → ran m q (vals_in xs) (vals_in cex.frame.items) ≡ Stops (Failed axiom_place.spot) → run_in (axioms_of p) set 0 m q (tables_in ts) (vals_for (constant_types p) (values_in its)) ≡ Stops (Failed axiom_place.spot)
   says m q em eq h =
       let around : Around = record {
         set = set;
-        tables = ts;
-        before = xs;
-        globals = holdings_of (axioms_of p).globals;
-        frame = holdings_of (frame_decls (M most_bodies P) (Q most_bodies P));
+        tables = tables_in ts;
+        before = vals_in xs;
+        globals = types_of (axioms_of p).globals;
+        frame = types_of (frame_decls (M most_bodies P) (Q most_bodies P));
       } in
-      ap (λ (ys : List Scalar). run_in (axioms_of p) set 0 m q ts ys) back
-      ∙ (ap (λ (n : Impl). run_in (axioms_of p) set 0 n q ts xs) (sym em)
-      ∙ (ap (λ (n : Proc). run_in (axioms_of p) set 0 (M most_bodies P) n ts xs) (sym eq)
-      ∙ (sym (runs_straight around 0 (blocks_in (axioms_of p) 0 (M most_bodies P) (Q most_bodies P)) (moment_in xs [] cex.choices.items) (blocks_straight most_bodies P))
-      ∙ (ap (λ (n : Proc). ran (M most_bodies P) n xs []) eq
-      ∙ (ap (λ (n : Impl). ran n q xs []) em
-      ∙ (ap (λ (fs : List Scalar). ran m q xs fs) (sym frame) ∙ h))))))
+      ap (λ (ys : List Val). run_in (axioms_of p) set 0 m q (tables_in ts) ys) back
+      ∙ (ap (λ (n : Impl). run_in (axioms_of p) set 0 n q (tables_in ts) (vals_in xs)) (sym em)
+      ∙ (ap (λ (n : Proc). run_in (axioms_of p) set 0 (M most_bodies P) n (tables_in ts) (vals_in xs)) (sym eq)
+      ∙ (sym (runs_straight around 0 (blocks_in (axioms_of p) 0 (M most_bodies P) (Q most_bodies P)) (moment_in (vals_in xs) [] (map choice_of cex.choices.items)) (blocks_straight most_bodies P))
+      ∙ (ap (λ (n : Proc). ran (M most_bodies P) n (vals_in xs) []) eq
+      ∙ (ap (λ (n : Impl). ran n q (vals_in xs) []) em
+      ∙ (ap (λ (fs : List Val). ran m q (vals_in xs) fs) (sym frame) ∙ h))))))
 
   met : IsMet p its
   met =
@@ -121,10 +122,10 @@ module _ (budget : Budget) (p : r.Program) (set : ℕ → Bool) (cex : Counterex
       record {
         named = names_back p.types (constant_names p.constants) xs count;
         typed =
-            ap (λ (vs : List ValueOf). values_fit p.types (constants_hold p) vs) values
+            ap (λ (vs : List ValueOf). values_fit p.types (constant_types p) vs) values
             ∙ held_fit p.types (axioms_of p).globals xs right.0.state.globals;
         functions = functions_back p.types p.functions ts right.0.meets.interp.tables;
-        tables = ts;
+        tables = tables_in ts;
         are_its = tables_back p.types p.functions ts right.0.meets.interp.tables;
         typed_tables = right.0.meets.interp.tables;
         set = set;

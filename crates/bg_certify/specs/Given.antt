@@ -1,13 +1,13 @@
 -- Values of constants and tables of functions, as a certificate has them.
-use Rattle.std.specs.Prelude.{ℕ, Bool, if◌then◌else◌, List, [], ◌∷◌, map, Option, Some, None, slice_get}
+use Rattle.std.specs.Prelude.{ℕ, Bool, if◌then◌else◌, List, [], ◌∷◌, map, Option, Some, None, Vec, slice_get}
+use Rattle.std.specs.declared.alloc.Global.{Global}
 use Rattle.bg_ast.specs.Resolved as r
 use Rattle.bg_scalar.specs.declared.scalar.Scalar.{Scalar}
 use Rattle.bg_scalar.specs.declared.scalar.Scalar.TheVariants as scalar
 use Rattle.bg_check.specs.declared.verdict.Verdict.{Verdict}
 use Rattle.bg_check.specs.declared.verdict.Verdict.TheVariants.{Proved, Refuted, Unknown}
 use Rattle.bg_certtext.specs.Views as value
-use Rattle.bg_scalar.specs.Tables.{TableOf}
-use Rattle.bg_scalar.specs.Views.{tables_in}
+use Rattle.bg_scalar.specs.declared.table.Table.{Table}
 use Rattle.bg_certtext.specs.Views.{ValueOf, GivenOf, EntryOf, FunctionOf, InterpOf}
 
 -- a name of a list; nothing where there is none
@@ -29,14 +29,15 @@ module _ (types : List (List ℕ)) where
   givens (n ∷ ns) (x ∷ xs) = record { name = n; value = value_of x } ∷ givens ns xs
 
   -- an entry of a function's table, and the table
-  abbrev pub entry_of : List Scalar × Scalar → EntryOf
-  entry_of e = record { key = map value_of e.0; value = value_of e.1 }
+  abbrev pub entry_of : Vec Scalar Global × Scalar → EntryOf
+  entry_of e = record { key = map value_of e.0.items; value = value_of e.1 }
 
-  abbrev pub function_of : List ℕ → TableOf → FunctionOf
-  function_of name t = record { name = name; entries = map entry_of t.entries; default = value_of t.default }
+  abbrev pub function_of : List ℕ → Table → FunctionOf
+  function_of name t =
+      record { name = name; entries = map entry_of t.entries.entries; default = value_of t.default }
 
   -- the tables of functions with these names, but for those that have a body, as far as all go
-  abbrev pub functions : List (List ℕ) → List Bool → List TableOf → List FunctionOf
+  abbrev pub functions : List (List ℕ) → List Bool → List Table → List FunctionOf
   functions [] bodies ts = []
   functions (n ∷ ns) [] ts = []
   functions (n ∷ ns) (b ∷ bs) [] = []
@@ -53,7 +54,7 @@ pub record NamesOf : Type 0 where
 abbrev pub interp_by : NamesOf → Verdict → Option InterpOf
 interp_by names (Proved es cert) = None
 interp_by names (Refuted cex) =
-    Some (record { constants = givens names.types names.constants cex.globals.items; functions = functions names.types names.functions names.bodies (tables_in cex.tables.items) })
+    Some (record { constants = givens names.types names.constants cex.globals.items; functions = functions names.types names.functions names.bodies cex.tables.items })
 interp_by names (Unknown rounds cause) = None
 
 -- the names of constants, and of the variables that stand for them

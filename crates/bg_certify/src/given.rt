@@ -1,7 +1,6 @@
 //! Values of constants and tables of functions, as a certificate has them.
 ghost use Rattle.std.specs.Prelude.{◌≡◌, map, option_map, drop, slice_get, IfOk};
 ghost use Rattle.bg_ast.specs.Views.{type_name_of, declared_of, fun_of, program_of};
-ghost use Rattle.bg_scalar.specs.Views.{entry_in, table_in, tables_in};
 ghost use Rattle.bg_certtext.specs.Views as text;
 ghost use Rattle.bg_certtext.specs.Views.{given_of, interp_of};
 ghost use Rattle.bg_certify.specs.Read.{names_in};
@@ -77,7 +76,7 @@ fn entry_of<'p>(
     key: &[Scalar],
     value: Scalar,
 ) -> Result<Entry<'p>, AllocError>
-    ensures { IfOk result (λ made. text.entry_of made ≡ entry_of (type_names (map type_name_of types.entry.now)) (key.now, value)) }
+    ensures { IfOk result (λ made. text.entry_of made ≡ record { key = map (value_of (type_names (map type_name_of types.entry.now))) key.now; value = value_of (type_names (map type_name_of types.entry.now)) value }) }
 {
     Ok(Entry {
         key: key_of(alloc, types, key)?,
@@ -90,7 +89,7 @@ fn entries_of<'p>(
     types: &'p [TypeName],
     table: &Table,
 ) -> Result<Vec<Entry<'p>>, AllocError>
-    ensures { IfOk result (λ made. map text.entry_of made.items ≡ map (entry_of (type_names (map type_name_of types.entry.now))) (map entry_in table.now.entries.entries)) }
+    ensures { IfOk result (λ made. map text.entry_of made.items ≡ map (entry_of (type_names (map type_name_of types.entry.now))) table.now.entries.entries) }
 {
     let mut made = Vec::new(alloc);
     for (key, value) in &table.entries {
@@ -106,7 +105,7 @@ fn function_of<'p>(
     name: &'p [u8],
     table: &Table,
 ) -> Result<Function<'p>, AllocError>
-    ensures { IfOk result (λ made. text.function_of made ≡ function_of (type_names (map type_name_of types.entry.now)) name.now (table_in table.now)) }
+    ensures { IfOk result (λ made. text.function_of made ≡ function_of (type_names (map type_name_of types.entry.now)) name.now table.now) }
 {
     Ok(Function {
         name,
@@ -123,7 +122,7 @@ fn functions<'p>(
     bodies: &[bool],
     tables: &[Table],
 ) -> Result<Vec<Function<'p>>, AllocError>
-    ensures { IfOk result (λ made. map text.function_of made.items ≡ functions (type_names (map type_name_of types.entry.now)) (function_names (map fun_of declared.now)) bodies.now (tables_in tables.now)) }
+    ensures { IfOk result (λ made. map text.function_of made.items ≡ functions (type_names (map type_name_of types.entry.now)) (function_names (map fun_of declared.now)) bodies.now tables.now) }
 {
     let mut made = Vec::new(alloc);
     for k in 0..declared.len() {

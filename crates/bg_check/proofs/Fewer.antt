@@ -15,8 +15,7 @@ use Rattle.bg_places.specs.Views.{spot_of}
 use Rattle.bg_places.specs.declared.place.Spot as places
 use Rattle.bg_terms.specs.Flat.{HaveNoBodies}
 use Rattle.bg_scalar.specs.Choices.{choice_of, state_of}
-use Rattle.bg_scalar.specs.Values.{tables_of}
-use Rattle.bg_scalar.specs.Views.{tables_in}
+use Rattle.bg_scalar.specs.Views.{tables_in, vals_in}
 use Rattle.bg_scalar.specs.declared.table.Table.{Table}
 use Rattle.bg_scalar.specs.declared.choice.Choice.{Choice}
 use Rattle.bg_scalar.specs.declared.scalar.Scalar.{Scalar}
@@ -37,7 +36,7 @@ use Rattle.bg_check.proofs.Replaying.{runs_to}
 use Rattle.bg_check.proofs.Trimming.{shorter}
 
 abbrev interp_with : Vec Table Global → Interp
-interp_with v = record { constants = []; tables = tables_of (tables_in v.items) }
+interp_with v = record { constants = []; tables = tables_in v.items }
 
 -- ---- lists with one more behind
 
@@ -59,15 +58,15 @@ pub none_left : (p : s.Prog) (set : ℕ → Bool) (t : Place) (cex : Counterexam
 none_left p set t cex h front last cut =
     absurd (not_none front last (ap (map choice_of) (sym h) ∙ cut))
 
-module _ (law : ReplayLaw) (p : r.Program) (none : HaveNoBodies (meaning_of p).functions) (set : List Bool) (t : Place) (old : Counterexample) (w : Prepared) (h : IsPrepared p t.implementation w) (cs : List Choice) (last : Choice) (ending : Ending) (cut : old.choices.items ≡ cs ++ (last ∷ [])) (fails : FailsWithin (meaning_of p) (has set) t old) (replay : IsReplay p w.blocks.items set t.implementation h.implementation h.procedure (tables_in old.tables.items) old.globals.items old.frame.items cs ending) where
+module _ (law : ReplayLaw) (p : r.Program) (none : HaveNoBodies (meaning_of p).functions) (set : List Bool) (t : Place) (old : Counterexample) (w : Prepared) (h : IsPrepared p t.implementation w) (cs : List Choice) (last : Choice) (ending : Ending) (cut : old.choices.items ≡ cs ++ (last ∷ [])) (fails : FailsWithin (meaning_of p) (has set) t old) (replay : IsReplay p w.blocks.items set t.implementation h.implementation h.procedure (tables_in old.tables.items) (vals_in old.globals.items) (vals_in old.frame.items) (map choice_of cs) ending) where
   either : (said_by ending ≡ Stops BadChoice) ⊎ (said_by ending ≡ Stops (Failed t.spot))
   either =
       shorter p set t old h.implementation h.procedure w.blocks.items cs last ending h.impl_there h.proc_there h.blocks cut fails.1 replay
 
-  answers : (x : Answer) → said_by ending ≡ Stops x → induction_run (meaning_of p) (has set) (interp_of old) t.implementation (state_of old.globals.items old.frame.items) (map choice_of cs) ≡ x
+  answers : (x : Answer) → said_by ending ≡ Stops x → induction_run (meaning_of p) (has set) (interp_of old) t.implementation (state_of (vals_in old.globals.items) (vals_in old.frame.items)) (map choice_of cs) ≡ x
   answers x k =
-      subst (λ u. induction_run (meaning_of p) u (interp_of old) t.implementation (state_of old.globals.items old.frame.items) (map choice_of cs) ≡ x) (set_same set)
-      (law p set (interp_of old) t.implementation h.implementation h.procedure w.blocks.items (tables_in old.tables.items) old.globals.items old.frame.items cs ending none refl h.impl_there h.proc_there h.blocks replay x k)
+      subst (λ u. induction_run (meaning_of p) u (interp_of old) t.implementation (state_of (vals_in old.globals.items) (vals_in old.frame.items)) (map choice_of cs) ≡ x) (set_same set)
+      (law p set (interp_of old) t.implementation h.implementation h.procedure w.blocks.items (tables_in old.tables.items) (vals_in old.globals.items) (vals_in old.frame.items) (map choice_of cs) ending none refl h.impl_there h.proc_there h.blocks replay x k)
 
   -- it fails at the same check
   at_check : (x : places.Spot) → ending ≡ ends.Failed x → said_by ending ≡ Stops (Failed t.spot)
@@ -91,21 +90,21 @@ module _ (law : ReplayLaw) (p : r.Program) (none : HaveNoBodies (meaning_of p).f
   is_used n front z split =
       let all : map choice_of cs ++ (choice_of last ∷ []) ≡ front ++ (z ∷ []) = sym (ap (map choice_of) cut ∙ map-append choice_of cs (last ∷ [])) ∙ split in
       let same : map choice_of cs ≡ front = fronts_same (map choice_of cs) front (choice_of last) z all in
-      subst (λ x. induction_run (meaning_of p) (has set) (interp_of old) t.implementation (state_of old.globals.items old.frame.items) x ≡ BadChoice) same
+      subst (λ x. induction_run (meaning_of p) (has set) (interp_of old) t.implementation (state_of (vals_in old.globals.items) (vals_in old.frame.items)) x ≡ BadChoice) same
       (answers BadChoice (lacks n))
 
   pub fails_still : (x : places.Spot) → ending ≡ ends.Failed x → (new : Counterexample) → new.tables ≡ old.tables → new.globals.items ≡ old.globals.items → new.frame.items ≡ old.frame.items → new.choices.items ≡ cs → FailsWithin (meaning_of p) (has set) t new
   fails_still x k new et eg ef ec =
       let told = at_check x k in
-      let here : Fails (meaning_of p) (has set) t (interp_of old) (state_of old.globals.items old.frame.items) (map choice_of cs) = record { meets = fails.0.meets; state = fails.0.state; fails = answers (Failed t.spot) told } in
-      let a = subst (λ g. Fails (meaning_of p) (has set) t (interp_of old) (state_of g old.frame.items) (map choice_of cs)) (sym eg) here in
-      let b = subst (λ f. Fails (meaning_of p) (has set) t (interp_of old) (state_of new.globals.items f) (map choice_of cs)) (sym ef) a in
-      let c = subst (λ x. Fails (meaning_of p) (has set) t (interp_of old) (state_of new.globals.items new.frame.items) (map choice_of x)) (sym ec) b in
-      let d = subst (λ v. Fails (meaning_of p) (has set) t (interp_with v) (state_of new.globals.items new.frame.items) (map choice_of new.choices.items)) (sym et) c in
-      let r0 = subst (λ v. IsReplay p w.blocks.items set t.implementation h.implementation h.procedure (tables_in v.items) old.globals.items old.frame.items cs ending) (sym et) replay in
-      let r1 = subst (λ g. IsReplay p w.blocks.items set t.implementation h.implementation h.procedure (tables_in new.tables.items) g old.frame.items cs ending) (sym eg) r0 in
-      let r2 = subst (λ f. IsReplay p w.blocks.items set t.implementation h.implementation h.procedure (tables_in new.tables.items) new.globals.items f cs ending) (sym ef) r1 in
-      let r3 = subst (λ x. IsReplay p w.blocks.items set t.implementation h.implementation h.procedure (tables_in new.tables.items) new.globals.items new.frame.items x ending) (sym ec) r2 in
+      let here : Fails (meaning_of p) (has set) t (interp_of old) (state_of (vals_in old.globals.items) (vals_in old.frame.items)) (map choice_of cs) = record { meets = fails.0.meets; state = fails.0.state; fails = answers (Failed t.spot) told } in
+      let a = subst (λ g. Fails (meaning_of p) (has set) t (interp_of old) (state_of (vals_in g) (vals_in old.frame.items)) (map choice_of cs)) (sym eg) here in
+      let b = subst (λ f. Fails (meaning_of p) (has set) t (interp_of old) (state_of (vals_in new.globals.items) (vals_in f)) (map choice_of cs)) (sym ef) a in
+      let c = subst (λ x. Fails (meaning_of p) (has set) t (interp_of old) (state_of (vals_in new.globals.items) (vals_in new.frame.items)) (map choice_of x)) (sym ec) b in
+      let d = subst (λ v. Fails (meaning_of p) (has set) t (interp_with v) (state_of (vals_in new.globals.items) (vals_in new.frame.items)) (map choice_of new.choices.items)) (sym et) c in
+      let r0 = subst (λ v. IsReplay p w.blocks.items set t.implementation h.implementation h.procedure (tables_in v.items) (vals_in old.globals.items) (vals_in old.frame.items) (map choice_of cs) ending) (sym et) replay in
+      let r1 = subst (λ g. IsReplay p w.blocks.items set t.implementation h.implementation h.procedure (tables_in new.tables.items) (vals_in g) (vals_in old.frame.items) (map choice_of cs) ending) (sym eg) r0 in
+      let r2 = subst (λ f. IsReplay p w.blocks.items set t.implementation h.implementation h.procedure (tables_in new.tables.items) (vals_in new.globals.items) (vals_in f) (map choice_of cs) ending) (sym ef) r1 in
+      let r3 = subst (λ x. IsReplay p w.blocks.items set t.implementation h.implementation h.procedure (tables_in new.tables.items) (vals_in new.globals.items) (vals_in new.frame.items) (map choice_of x) ending) (sym ec) r2 in
       (d, runs_to p t.implementation h.implementation h.procedure h.impl_there h.proc_there set t.spot t.candidate w.blocks.items new ending (Stops (Failed t.spot)) h.blocks r3 told)
 
 -- ---- what is made of the ending
@@ -123,14 +122,14 @@ popped xs cs new last n cut long is =
 pub fewer : {A : Type 0} (xs cs new : List A) (last : A) → xs ≡ cs ++ (last ∷ []) → new ≡ cs → length new < length xs
 fewer xs cs new last cut is = omega (arith, ap length cut, length-append cs (last ∷ []), ap length is)
 
-module _ (law : ReplayLaw) (p : r.Program) (none : HaveNoBodies (meaning_of p).functions) (set : List Bool) (t : Place) (old : Counterexample) (w : Prepared) (h : IsPrepared p t.implementation w) (bs : List Block) (ts : List Table) (gs fs : List Scalar) (xs cs : List Choice) (last : Choice) (ending : Ending) (eb : bs ≡ w.blocks.items) (et : ts ≡ old.tables.items) (eg : gs ≡ old.globals.items) (ef : fs ≡ old.frame.items) (ec : xs ≡ old.choices.items) (cut : xs ≡ cs ++ (last ∷ [])) (fails : FailsWithin (meaning_of p) (has set) t old) (replay : (m : r.Impl) (q : r.Proc) → slice_get p.implementations t.implementation ≡ Some m → slice_get p.procedures m.procedure ≡ Some q → IsReplay p bs set t.implementation m q (tables_in ts) gs fs cs ending) where
-  the_replay : IsReplay p w.blocks.items set t.implementation h.implementation h.procedure (tables_in old.tables.items) old.globals.items old.frame.items cs ending
+module _ (law : ReplayLaw) (p : r.Program) (none : HaveNoBodies (meaning_of p).functions) (set : List Bool) (t : Place) (old : Counterexample) (w : Prepared) (h : IsPrepared p t.implementation w) (bs : List Block) (ts : List Table) (gs fs : List Scalar) (xs cs : List Choice) (last : Choice) (ending : Ending) (eb : bs ≡ w.blocks.items) (et : ts ≡ old.tables.items) (eg : gs ≡ old.globals.items) (ef : fs ≡ old.frame.items) (ec : xs ≡ old.choices.items) (cut : xs ≡ cs ++ (last ∷ [])) (fails : FailsWithin (meaning_of p) (has set) t old) (replay : (m : r.Impl) (q : r.Proc) → slice_get p.implementations t.implementation ≡ Some m → slice_get p.procedures m.procedure ≡ Some q → IsReplay p bs set t.implementation m q (tables_in ts) (vals_in gs) (vals_in fs) (map choice_of cs) ending) where
+  the_replay : IsReplay p w.blocks.items set t.implementation h.implementation h.procedure (tables_in old.tables.items) (vals_in old.globals.items) (vals_in old.frame.items) (map choice_of cs) ending
   the_replay =
       let r0 = replay h.implementation h.procedure h.impl_there h.proc_there in
-      let r1 = subst (λ x. IsReplay p x set t.implementation h.implementation h.procedure (tables_in ts) gs fs cs ending) eb r0 in
-      let r2 = subst (λ x. IsReplay p w.blocks.items set t.implementation h.implementation h.procedure (tables_in x) gs fs cs ending) et r1 in
-      let r3 = subst (λ x. IsReplay p w.blocks.items set t.implementation h.implementation h.procedure (tables_in old.tables.items) x fs cs ending) eg r2 in
-      subst (λ x. IsReplay p w.blocks.items set t.implementation h.implementation h.procedure (tables_in old.tables.items) old.globals.items x cs ending) ef r3
+      let r1 = subst (λ x. IsReplay p x set t.implementation h.implementation h.procedure (tables_in ts) (vals_in gs) (vals_in fs) (map choice_of cs) ending) eb r0 in
+      let r2 = subst (λ x. IsReplay p w.blocks.items set t.implementation h.implementation h.procedure (tables_in x) (vals_in gs) (vals_in fs) (map choice_of cs) ending) et r1 in
+      let r3 = subst (λ x. IsReplay p w.blocks.items set t.implementation h.implementation h.procedure (tables_in old.tables.items) (vals_in x) (vals_in fs) (map choice_of cs) ending) eg r2 in
+      subst (λ x. IsReplay p w.blocks.items set t.implementation h.implementation h.procedure (tables_in old.tables.items) (vals_in old.globals.items) (vals_in x) (map choice_of cs) ending) ef r3
 
   pub used_here : ((x : places.Spot) → ending ≡ ends.Failed x → ⊥) → IsUsed (meaning_of p) (has set) t old
   used_here n = is_used law p none set t old w h cs last ending (sym ec ∙ cut) fails the_replay n

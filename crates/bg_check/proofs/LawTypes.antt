@@ -1,7 +1,7 @@
 -- What the laws of the crates below say.
 use Rattle.std.proofs.Common.{◌≡◌, ℕ, suc, ◌+◌, ◌<◌, ℤ, Bool, true, false, List, [], length, take, map, Option, Some, None, Ok}
 use Rattle.std.specs.Prelude.{slice_get, Contains, IsTrue}
-use Rattle.bg_ast.specs.Values.{Val, Ty}
+use Rattle.bg_ast.specs.Values.{Val, Table, Ty}
 use Rattle.bg_ast.specs.Syntax.{Ex, Fun, Proc, Impl, Prog}
 use Rattle.bg_ast.specs.Resolved as r
 use Rattle.bg_ast.specs.Meaning.{meaning_of}
@@ -50,18 +50,14 @@ use Rattle.bg_terms.specs.Flat.{HaveNoBodies, IsFlat}
 use Rattle.bg_terms.specs.Tables.{IsReadOff}
 use Rattle.bg_flatten.specs.Flattens.{AreFlattened}
 use Rattle.bg_flat.specs.Mapless.{are_mapless}
-use Rattle.bg_read_off.specs.Leaves.{AreCongruent, silent}
+use Rattle.bg_read_off.specs.Leaves.{AreApplications, AreCongruent, silent}
 use Rattle.bg_termed.specs.Built.{built_in}
 use Rattle.bg_termed.specs.Termed.{IsTabled, count_in, terms_in, flats_in, types_in, sorts_in}
 use Rattle.bg_places.specs.Placed.{placed, place_in}
 use Rattle.bg_fits.specs.Scalars.{is_over_scalars}
 use Rattle.bg_blocks.specs.Whole.{AreBlocks}
 use Rattle.bg_blocks.specs.declared.block.Block.{Block}
-use Rattle.bg_scalar.specs.Tables.{TableOf}
-use Rattle.bg_scalar.specs.Values.{tables_of}
-use Rattle.bg_scalar.specs.Choices.{choice_of, state_of}
-use Rattle.bg_scalar.specs.declared.choice.Choice as code
-use Rattle.bg_scalar.specs.declared.scalar.Scalar.{Scalar}
+use Rattle.bg_scalar.specs.Choices.{state_of}
 use Rattle.bg_replay.specs.Endings.{IsRight, IsReplay}
 use Rattle.bg_replay.specs.Views.{set_of}
 use Rattle.bg_replay.specs.declared.ending.Ending.{Ending}
@@ -113,6 +109,11 @@ TermLaw =
     (p : Prog) (k : ℕ) (m : Impl) (q : Proc) → IsTabled p → slice_get p.implementations k ≡ Some m → procedure_of p m.procedure ≡ Some q →
     are_mapless (incarnations_in p k m q) ≡ true →
     AreFlattened p.functions (incarnations_in p k m q) (passives_in p k m q) (terms_in p k m q) (flats_in p k m q)
+
+abbrev pub AppliedLaw : Type 0
+AppliedLaw =
+    (p : Prog) (k : ℕ) (m : Impl) (q : Proc) → IsTyped p → is_over_scalars true p ≡ true → slice_get p.implementations k ≡ Some m →
+    procedure_of p m.procedure ≡ Some q → AreApplications (terms_in p k m q)
 
 abbrev pub FlatLaw : Type 0
 FlatLaw =
@@ -198,7 +199,7 @@ CodeLaw =
 
 abbrev pub ReplayLaw : Type 0
 ReplayLaw =
-    (p : r.Program) (set : List Bool) (i : Interp) (number : ℕ) (m : r.Impl) (q : r.Proc) (bs : List Block) (ts : List TableOf) (gs fs : List Scalar) (cs : List code.Choice) (ending : Ending) →
-    ((f : ℕ) → body_of (slice_get (meaning_of p).functions f) ≡ None) → i.tables ≡ tables_of ts →
+    (p : r.Program) (set : List Bool) (i : Interp) (number : ℕ) (m : r.Impl) (q : r.Proc) (bs : List Block) (ts : List Table) (gs fs : List Val) (cs : List Choice) (ending : Ending) →
+    ((f : ℕ) → body_of (slice_get (meaning_of p).functions f) ≡ None) → i.tables ≡ ts →
     slice_get p.implementations number ≡ Some m → slice_get p.procedures m.procedure ≡ Some q → AreBlocks p number m q bs → IsReplay p bs set number m q ts gs fs cs ending →
-    IsRight ending (induction_run (meaning_of p) (set_of set) i number (state_of gs fs) (map choice_of cs))
+    IsRight ending (induction_run (meaning_of p) (set_of set) i number (state_of gs fs) cs)

@@ -9,7 +9,6 @@ use Rattle.bg_point.specs.declared.spot.Spot.{Spot}
 use Rattle.bg_point.specs.Points.{value_of}
 use Rattle.bg_ast.specs.Values.{Val, Ty, IntTy, BoolTy, UserTy, MapTy, is_map}
 use Rattle.bg_sense.proofs.Bools.{and_left, and_right}
-use Rattle.bg_fits.specs.Holdings.{holding_of}
 use Rattle.bg_linear.specs.Sorts.{scalar_value, scalar_values}
 use Rattle.bg_atoms.specs.Ranks.{one_for, rank}
 use Rattle.bg_forms.specs.Worth.{bools_at}
@@ -140,13 +139,13 @@ no_true_is : (b : Bool) → not b ≡ true → b ≡ false
 no_true_is true h = absurd (let bad : ⊥ = cc in bad)
 no_true_is false h = refl
 
-one_value : (s : List Val) (n : ℕ) (ts : List Term) (t : Ty) (z : ℤ) (b : Bool) → is_map t ≡ false → val_of (scalar_for (holding_of t) z b) ≡ built s n ts t (scalar_value (sort_of_type (scalar_ty t)) z b)
+one_value : (s : List Val) (n : ℕ) (ts : List Term) (t : Ty) (z : ℤ) (b : Bool) → is_map t ≡ false → val_of (scalar_for t z b) ≡ built s n ts t (scalar_value (sort_of_type (scalar_ty t)) z b)
 one_value s n ts IntTy z b h = refl
 one_value s n ts BoolTy z b h = refl
 one_value s n ts (UserTy u) z b h = refl
 one_value s n ts (MapTy ks t) z b h = absurd (let bad : true ≡ false = h in let no : ⊥ = cc in no)
 
-one_truth : (t : Ty) → one_in (holding_of t) ≡ one_for (sort_of_type (scalar_ty t))
+one_truth : (t : Ty) → one_in t ≡ one_for (sort_of_type (scalar_ty t))
 one_truth IntTy = refl
 one_truth BoolTy = refl
 one_truth (UserTy u) = refl
@@ -154,7 +153,7 @@ one_truth (MapTy ks t) = refl
 
 -- the values of incarnations and terms are those that are built for these numbers and truth values
 module _ (s : List Val) (m : ℕ) (us : List Term) where
-  pub scalars_are : (ts : List Bool) (zs : List ℤ) (numbers : ℕ → ℤ) (truths : ℕ → Bool) (j n : ℕ) (tys : List Ty) → are_mapless tys ≡ true → ((i : ℕ) → i < length tys → unwrap_or (slice_get zs (j + i)) (pos 0) ≡ numbers i) → ((i : ℕ) → i < length tys → bools_at ts (n + rank (flat_sorts tys) i) ≡ truths i) → map val_of (scalars_from ts zs j n (map holding_of tys)) ≡ each_built (built s m us) tys (scalar_values numbers truths (flat_sorts tys))
+  pub scalars_are : (ts : List Bool) (zs : List ℤ) (numbers : ℕ → ℤ) (truths : ℕ → Bool) (j n : ℕ) (tys : List Ty) → are_mapless tys ≡ true → ((i : ℕ) → i < length tys → unwrap_or (slice_get zs (j + i)) (pos 0) ≡ numbers i) → ((i : ℕ) → i < length tys → bools_at ts (n + rank (flat_sorts tys) i) ≡ truths i) → map val_of (scalars_from ts zs j n tys) ≡ each_built (built s m us) tys (scalar_values numbers truths (flat_sorts tys))
   scalars_are ts zs numbers truths j n [] mapless h g = refl
   scalars_are ts zs numbers truths j n (t ∷ tys) mapless h g =
       let here : j + 0 ≡ j = omega arith in
@@ -165,12 +164,12 @@ module _ (s : List Val) (m : ℕ) (us : List Term) where
       let b = ap (bools_at ts) (sym first) ∙ g 0 (omega arith) in
       let plain = no_true_is (is_map t) (and_left (not (is_map t)) (are_mapless tys) mapless) in
       let head = one_value s m us t x (bools_at ts n) plain ∙ (ap (λ y. built s m us t (scalar_value k y (bools_at ts n))) z ∙ ap (λ y. built s m us t (scalar_value k (numbers 0) y)) b) in
-      let tail = scalars_are ts zs (λ i. numbers (suc i)) (λ i. truths (suc i)) (suc j) (n + one_in (holding_of t)) tys (and_right (not (is_map t)) (are_mapless tys) mapless) (λ i l. ap (λ k. unwrap_or (slice_get zs k) (pos 0)) (moved i) ∙ h (suc i) (omega (arith, l))) (λ i l. ap (bools_at ts) (ranked i) ∙ g (suc i) (omega (arith, l))) in
-      ap (λ y. y ∷ map val_of (scalars_from ts zs (suc j) (n + one_in (holding_of t)) (map holding_of tys))) head
+      let tail = scalars_are ts zs (λ i. numbers (suc i)) (λ i. truths (suc i)) (suc j) (n + one_in t) tys (and_right (not (is_map t)) (are_mapless tys) mapless) (λ i l. ap (λ k. unwrap_or (slice_get zs k) (pos 0)) (moved i) ∙ h (suc i) (omega (arith, l))) (λ i l. ap (bools_at ts) (ranked i) ∙ g (suc i) (omega (arith, l))) in
+      ap (λ y. y ∷ map val_of (scalars_from ts zs (suc j) (n + one_in t) tys)) head
       ∙ ap (λ l. built s m us t (scalar_value k (numbers 0) (truths 0)) ∷ l) tail
     where
       moved : (i : ℕ) → suc j + i ≡ j + suc i
       moved i = omega arith
 
-      ranked : (i : ℕ) → (n + one_in (holding_of t)) + rank (flat_sorts tys) i ≡ n + rank (flat_sorts (t ∷ tys)) (suc i)
+      ranked : (i : ℕ) → (n + one_in t) + rank (flat_sorts tys) i ≡ n + rank (flat_sorts (t ∷ tys)) (suc i)
       ranked i = let e = one_truth t in omega (arith, e)

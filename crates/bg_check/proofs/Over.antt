@@ -2,7 +2,7 @@
 use Rattle.std.proofs.Common.{◌≡◌, ℕ, zero, suc, Bool, true, false, List, [], ◌∷◌, ◌++◌, Some, None, map, refl, sym, subst}
 use Rattle.std.specs.Prelude.{slice_get}
 use Rattle.std.specs.List.{list_all}
-use Rattle.bg_ast.specs.Values.{Ty, IntTy, BoolTy, UserTy, MapTy}
+use Rattle.bg_ast.specs.Values.{Ty, IntTy, BoolTy, MapTy}
 use Rattle.bg_ast.specs.Syntax.{Var, Global, Local, Op, And, Or, Implies, Iff, Equal, Unequal, Less, AtMost, Greater, AtLeast, Plus, Minus, Times, Ex, Number, Fact, Constant, Read, Not, Negative, Binary, Apply, Select, Update, Old, Exs, NoMore, More, Star, Test, Decl, Fun, Impl, Proc, Prog}
 use Rattle.bg_sense.specs.Types.{types_of}
 use Rattle.bg_sense.specs.Variables.{type_in, procedure_of}
@@ -14,9 +14,7 @@ use Rattle.bg_passive.specs.Incarnations.{ty_of}
 use Rattle.bg_block_types.specs.TypedFlow.{sig_with, sig_here, DemandsAreTyped, SayingsAreTyped, PlanIsTyped, CmdIsTyped, CmdsAreTyped, ExitIsTyped, CodeIsTyped}
 use Rattle.bg_fits.specs.Scalars as fits
 use Rattle.bg_fits.specs.Scalars.{is_empty, fun_passes, decl_passes, decls_pass, proc_passes, impl_passes, is_scalar_type, is_over_scalars}
-use Rattle.bg_fits.specs.Holdings.{holding_of, holdings_of}
-use Rattle.bg_scalar.specs.Typed.{is_scalar, are_scalar}
-use Rattle.bg_replay.specs.Holds.{holds_scalars, hold_scalars}
+use Rattle.bg_scalar.specs.Typed.{is_valued, are_valued}
 use Rattle.bg_replay.specs.Over.{over_demands, over_sayings, over_plan, over_cmd, over_exit, over_cmds, over_blocks}
 
 -- no map, each of them
@@ -74,7 +72,7 @@ result_scalar f h =
 
 module _ (g : Sig) (fine : Fine g) where
   mutual
-    typed_scalar : (e : Ex) (t : Ty) → HasType e g t → (is_scalar e ≡ true) × (is_scalar_type true t ≡ true)
+    typed_scalar : (e : Ex) (t : Ty) → HasType e g t → (is_valued e ≡ true) × (is_scalar_type true t ≡ true)
     typed_scalar (Number z) t h = (refl, of_type t IntTy h refl)
     typed_scalar (Fact b) t h = (refl, of_type t BoolTy h refl)
     typed_scalar (Constant c) t h = nothing_at g.constants c t fine.constants h
@@ -84,7 +82,7 @@ module _ (g : Sig) (fine : Fine g) where
     typed_scalar (Negative e) t h = ((typed_scalar e IntTy h.1).0, of_type t IntTy h.0 refl)
     typed_scalar (Binary o a b) t h =
         let z = sides o (HasType a g) (HasType b g) t h in
-        (both (is_scalar a) (is_scalar b) (typed_scalar a z.0.0 z.0.1).0 (typed_scalar b z.1.0.0 z.1.0.1).0, z.1.1)
+        (both (is_valued a) (is_valued b) (typed_scalar a z.0.0 z.0.1).0 (typed_scalar b z.1.0.0 z.1.0.1).0, z.1.1)
     typed_scalar (Apply f es) t h = (
       (exs_scalar es h.0.params h.3).0,
       of_type t h.0.result h.2 (result_scalar h.0 (passes_at (fun_passes (is_scalar_type true)) g.functions f h.0 fine.functions h.1)),
@@ -93,38 +91,27 @@ module _ (g : Sig) (fine : Fine g) where
     typed_scalar (Update a es e) t h = no_map (typed_scalar a (MapTy h.0 h.1.0) h.1.2).1
     typed_scalar (Old e) t h = typed_scalar e t h
 
-    exs_scalar : (es : Exs) (ts : List Ty) → HaveTypes es g ts → (are_scalar es ≡ true) × (all_scalar ts ≡ true)
+    exs_scalar : (es : Exs) (ts : List Ty) → HaveTypes es g ts → (are_valued es ≡ true) × (all_scalar ts ≡ true)
     exs_scalar NoMore ts h = (refl, subst (λ us. all_scalar us ≡ true) (sym h) refl)
     exs_scalar (More e es) [] h = absurd h
     exs_scalar (More e es) (t ∷ ts) h =
         let a = typed_scalar e t h.0 in
         let b = exs_scalar es ts h.1 in (
-          both (is_scalar e) (are_scalar es) a.0 b.0,
+          both (is_valued e) (are_valued es) a.0 b.0,
           both (is_scalar_type true t) (all_scalar ts) a.1 b.1,
         )
 
   demands_scalar : (ds : List Demand) → DemandsAreTyped g ds → over_demands ds ≡ true
   demands_scalar [] h = refl
   demands_scalar (d ∷ ds) h =
-      both (is_scalar d.says) (over_demands ds) (typed_scalar d.says BoolTy h.0.0).0 (demands_scalar ds h.1)
+      both (is_valued d.says) (over_demands ds) (typed_scalar d.says BoolTy h.0.0).0 (demands_scalar ds h.1)
 
   sayings_scalar : (ds : List Saying) → SayingsAreTyped g ds → over_sayings ds ≡ true
   sayings_scalar [] h = refl
   sayings_scalar (d ∷ ds) h =
-      both (is_scalar d.says) (over_sayings ds) (typed_scalar d.says BoolTy h.0.0).0 (sayings_scalar ds h.1)
+      both (is_valued d.says) (over_sayings ds) (typed_scalar d.says BoolTy h.0.0).0 (sayings_scalar ds h.1)
 
 -- ---- declarations
-
-one_holds : (t : Ty) → is_scalar_type true t ≡ true → holds_scalars (holding_of t) ≡ true
-one_holds BoolTy h = refl
-one_holds IntTy h = refl
-one_holds (UserTy k) h = refl
-one_holds (MapTy ks t) h = no_map h
-
-all_hold : (ds : List Decl) → all_scalar (types_of ds) ≡ true → hold_scalars (holdings_of ds) ≡ true
-all_hold [] h = refl
-all_hold (d ∷ ds) h =
-    both (holds_scalars (holding_of d.ty)) (hold_scalars (holdings_of ds)) (one_holds d.ty (and_left (is_scalar_type true d.ty) (all_scalar (types_of ds)) h)) (all_hold ds (and_right (is_scalar_type true d.ty) (all_scalar (types_of ds)) h))
 
 types_scalar : (ds : List Decl) → decls_pass (is_scalar_type true) (fits.is_scalar true) ds ≡ true → all_scalar (types_of ds) ≡ true
 types_scalar [] h = refl
@@ -157,9 +144,8 @@ module _ (p : Prog) (ds : List Decl) (constants : p.constants ≡ []) (functions
   plan_scalar k h =
       let args = exs_scalar (sig_here p ds) here k.args (types_of k.params) h.0.0 in
       let results = subst (λ ts. all_scalar ts ≡ true) h.1.1.1 (vars_scalar k.takes) in
-      both (hold_scalars (holdings_of k.results)) _ (all_hold k.results results)
-      (both (are_scalar k.args) _ args.0
-      (both (over_demands k.needs) (over_sayings k.gives) (demands_scalar (sig_with p (types_of p.globals) (types_of k.params)) (fine_with (types_of k.params) args.1) k.needs h.1.0) (sayings_scalar (sig_with p (types_of p.globals) (types_of k.params ++ types_of k.results)) (fine_with (types_of k.params ++ types_of k.results) (append_pass (is_scalar_type true) (types_of k.params) (types_of k.results) args.1 results)) k.gives h.1.1.0)))
+      both (are_valued k.args) _ args.0
+      (both (over_demands k.needs) (over_sayings k.gives) (demands_scalar (sig_with p (types_of p.globals) (types_of k.params)) (fine_with (types_of k.params) args.1) k.needs h.1.0) (sayings_scalar (sig_with p (types_of p.globals) (types_of k.params ++ types_of k.results)) (fine_with (types_of k.params ++ types_of k.results) (append_pass (is_scalar_type true) (types_of k.params) (types_of k.results) args.1 results)) k.gives h.1.1.0))
 
   cmd_scalar : (k : Cmd) → CmdIsTyped p ds k → over_cmd k ≡ true
   cmd_scalar (Check qs) h = demands_scalar (sig_here p ds) here qs h

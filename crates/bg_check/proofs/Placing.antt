@@ -19,6 +19,8 @@ use Rattle.bg_task.specs.Prepared.{IsPrepared}
 use Rattle.bg_ast.specs.Values.{Val, Ty}
 use Rattle.bg_sense.specs.Types.{are_of}
 use Rattle.bg_sense.specs.Typed.{IsTyped}
+use Rattle.bg_kinds.specs.declared.kinds.ValueType.{ValueType}
+use Rattle.bg_kinds.specs.Views.{ref_in}
 use Rattle.bg_fits.specs.Scalars.{is_over_scalars}
 use Rattle.bg_block_types.specs.Typed.{incarnations_in}
 use Rattle.bg_formula.specs.Formulas.{Formula}
@@ -27,8 +29,6 @@ use Rattle.bg_point.specs.declared.spot.Spot as spots
 use Rattle.bg_point.specs.Points.{value_of}
 use Rattle.bg_tree.specs.declared.outcome.Leaf.{Leaf}
 use Rattle.bg_forms.specs.Worth.{bools_at}
-use Rattle.bg_fits.specs.declared.types.Holding.{Holding}
-use Rattle.bg_fits.specs.Holdings.{holding_of}
 use Rattle.bg_flat.specs.Mapless.{are_mapless}
 use Rattle.bg_atoms.specs.Ranks.{rank}
 use Rattle.bg_scalar.specs.Values.{val_of}
@@ -38,7 +38,7 @@ use Rattle.bg_finish.specs.Finished.{default_of, IsScalarLeaf, IsFinish}
 use Rattle.bg_finish.specs.declared.kind.Finish.{Finish}
 use Rattle.bg_check.specs.Leaves.{marked, numbered, scalars_from}
 use Rattle.bg_check.specs.LeafRuns.{leaf_bools, leaf_vals, vals_in}
-use Rattle.bg_check.proofs.LawTypes.{ValueLaw, TermLaw}
+use Rattle.bg_check.proofs.LawTypes.{ValueLaw, TermLaw, AppliedLaw}
 use Rattle.bg_check.proofs.Leaves.{leaf_number, scalars_are}
 use Rattle.bg_task.proofs.LawTypes.{TabledLaw, MaplessLaw}
 use Rattle.bg_task.proofs.Prepares.{impl, proc, impl_at, proc_at}
@@ -75,25 +75,28 @@ module _ (p : r.Program) (n : ℕ) (w : Prepared) (h : IsPrepared p n w) (f : Fo
   abbrev tys : List Ty
   tys = types_in P n M Q
 
-  values_are : are_mapless tys ≡ true → map val_of (scalars_from (leaf_bools f leaf) (numbered leaf.spots.items (replicate (length (map holding_of tys)) (pos 0))) 0 0 (map holding_of tys)) ≡ vals_in P n M Q f leaf
+  values_are : are_mapless tys ≡ true → map val_of (scalars_from (leaf_bools f leaf) (numbered leaf.spots.items (replicate (length tys) (pos 0))) 0 0 tys) ≡ vals_in P n M Q f leaf
   values_are mapless =
-      scalars_are (leaf_vals f leaf (sorts_in P n M Q)) (count_in P n M Q) (terms_in P n M Q) (leaf_bools f leaf) (numbered leaf.spots.items (replicate (length (map holding_of tys)) (pos 0))) (value_of leaf.spots.items) (λ j. T (rank (sorts_in P n M Q) j)) 0 0 tys mapless
-      (λ i l. ap (λ k. unwrap_or (slice_get (numbered leaf.spots.items (replicate (length (map holding_of tys)) (pos 0))) k) (pos 0)) (zero_plus i) ∙ leaf_number leaf.spots.items (length (map holding_of tys)) i (subst (λ k. i < k) (sym (length-map tys holding_of)) l))
+      scalars_are (leaf_vals f leaf (sorts_in P n M Q)) (count_in P n M Q) (terms_in P n M Q) (leaf_bools f leaf) (numbered leaf.spots.items (replicate (length tys) (pos 0))) (value_of leaf.spots.items) (λ j. T (rank (sorts_in P n M Q) j)) 0 0 tys mapless
+      (λ i l. ap (λ k. unwrap_or (slice_get (numbered leaf.spots.items (replicate (length tys) (pos 0))) k) (pos 0)) (zero_plus i) ∙ leaf_number leaf.spots.items (length tys) i l)
       (λ i l. ap T (zero_plus (rank (sorts_in P n M Q) i)))
     where
       zero_plus : (i : ℕ) → 0 + i ≡ i
       zero_plus i = omega arith
 
   -- the values that are made
-  pub values_from : are_mapless tys ≡ true → (hs : List Holding) (ts : List Bool) (sp : List spots.Spot) → hs ≡ w.holdings.items → ts ≡ leaf_bools f leaf → sp ≡ leaf.spots.items → map val_of (scalars_from ts (numbered sp (replicate (length hs) (pos 0))) 0 0 hs) ≡ vals_in P n M Q f leaf
+  pub values_from : are_mapless tys ≡ true → (hs : List ValueType) (ts : List Bool) (sp : List spots.Spot) → hs ≡ w.kinds.items → ts ≡ leaf_bools f leaf → sp ≡ leaf.spots.items → map val_of (scalars_from ts (numbered sp (replicate (length hs) (pos 0))) 0 0 (map ref_in hs)) ≡ vals_in P n M Q f leaf
   values_from mapless hs ts sp a b c =
-      ap (λ x. map val_of (scalars_from ts (numbered sp (replicate (length x) (pos 0))) 0 0 x)) (a ∙ h.holdings)
-      ∙ (ap (λ x. map val_of (scalars_from x (numbered sp (replicate (length (map holding_of tys)) (pos 0))) 0 0 (map holding_of tys))) b
-      ∙ (ap (λ x. map val_of (scalars_from (leaf_bools f leaf) (numbered x (replicate (length (map holding_of tys)) (pos 0))) 0 0 (map holding_of tys))) c ∙ values_are mapless))
+      let is : map ref_in hs ≡ tys = ap (map ref_in) a ∙ h.kinds in
+      let many : length hs ≡ length tys = sym (length-map hs ref_in) ∙ ap (λ l. length l) is in
+      ap (λ k. map val_of (scalars_from ts (numbered sp (replicate k (pos 0))) 0 0 (map ref_in hs))) many
+      ∙ (ap (λ x. map val_of (scalars_from ts (numbered sp (replicate (length tys) (pos 0))) 0 0 x)) is
+      ∙ (ap (λ x. map val_of (scalars_from x (numbered sp (replicate (length tys) (pos 0))) 0 0 tys)) b
+      ∙ (ap (λ x. map val_of (scalars_from (leaf_bools f leaf) (numbered x (replicate (length tys) (pos 0))) 0 0 tys)) c ∙ values_are mapless)))
 
   -- the leaf is one over truth values, numbers and elements
-  pub scalar_leaf : ValueLaw → TabledLaw → MaplessLaw → TermLaw → IsTyped P → is_over_scalars true P ≡ true → (vs defaults : List Val) (ts : List Term) → vs ≡ vals_in P n M Q f leaf → ts ≡ terms_in P n M Q → defaults ≡ map default_of P.functions → IsScalarLeaf P.functions (incarnations_in P n M Q) ts vs defaults
-  scalar_leaf values tabled mapless terms t o vs defaults ts e g d =
+  pub scalar_leaf : ValueLaw → TabledLaw → MaplessLaw → TermLaw → AppliedLaw → IsTyped P → is_over_scalars true P ≡ true → (vs defaults : List Val) (ts : List Term) → vs ≡ vals_in P n M Q f leaf → ts ≡ terms_in P n M Q → defaults ≡ map default_of P.functions → IsScalarLeaf P.functions (incarnations_in P n M Q) ts vs defaults
+  scalar_leaf values tabled mapless terms applied t o vs defaults ts e g d =
       let im = impl_at p n w h in
       let pr = proc_at p n w h in
       let its = tabled P t o in
@@ -102,18 +105,19 @@ module _ (p : r.Program) (n : ℕ) (w : Prepared) (h : IsPrepared p n w) (f : Fo
       (record {
         bodiless = its.bodies;
         terms = flattened.terms.typed;
+        applied = applied P n M Q t o im pr;
         values =
             ap (are_of (types_in P n M Q)) e ∙ values P n M Q (value_of leaf.spots.items) (λ j. T (rank (sorts_in P n M Q) j));
         defaults = d;
       })
 
   -- what the leaf comes to
-  pub finish_here : ValueLaw → TabledLaw → MaplessLaw → TermLaw → IsTyped P → is_over_scalars true P ≡ true → (ds vs : List Scalar) (ts : List code.Term) (made : Finish) → map val_of ds ≡ map default_of P.functions → map val_of vs ≡ vals_in P n M Q f leaf → ts ≡ w.terms.items → ((fs : List s.Fun) (incs : List Ty) → length incs ≡ w.count → IsScalarLeaf fs incs (table.terms_in fs ts) (map val_of vs) (map val_of ds) → IsFinish fs w.count (table.terms_in fs ts) vs made) → IsFinish P.functions (count_in P n M Q) (terms_in P n M Q) vs made
-  finish_here values tabled mapless terms t o ds vs ts made d v g e =
+  pub finish_here : ValueLaw → TabledLaw → MaplessLaw → TermLaw → AppliedLaw → IsTyped P → is_over_scalars true P ≡ true → (ds vs : List Scalar) (ts : List code.Term) (made : Finish) → map val_of ds ≡ map default_of P.functions → map val_of vs ≡ vals_in P n M Q f leaf → ts ≡ w.terms.items → ((fs : List s.Fun) (incs : List Ty) → length incs ≡ w.count → IsScalarLeaf fs incs (table.terms_in fs ts) (map val_of vs) (map val_of ds) → IsFinish fs w.count (table.terms_in fs ts) (map val_of vs) made) → IsFinish P.functions (count_in P n M Q) (terms_in P n M Q) (map val_of vs) made
+  finish_here values tabled mapless terms applied t o ds vs ts made d v g e =
       let its : table.terms_in P.functions ts ≡ terms_in P n M Q = ap (table.terms_in P.functions) g ∙ h.terms in
-      let got = e P.functions (incarnations_in P n M Q) (sym h.count) (scalar_leaf values tabled mapless terms t o (map val_of vs) (map val_of ds) (table.terms_in P.functions ts) v its d) in
-      subst (λ us. IsFinish P.functions (count_in P n M Q) us vs made) its
-      (subst (λ k. IsFinish P.functions k (table.terms_in P.functions ts) vs made) h.count got)
+      let got = e P.functions (incarnations_in P n M Q) (sym h.count) (scalar_leaf values tabled mapless terms applied t o (map val_of vs) (map val_of ds) (table.terms_in P.functions ts) v its d) in
+      subst (λ us. IsFinish P.functions (count_in P n M Q) us (map val_of vs) made) its
+      (subst (λ k. IsFinish P.functions k (table.terms_in P.functions ts) (map val_of vs) made) h.count got)
 
 -- the truth values that are made
 pub truths_from : (f : Formula) (leaf : Leaf) (ds : List Decision) (k : ℕ) → ds ≡ leaf.path.items → k ≡ length f.atoms → marked ds (replicate k false) ≡ leaf_bools f leaf

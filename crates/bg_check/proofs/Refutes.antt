@@ -3,7 +3,7 @@ use Rattle.std.proofs.Common.{◌≡◌, ℕ, ◌+◌, Bool, true, false, List, 
 use Rattle.std.specs.Prelude.{not, slice_get, Contains}
 use Rattle.std.proofs.lemmas.Option.{unwrap_or-slice_get}
 use Rattle.std.proofs.lemmas.List.{length-map}
-use Rattle.bg_ast.specs.Values.{Val, BoolTy, truth_of}
+use Rattle.bg_ast.specs.Values.{Val, Table, BoolTy, truth_of}
 use Rattle.bg_ast.specs.Syntax.{Ex}
 use Rattle.bg_ast.specs.Syntax as s
 use Rattle.bg_ast.specs.Resolved as r
@@ -56,9 +56,8 @@ use Rattle.bg_flatten.specs.Flattens.{AreFlattened}
 use Rattle.bg_finish.specs.Finished.{AreReadOff}
 use Rattle.bg_termed.specs.Termed.{IsTabled, count_in, terms_in, flats_in, types_in, sorts_in, behind_in}
 use Rattle.bg_termed.specs.Clauses.{IsEncoding}
-use Rattle.bg_scalar.specs.Tables.{TableOf}
+use Rattle.bg_scalar.specs.Views as view
 use Rattle.bg_scalar.specs.Views.{tables_in}
-use Rattle.bg_scalar.specs.Values.{tables_of}
 use Rattle.bg_scalar.specs.Choices.{choice_of, state_of}
 use Rattle.bg_model.specs.Behind.{behind_front}
 use Rattle.bg_model.specs.Interps.{interp_of}
@@ -281,12 +280,12 @@ module _ (laws : LeafLaws) (p : r.Program) (n : ℕ) (w : Prepared) (h : IsPrepa
           let start = first_state P (frame_decls M Q) Y in
           let same = c.starts n M Q start a.made a.arrivals set_up in
           let run = c.fails i n M Q start a.made a.arrivals set_up said none_refused in
-          subst (λ j. Fails P (has set) (record { implementation = n; spot = spot; candidate = candidate }) j (state_of cex.globals.items cex.frame.items) (map choice_of cex.choices.items)) (sym is)
+          subst (λ j. Fails P (has set) (record { implementation = n; spot = spot; candidate = candidate }) j (state_of (view.vals_in cex.globals.items) (view.vals_in cex.frame.items)) (map choice_of cex.choices.items)) (sym is)
           (record {
             meets = laws.meets P i o none off.normal;
             state = subst (IsState P n) same (laws.starts P n M Q t o im pr Y typed);
             fails =
-                subst (λ x. induction_run P x i n (state_of cex.globals.items cex.frame.items) (map choice_of cex.choices.items) ≡ Failed spot) (set_same set)
+                subst (λ x. induction_run P x i n (state_of (view.vals_in cex.globals.items) (view.vals_in cex.frame.items)) (map choice_of cex.choices.items) ≡ Failed spot) (set_same set)
                 (subst (λ x. induction_run P (set_of set) i n x (map choice_of cex.choices.items) ≡ Failed spot) same run);
           })
 
@@ -322,21 +321,21 @@ module _ (laws : LeafLaws) (p : r.Program) (n : ℕ) (w : Prepared) (h : IsPrepa
     IsRun None = ⊥
     IsRun (Some cex) = HasLeaf P (has set) place es cex × IsFailure P (has set) place cex
 
-    abbrev Told : List Block → List ℕ → List FormBlock → List Bool → List Val → List TableOf → Option Counterexample → Type 0
+    abbrev Told : List Block → List ℕ → List FormBlock → List Bool → List Val → List Table → Option Counterexample → Type 0
     Told bs ns forms ts vs tables got =
         IsTold (is_denied (set_of set) spot (bools_at ts) forms) got (IsCounterexample P (map (block_of p) bs) w.frame ns forms (set_of set) spot (bools_at ts) vs tables)
 
-    pub refutes : (tables : List TableOf) → AreReadOff P.functions N TS X (tables_of tables) → (bs : List Block) (ns : List ℕ) (forms : List FormBlock) (ts : List Bool) (vs : List Val) (got : Option Counterexample) → bs ≡ w.blocks.items → ns ≡ w.firsts.items → forms ≡ B → ts ≡ leaf_bools f leaf → vs ≡ Y → Told bs ns forms ts vs tables got → IsRun got
+    pub refutes : (tables : List Table) → AreReadOff P.functions N TS X tables → (bs : List Block) (ns : List ℕ) (forms : List FormBlock) (ts : List Bool) (vs : List Val) (got : Option Counterexample) → bs ≡ w.blocks.items → ns ≡ w.firsts.items → forms ≡ B → ts ≡ leaf_bools f leaf → vs ≡ Y → Told bs ns forms ts vs tables got → IsRun got
     refutes tables off bs ns forms ts vs got eb en ef et ev told =
         on got (subst (λ x. Told x w.firsts.items B (leaf_bools f leaf) Y tables got) eb (subst (λ x. Told bs x B (leaf_bools f leaf) Y tables got) en (subst (λ x. Told bs ns x (leaf_bools f leaf) Y tables got) ef (subst (λ x. Told bs ns forms x Y tables got) et (subst (λ x. Told bs ns forms ts x tables got) ev told)))))
       where
         i : Interp
-        i = record { constants = []; tables = tables_of tables }
+        i = record { constants = []; tables = tables }
 
         on : (x : Option Counterexample) → Told w.blocks.items w.firsts.items B (leaf_bools f leaf) Y tables x → IsRun x
         on None d = absurd (let bad : true ≡ false = sym (denied i off) ∙ d in let worse : ⊥ = cc in worse)
         on (Some cex) d =
             let its = d.1.tables in
             let own = subst (λ ts. IsCounterexample P (map (block_of p) w.blocks.items) w.frame w.firsts.items B (set_of set) spot T Y ts cex) (sym its) d.1 in
-            let is : interp_of cex ≡ i = ap (λ ts. record { constants = []; tables = tables_of ts }) its in
-            (run_of_leaf cex (subst (λ ts. AreReadOff P.functions N TS X (tables_of ts)) (sym its) off) own, failure i off cex is own refl)
+            let is : interp_of cex ≡ i = ap (λ ts. record { constants = []; tables = ts }) its in
+            (run_of_leaf cex (subst (λ ts. AreReadOff P.functions N TS X ts) (sym its) off) own, failure i off cex is own refl)

@@ -17,6 +17,7 @@ use Rattle.bg_linear.specs.declared.scalar.Sort.{Sort}
 use Rattle.bg_linear.specs.Sorts.{scalar_values}
 use Rattle.bg_atoms.specs.Ranks.{rank}
 use Rattle.bg_scalar.specs.Choices.{choice_of, state_of}
+use Rattle.bg_scalar.specs.Views as view
 use Rattle.bg_terms.specs.Instances.{Instance}
 use Rattle.bg_finish.specs.Finished.{AreReadOff}
 use Rattle.bg_termed.specs.Built.{built_in}
@@ -53,7 +54,7 @@ incarnation_vals p k m q f leaf = take (count_in p k m q) (vals_in p k m q f lea
 -- the run begins with the leaf's values, goes along the lowest edges from which some walk fails under the leaf's truth values, and chooses
 -- the leaf's values there
 pub record IsRunOf (p : Prog) (set : ℕ → Bool) (t : Place) (m : Impl) (q : Proc) (f : Formula) (forms : List FormBlock) (leaf : Leaf) (cex : Counterexample) : Type 0 where
-  pub state : state_of cex.globals.items cex.frame.items ≡ first_state p (frame_decls m q) (incarnation_vals p t.implementation m q f leaf)
+  pub state : state_of (view.vals_in cex.globals.items) (view.vals_in cex.frame.items) ≡ first_state p (frame_decls m q) (incarnation_vals p t.implementation m q f leaf)
   pub choices : map choice_of cex.choices.items ≡ taken (walk_over set t.spot (bools_at (leaf_bools f leaf))) (incarnation_vals p t.implementation m q f leaf) (blocks_in p t.implementation m q) forms (map next_in (arrivals_in p t.implementation m q).arrivals) (turns (walk_over set t.spot (bools_at (leaf_bools f leaf))) forms) 0
 
 -- the counterexample is the run of a complete leaf of the place's clauses behind these instances, at which no congruence is false, and

@@ -1,10 +1,9 @@
 -- The truth values of atoms and the values of incarnations, by a path that decides every atom and a point.
 use Rattle.std.specs.Prelude.{ℕ, suc, ◌+◌, ℤ, pos, Bool, true, false, List, [], ◌∷◌, slice_get, slice_set, unwrap_or}
+use Rattle.bg_ast.specs.Values.{Ty, IntTy, BoolTy, UserTy, MapTy}
 use Rattle.bg_cert.specs.declared.cert.Decision.{Decision}
 use Rattle.bg_cert.specs.declared.cert.Decision.TheVariants.{Atom, AtMost}
 use Rattle.bg_point.specs.declared.spot.Spot.{Spot}
-use Rattle.bg_fits.specs.declared.types.Holding.{Holding}
-use Rattle.bg_fits.specs.declared.types.Holding.TheVariants.{Truths, Numbers, Elements, Others}
 use Rattle.bg_scalar.specs.declared.scalar.Scalar.{Scalar}
 use Rattle.bg_scalar.specs.declared.scalar.Scalar.TheVariants.{Truth, Number, Element}
 
@@ -23,22 +22,22 @@ abbrev pub numbered : List Spot → List ℤ → List ℤ
 numbered [] zs = zs
 numbered (s ∷ ss) zs = slice_set (numbered ss zs) s.variable s.value
 
--- the value of an incarnation or a term that holds this; what is neither a number, a truth value nor an element is not said
-abbrev pub scalar_for : Holding → ℤ → Bool → Scalar
-scalar_for Truths z b = Truth b
-scalar_for Numbers z b = Number z
-scalar_for (Elements u) z b = Element u z
-scalar_for Others z b = Number (pos 0)
+-- the value of an incarnation or a term of this type; what is neither a number, a truth value nor an element is not said
+abbrev pub scalar_for : Ty → ℤ → Bool → Scalar
+scalar_for BoolTy z b = Truth b
+scalar_for IntTy z b = Number z
+scalar_for (UserTy u) z b = Element u z
+scalar_for (MapTy ks t) z b = Number (pos 0)
 
-abbrev pub one_in : Holding → ℕ
-one_in Truths = 1
-one_in Numbers = 0
-one_in (Elements u) = 0
-one_in Others = 0
+abbrev pub one_in : Ty → ℕ
+one_in BoolTy = 1
+one_in IntTy = 0
+one_in (UserTy u) = 0
+one_in (MapTy ks t) = 0
 
 -- the values of incarnations and terms, the first of which has number j, and n truth values before it
-abbrev pub scalars_from : List Bool → List ℤ → ℕ → ℕ → List Holding → List Scalar
+abbrev pub scalars_from : List Bool → List ℤ → ℕ → ℕ → List Ty → List Scalar
 scalars_from ts zs j n [] = []
-scalars_from ts zs j n (h ∷ hs) =
-    scalar_for h (unwrap_or (slice_get zs j) (pos 0)) (unwrap_or (slice_get ts n) false)
-    ∷ scalars_from ts zs (suc j) (n + one_in h) hs
+scalars_from ts zs j n (t ∷ tys) =
+    scalar_for t (unwrap_or (slice_get zs j) (pos 0)) (unwrap_or (slice_get ts n) false)
+    ∷ scalars_from ts zs (suc j) (n + one_in t) tys

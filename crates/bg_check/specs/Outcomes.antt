@@ -2,6 +2,7 @@
 use Rattle.std.specs.Prelude.{ℕ, Bool, List, length, map, filter}
 use Rattle.bg_model.specs.Interps.{interp_of}
 use Rattle.bg_scalar.specs.Choices.{choice_of, state_of}
+use Rattle.bg_scalar.specs.Views.{vals_in}
 use Rattle.bg_sound.specs.Told as t
 use Rattle.bg_check.specs.declared.verdict.Cause.{Cause}
 use Rattle.bg_check.specs.declared.verdict.Verdict.{Verdict}
@@ -12,7 +13,7 @@ use Rattle.bg_check.specs.Verdicts.{placed_at}
 abbrev pub verdict_of : (ℕ → Cause → t.Why) → Verdict → t.Verdict
 verdict_of words (Proved instances cert) = t.Proved
 verdict_of words (Refuted cex) =
-    t.Refuted (interp_of cex) (state_of cex.globals.items cex.frame.items) (map choice_of cex.choices.items)
+    t.Refuted (interp_of cex) (state_of (vals_in cex.globals.items) (vals_in cex.frame.items)) (map choice_of cex.choices.items)
 verdict_of words (Unknown rounds cause) = t.Unknown (words (length rounds.items) cause)
 
 abbrev pub told_one : (ℕ → Cause → t.Why) → Judged → t.Judged

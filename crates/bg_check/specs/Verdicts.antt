@@ -17,13 +17,12 @@ use Rattle.bg_tree.specs.Trees.{IsCause}
 use Rattle.bg_places.specs.Placed.{Placed, placed_impl}
 use Rattle.bg_places.specs.Views.{placed_of}
 use Rattle.bg_scalar.specs.Choices.{choice_of, state_of}
+use Rattle.bg_scalar.specs.Views as view
 use Rattle.bg_replay.specs.Said.{Stops, Leaves}
 use Rattle.bg_model.specs.Interps.{interp_of}
 use Rattle.bg_model.specs.declared.failure.Counterexample.{Counterexample}
 use Rattle.bg_sound.specs.Used.{UsesAll}
 use Rattle.bg_sound.specs.Told.{is_ordinary}
-use Rattle.bg_scalar.specs.Values.{val_of}
-use Rattle.bg_scalar.specs.declared.scalar.Scalar.{Scalar}
 use Rattle.bg_finish.specs.Finished.{LeavesFirst}
 use Rattle.bg_terms.specs.Instances.{Instance}
 use Rattle.bg_term_table.specs.Instances.{instances_of}
@@ -49,12 +48,12 @@ pub record HasWhy (p : Prog) (set : ℕ → Bool) (t : Place) (instances : List 
 -- the induction run under the counterexample's tables, from its values, with its choices, fails at the place
 abbrev pub IsFailure : Prog → (ℕ → Bool) → Place → Counterexample → Type 0
 IsFailure p set t cex =
-    Fails p set t (interp_of cex) (state_of cex.globals.items cex.frame.items) (map choice_of cex.choices.items)
+    Fails p set t (interp_of cex) (state_of (view.vals_in cex.globals.items) (view.vals_in cex.frame.items)) (map choice_of cex.choices.items)
 
 -- no choice is left over: without the last one the run lacks a choice
 abbrev pub IsUsed : Prog → (ℕ → Bool) → Place → Counterexample → Type 0
 IsUsed p set t cex =
-    UsesAll p set t (interp_of cex) (state_of cex.globals.items cex.frame.items) (map choice_of cex.choices.items)
+    UsesAll p set t (interp_of cex) (state_of (view.vals_in cex.globals.items) (view.vals_in cex.frame.items)) (map choice_of cex.choices.items)
 
 -- at a complete leaf of the place's clauses behind these instances an operation of a term's arguments, the first that does, leaves the
 -- range
@@ -62,9 +61,7 @@ pub record HasArgument (p : Prog) (set : ℕ → Bool) (t : Place) (instances : 
   pub formula : Formula
   pub is : HasOwnClauses p t instances formula
   pub is_leaf : IsLeaf (targets_for p t.implementation is.clauses.implementation is.clauses.procedure) formula set leaf
-  pub values : List Scalar
-  pub are : map val_of values ≡ vals_in p t.implementation is.clauses.implementation is.clauses.procedure formula leaf
-  pub leaves : LeavesFirst (terms_in p t.implementation is.clauses.implementation is.clauses.procedure) values o
+  pub leaves : LeavesFirst (terms_in p t.implementation is.clauses.implementation is.clauses.procedure) (vals_in p t.implementation is.clauses.implementation is.clauses.procedure formula leaf) o
 
 -- a round counts as one of the budget's nodes
 abbrev pub left_after : List Round → Budget → Budget

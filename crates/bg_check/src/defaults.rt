@@ -4,26 +4,34 @@ ghost use Rattle.bg_ast.specs.Meaning.{meaning_of};
 ghost use Rattle.bg_ast.specs.Views.{program_of};
 ghost use Rattle.bg_fits.specs.Scalars.{is_over_scalars};
 ghost use Rattle.bg_scalar.specs.Values.{val_of};
-ghost use Rattle.bg_fits.specs.Holdings.{holding_of};
+ghost use Rattle.bg_kinds.specs.Views.{base_of, ref_of};
 ghost use Rattle.bg_finish.specs.Finished.{default_of};
-ghost use Rattle.bg_ast.specs.Values as v;
 ghost use Rattle.bg_sense.specs.Eval.{default_for};
 ghost use Rattle.bg_fits.specs.Scalars.{is_scalar_type};
 
 use bg_ast::resolved::Resolved;
-use bg_fits::{Holding, written_holding};
+use bg_fits::{base_in, written_kind};
+use bg_kinds::{Base, TypeRef};
 use bg_scalar::Scalar;
 use std::alloc::{AllocError, Global};
 
-/// The default of what holds this.
-fn default_scalar(h: Holding) -> Scalar
-    ensures { (t : v.Ty) → h ≡ holding_of t → is_scalar_type true t ≡ true → val_of result ≡ default_for t }
+fn default_of_base(base: Base) -> Scalar
+    ensures { val_of result ≡ default_for (base_of base) }
 {
-    match h {
-        Holding::Truths => Scalar::Truth(false),
-        Holding::Numbers => Scalar::Number(0),
-        Holding::Elements(u) => Scalar::Element(u, 0),
-        Holding::Others => Scalar::Number(0),
+    match base {
+        Base::Bool => Scalar::Truth(false),
+        Base::Int => Scalar::Number(0),
+        Base::User(u) => Scalar::Element(u, 0),
+    }
+}
+
+/// The default of a type, if that is no map.
+fn default_scalar(t: TypeRef<'_>) -> Scalar
+    ensures { is_scalar_type true (ref_of t.entry) ≡ true → val_of result ≡ default_for (ref_of t.entry) }
+{
+    match base_in(t) {
+        None => Scalar::Number(0),
+        Some(base) => default_of_base(base),
     }
 }
 
@@ -36,7 +44,8 @@ pub fn defaults(alloc: Global, program: &Resolved) -> Result<Vec<Scalar>, AllocE
 {
     let mut made = Vec::new(alloc);
     for f in &program.functions {
-        made.push(default_scalar(written_holding(&program.types, &f.result)))?;
+        let t = written_kind(alloc, &program.types, &f.result)?;
+        made.push(default_scalar(t.as_ref()))?;
     }
     Ok(made)
 }

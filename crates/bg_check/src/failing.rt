@@ -9,7 +9,7 @@ ghost use Rattle.bg_cert.specs.Walks.{has};
 ghost use Rattle.bg_point.specs.Points.{target_of};
 ghost use Rattle.bg_tree.specs.Ends.{IsLeaf};
 ghost use Rattle.bg_fits.specs.Scalars.{is_over_scalars};
-ghost use Rattle.bg_scalar.specs.Values.{val_of, tables_of};
+ghost use Rattle.bg_scalar.specs.Values.{val_of};
 ghost use Rattle.bg_scalar.specs.Views.{tables_in};
 ghost use Rattle.bg_term_table.specs.Instances.{instances_of};
 ghost use Rattle.bg_termed.specs.Termed.{count_in, terms_in};
@@ -33,7 +33,7 @@ use bg_passive::laws::arrivals_fit;
 use bg_scalar::{Scalar, Table};
 use bg_sense::laws::typed_programs_have_typed_bodies;
 use bg_sense::resolved::places_have_spots_of_their_own;
-use bg_task::{Cut, Question};
+use bg_task::{Cut, Question, forms_left};
 use bg_term_table::Instance;
 use bg_termed::laws::{
     built_values_are_models, built_values_are_typed, implementations_over_scalars_have_no_maps,
@@ -62,10 +62,10 @@ fn first(values: &[Scalar], many: usize) -> &[Scalar]
 }
 
 /// The counterexample of a complete leaf of a place's clauses behind instances, where these tables are read off its values.
-pub fn failing<'q, 'p>(
+pub fn failing(
     alloc: Global,
-    question: Question<'q, 'p>,
-    cut: &'q Cut,
+    question: Question<'_, '_>,
+    cut: &Cut<'_>,
     instances: &[Instance],
     met: Met<'_>,
     tables: Vec<Table>,
@@ -79,7 +79,7 @@ pub fn failing<'q, 'p>(
     requires leaf { IsLeaf (target_of question.prepared.now.targets.items) (formula_of met.clauses.now) (has question.set.now) met.leaf.now }
     requires truths { met.truths.now ≡ leaf_bools (formula_of met.clauses.now) met.leaf.now }
     requires values { (h : IsPrepared (program_of question.program.now) question.place.now.implementation question.prepared.now) → map val_of met.values.now ≡ vals_in (meaning_of (program_of question.program.now)) question.place.now.implementation (impl_of (named_of (program_of question.program.now).types) h.implementation) (proc_of (named_of (program_of question.program.now).types) h.procedure) (formula_of met.clauses.now) met.leaf.now }
-    requires read_off { (h : IsPrepared (program_of question.program.now) question.place.now.implementation question.prepared.now) → AreReadOff (meaning_of (program_of question.program.now)).functions (count_in (meaning_of (program_of question.program.now)) question.place.now.implementation (impl_of (named_of (program_of question.program.now).types) h.implementation) (proc_of (named_of (program_of question.program.now).types) h.procedure)) (terms_in (meaning_of (program_of question.program.now)) question.place.now.implementation (impl_of (named_of (program_of question.program.now).types) h.implementation) (proc_of (named_of (program_of question.program.now).types) h.procedure)) (map val_of met.values.now) (tables_of (tables_in tables.items)) }
+    requires read_off { (h : IsPrepared (program_of question.program.now) question.place.now.implementation question.prepared.now) → AreReadOff (meaning_of (program_of question.program.now)).functions (count_in (meaning_of (program_of question.program.now)) question.place.now.implementation (impl_of (named_of (program_of question.program.now).types) h.implementation) (proc_of (named_of (program_of question.program.now).types) h.procedure)) (terms_in (meaning_of (program_of question.program.now)) question.place.now.implementation (impl_of (named_of (program_of question.program.now).types) h.implementation) (proc_of (named_of (program_of question.program.now).types) h.procedure)) (map val_of met.values.now) (tables_in tables.items) }
     ensures { IfOk result (λ cex. HasLeaf (meaning_of (program_of question.entry.program.now)) (has question.entry.set.now) (placed_of question.entry.place.now).place (instances_of instances.now) cex × IsFailure (meaning_of (program_of question.entry.program.now)) (has question.entry.set.now) (placed_of question.entry.place.now).place cex) }
 {
     typed_programs_have_typed_bodies();
@@ -101,12 +101,13 @@ pub fn failing<'q, 'p>(
     scalars_say_the_same();
     built_values_are_models();
     let prepared = question.prepared;
+    let forms = forms_left(alloc, cut)?;
     let routine = Routine {
         program: question.program,
         frame: prepared.frame,
         blocks: &prepared.blocks,
         firsts: &prepared.firsts,
-        forms: &cut.atoms.blocks,
+        forms: &forms,
         front: instances.len(),
     };
     let valuation = Valuation {

@@ -3,6 +3,7 @@ ghost use Rattle.std.specs.Prelude.{◌≡◌, ◌⊎◌, ℕ, Bool, true, List,
 ghost use Rattle.bg_base.specs.declared.exact.OutOfRange.{OutOfRange};
 ghost use Rattle.bg_ast.specs.Resolved.{Program, Impl, Proc};
 ghost use Rattle.bg_ast.specs.Meaning.{meaning_of};
+ghost use Rattle.bg_ast.specs.Values.{Val, Table};
 ghost use Rattle.bg_ast.specs.Execution.{Choice, Place};
 ghost use Rattle.bg_sense.specs.Typed.{IsTyped};
 ghost use Rattle.bg_sense.specs.Tables.{are_tables};
@@ -16,12 +17,9 @@ ghost use Rattle.bg_replay.specs.Said.{Stops, Leaves};
 ghost use Rattle.bg_replay.specs.Views.{said_by};
 ghost use Rattle.bg_replay.specs.Endings.{Tells, IsReplay};
 ghost use Rattle.bg_replay.specs.declared.ending.Ending.{Ending};
-ghost use Rattle.bg_scalar.specs.Tables.{TableOf};
-ghost use Rattle.bg_scalar.specs.Values.{tables_of};
-ghost use Rattle.bg_scalar.specs.Views.{tables_in};
-ghost use Rattle.bg_scalar.specs.Choices.{state_of};
+ghost use Rattle.bg_scalar.specs.Views.{tables_in, vals_in};
+ghost use Rattle.bg_scalar.specs.Choices.{choice_of, state_of};
 ghost use Rattle.bg_scalar.specs.declared.choice.Choice as replayed;
-ghost use Rattle.bg_scalar.specs.declared.scalar.Scalar.{Scalar};
 ghost use Rattle.bg_model.specs.declared.failure.Counterexample.{Counterexample};
 ghost use Rattle.bg_tree.specs.declared.outcome.Budget.{Budget};
 ghost use Rattle.bg_check.specs.declared.verdict.Judged.{Judged};
@@ -70,10 +68,10 @@ pub fn proved_under_a_set_is_safe()
 /// implementation and with a table of its type for each function, tells how the run ends: with an answer, or at an operation that leaves
 /// 128 bits.
 pub fn replays_over_scalars_tell()
-    ensures { (p : Program) (set : List Bool) (k : ℕ) (m : Impl) (q : Proc) (bs : List Block) (ts : List TableOf) (gs fs : List Scalar) (cs : List replayed.Choice) (ending : Ending) →
+    ensures { (p : Program) (set : List Bool) (k : ℕ) (m : Impl) (q : Proc) (bs : List Block) (ts : List Table) (gs fs : List Val) (cs : List Choice) (ending : Ending) →
         IsTyped (meaning_of p) → is_over_scalars true (meaning_of p) ≡ true →
         slice_get p.implementations k ≡ Some m → slice_get p.procedures m.procedure ≡ Some q → AreBlocks p k m q bs →
-        are_tables (meaning_of p).functions (tables_of ts) ≡ true → IsState (meaning_of p) k (state_of gs fs) → IsReplay p bs set k m q ts gs fs cs ending → Tells (said_by ending) }
+        are_tables (meaning_of p).functions ts ≡ true → IsState (meaning_of p) k (state_of gs fs) → IsReplay p bs set k m q ts gs fs cs ending → Tells (said_by ending) }
 {
     blocks_are_typed()
 }
@@ -84,7 +82,7 @@ pub fn failures_replay_or_leave()
         IsTyped (meaning_of p) → is_over_scalars true (meaning_of p) ≡ true →
         slice_get p.implementations t.implementation ≡ Some m → slice_get p.procedures m.procedure ≡ Some q → AreBlocks p t.implementation m q bs →
         IsFailure (meaning_of p) (has set) t cex →
-        IsReplay p bs set t.implementation m q (tables_in cex.tables.items) cex.globals.items cex.frame.items cex.choices.items ending →
+        IsReplay p bs set t.implementation m q (tables_in cex.tables.items) (vals_in cex.globals.items) (vals_in cex.frame.items) (map choice_of cex.choices.items) ending →
         (said_by ending ≡ Stops (Failed t.spot)) ⊎ ((o : OutOfRange) × (said_by ending ≡ Leaves o)) }
 {
     blocks_are_typed();
@@ -96,7 +94,7 @@ pub fn refuted_places_replay()
     ensures { (p : Program) (set : List Bool) (budget : Budget) (t : Place) (cex : Counterexample) (m : Impl) (q : Proc) (bs : List Block) (ending : Ending) →
         slice_get p.implementations t.implementation ≡ Some m → slice_get p.procedures m.procedure ≡ Some q → AreBlocks p t.implementation m q bs →
         IsRight budget (meaning_of p) (has set) t (Refuted cex) →
-        IsReplay p bs set t.implementation m q (tables_in cex.tables.items) cex.globals.items cex.frame.items cex.choices.items ending → said_by ending ≡ Stops (Failed t.spot) }
+        IsReplay p bs set t.implementation m q (tables_in cex.tables.items) (vals_in cex.globals.items) (vals_in cex.frame.items) (map choice_of cex.choices.items) ending → said_by ending ≡ Stops (Failed t.spot) }
 {}
 
 /// The replay of a counterexample without its last choice lacks a choice, or fails at the place.
@@ -104,7 +102,7 @@ pub fn shorter_replays_lack_a_choice_or_fail()
     ensures { (p : Program) (set : List Bool) (t : Place) (cex : Counterexample) (m : Impl) (q : Proc) (bs : List Block) (front : List replayed.Choice) (last : replayed.Choice) (ending : Ending) →
         slice_get p.implementations t.implementation ≡ Some m → slice_get p.procedures m.procedure ≡ Some q → AreBlocks p t.implementation m q bs →
         cex.choices.items ≡ front ++ (last ∷ []) → RunsTo (meaning_of p) (has set) t cex (Stops (Failed t.spot)) →
-        IsReplay p bs set t.implementation m q (tables_in cex.tables.items) cex.globals.items cex.frame.items front ending →
+        IsReplay p bs set t.implementation m q (tables_in cex.tables.items) (vals_in cex.globals.items) (vals_in cex.frame.items) (map choice_of front) ending →
         (said_by ending ≡ Stops BadChoice) ⊎ (said_by ending ≡ Stops (Failed t.spot)) }
 {}
 

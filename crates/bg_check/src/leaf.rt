@@ -1,9 +1,11 @@
 //! The truth values of atoms and the values of incarnations and terms, by a complete leaf.
-ghost use Rattle.std.specs.Prelude.{◌≡◌, ◌+◌, pos, false, replicate, length, slice_get, slice_set, unwrap_or, IfOk};
+ghost use Rattle.std.specs.Prelude.{◌≡◌, ◌+◌, pos, false, map, replicate, length, slice_get, slice_set, unwrap_or, IfOk};
+ghost use Rattle.bg_kinds.specs.Views.{base_of, ref_in, ref_of};
 ghost use Rattle.bg_check.specs.Leaves.{marked_by, marked, numbered, scalar_for, one_in, scalars_from};
 
 use bg_cert::Decision;
-use bg_fits::Holding;
+use bg_fits::base_in;
+use bg_kinds::{Base, TypeRef, ValueType};
 use bg_point::Spot;
 use bg_scalar::Scalar;
 use std::alloc::{AllocError, Global};
@@ -72,15 +74,23 @@ fn truth_at(truths: &[bool], n: usize) -> bool
     }
 }
 
-/// The value of what holds this.
-fn scalar_for(h: Holding, z: i128, b: bool) -> Scalar
-    ensures { result ≡ scalar_for h z b }
+fn scalar_of(base: Base, z: i128, b: bool) -> Scalar
+    ensures { result ≡ scalar_for (base_of base) z b }
 {
-    match h {
-        Holding::Truths => Scalar::Truth(b),
-        Holding::Numbers => Scalar::Number(z),
-        Holding::Elements(u) => Scalar::Element(u, z),
-        Holding::Others => Scalar::Number(0),
+    match base {
+        Base::Bool => Scalar::Truth(b),
+        Base::Int => Scalar::Number(z),
+        Base::User(u) => Scalar::Element(u, z),
+    }
+}
+
+/// The value of what has this type.
+fn scalar_for(t: TypeRef<'_>, z: i128, b: bool) -> Scalar
+    ensures { result ≡ scalar_for (ref_of t.entry) z b }
+{
+    match base_in(t) {
+        None => Scalar::Number(0),
+        Some(base) => scalar_of(base, z, b),
     }
 }
 
@@ -94,15 +104,23 @@ fn one_more(n: usize) -> Result<usize, AllocError>
     }
 }
 
-/// How many truth values there are behind what holds this.
-fn behind(n: usize, h: Holding) -> Result<usize, AllocError>
-    ensures { IfOk result (λ k. k ≡ n + one_in h) }
+fn behind_base(n: usize, base: Base) -> Result<usize, AllocError>
+    ensures { IfOk result (λ k. k ≡ n + one_in (base_of base)) }
 {
-    match h {
-        Holding::Truths => one_more(n),
-        Holding::Numbers => Ok(n),
-        Holding::Elements(_) => Ok(n),
-        Holding::Others => Ok(n),
+    match base {
+        Base::Bool => one_more(n),
+        Base::Int => Ok(n),
+        Base::User(_) => Ok(n),
+    }
+}
+
+/// How many truth values there are behind what has this type.
+fn behind(n: usize, t: TypeRef<'_>) -> Result<usize, AllocError>
+    ensures { IfOk result (λ k. k ≡ n + one_in (ref_of t.entry)) }
+{
+    match base_in(t) {
+        None => Ok(n),
+        Some(base) => behind_base(n, base),
     }
 }
 
@@ -111,18 +129,18 @@ fn behind(n: usize, h: Holding) -> Result<usize, AllocError>
 #[tactic(auto, using(crate::proofs::Points::next_scalar, crate::proofs::Points::no_more))]
 pub fn leaf_values(
     alloc: Global,
-    holdings: &[Holding],
+    kinds: &[ValueType],
     truths: &[bool],
     spots: &[Spot],
 ) -> Result<Vec<Scalar>, AllocError>
-    ensures { IfOk result (λ made. made.items ≡ scalars_from truths.now (numbered spots.now (replicate (length holdings.now) (pos 0))) 0 0 holdings.now) }
+    ensures { IfOk result (λ made. made.items ≡ scalars_from truths.now (numbered spots.now (replicate (length kinds.now) (pos 0))) 0 0 (map ref_in kinds.now)) }
 {
-    let numbers = leaf_numbers(alloc, holdings.len(), spots)?;
+    let numbers = leaf_numbers(alloc, kinds.len(), spots)?;
     let mut made = Vec::new(alloc);
     let mut n = 0;
-    for (j, h) in holdings.iter().enumerate() {
-        made.push(scalar_for(*h, number_at(&numbers, j), truth_at(truths, n)))?;
-        n = behind(n, *h)?;
+    for (j, t) in kinds.iter().enumerate() {
+        made.push(scalar_for(t.as_ref(), number_at(&numbers, j), truth_at(truths, n)))?;
+        n = behind(n, t.as_ref())?;
     }
     Ok(made)
 }

@@ -1,6 +1,6 @@
-//! What is known of a place of a program over truth values, whole numbers and functions on them: proved with a certificate behind
-//! instances, refuted with a counterexample, or unknown with the rounds of instances and what is kept of a budget, or an operation that
-//! leaves 128 bits.
+//! What is known of a place of a program over truth values, whole numbers, elements of user types and functions on them: proved with a
+//! certificate behind instances, refuted with a counterexample, or unknown with the rounds of instances and what is kept of a budget, or
+//! an operation that leaves 128 bits.
 #![tactic(auto)]
 
 mod defaults;

@@ -32,7 +32,7 @@ use bg_task::{Cut, Made, Question, cut_down, place_clauses};
 use bg_term_table::Instance;
 use bg_termed::laws::{
     built_values_are_typed, implementations_over_scalars_have_no_maps, passive_blocks_have_terms,
-    programs_over_scalars_are_tabled,
+    programs_over_scalars_are_tabled, terms_over_scalars_are_applications,
 };
 use bg_tree::{Budget, Leaf, Outcome};
 use std::alloc::{AllocError, Global};
@@ -41,7 +41,7 @@ use std::alloc::{AllocError, Global};
 fn leaf_found(
     alloc: Global,
     question: Question<'_, '_>,
-    cut: &Cut,
+    cut: &Cut<'_>,
     instances: &[Instance],
     f: &Clauses,
     leaf: Leaf,
@@ -58,10 +58,11 @@ fn leaf_found(
     programs_over_scalars_are_tabled();
     implementations_over_scalars_have_no_maps();
     passive_blocks_have_terms();
+    terms_over_scalars_are_applications();
     built_values_are_typed();
     let prepared = question.prepared;
     let truths = leaf_truths(alloc, f.atoms.len(), &leaf.path)?;
-    let values = leaf_values(alloc, &prepared.holdings, &truths, &leaf.spots)?;
+    let values = leaf_values(alloc, &prepared.kinds, &truths, &leaf.spots)?;
     let defaults = defaults(alloc, question.program)?;
     match finish(alloc, &defaults, prepared.count, &prepared.terms, &values)? {
         Finish::Tables(tables) => {
@@ -89,7 +90,7 @@ fn clauses_found(
     question: Question<'_, '_>,
     left: Budget,
     instances: &[Instance],
-    cut: &Cut,
+    cut: &Cut<'_>,
     f: &Clauses,
 ) -> Result<Found, AllocError>
     requires typed { IsTyped (meaning_of (program_of question.program.now)) }

@@ -14,3 +14,4 @@ pub mod Emits
 pub mod Onward
 pub mod Counted
 pub mod Once
+pub mod Making

@@ -8,3 +8,5 @@ pub mod Tables
 pub mod Whole
 pub mod Valued
 pub mod Signs
+pub mod Lends
+pub mod Cutting

@@ -6,7 +6,7 @@ use Rattle.bg_clause.specs.declared.waiting.Waiting as code
 use Rattle.bg_clause.specs.declared.waiting.Waiting.TheVariants as waiting
 use Rattle.bg_forms.specs.Forms.{Form, Plain, Is, NotSo, Both, Same}
 use Rattle.bg_clause.specs.Emitted.{after_as, after_defined, emitted_as, defined}
-use Rattle.bg_forms.specs.Views.{form_in}
+use Rattle.bg_clause.specs.Lends.{lent_in}
 
 -- one of the literals is to be true or the form to be worth this; or the literal is to be worth what the form is
 pub data Waits : Type 0 where
@@ -15,11 +15,11 @@ pub data Waits : Type 0 where
 
 -- what waits with a form that is to be true or false beside literals
 abbrev pub says_of : Saying → Waits
-says_of s = Says s.sign s.literals.items (form_in s.form)
+says_of s = Says s.sign s.literals.items (lent_in s.form)
 
 abbrev pub waits_of : code.Waiting → Waits
 waits_of (waiting.Says s) = says_of s
-waits_of (waiting.Defines k f) = Defines k (form_in f)
+waits_of (waiting.Defines k f) = Defines k (lent_in f)
 
 abbrev pub emitted_of : Waits → ℕ → List (List Literal)
 emitted_of (Says s ls f) n = emitted_as s ls f n

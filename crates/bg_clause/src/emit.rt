@@ -1,35 +1,36 @@
 //! Clauses of forms.
 ghost use Rattle.std.specs.Prelude.{◌≡◌, ◌<◌, ◌≤◌, ℕ, true, ◌∷◌, ◌++◌, map, IfOk, OnOk};
 ghost use Rattle.bg_clause.specs.Emitted.{after, emitted};
-ghost use Rattle.bg_forms.specs.Views.{form_in};
+ghost use Rattle.bg_clause.specs.Lends.{lent_in};
 ghost use Rattle.bg_clause.specs.Views.{clauses_in};
 ghost use Rattle.bg_clause.specs.Waiting.{Says, Defines, says_of, waits_of, emitted_all, after_all, size_of, size_all};
 
 use crate::clause::add;
+use crate::lent::{Leaf, Lent, Parts};
 use crate::naming::{name_for, signed_as};
 use crate::pairs::{add_both, add_equal, add_same};
 use crate::waiting::{Saying, Waiting, define, define_both, say, say_both, say_not_both};
-use bg_forms::{Form, Parts, opposite};
+use bg_forms::opposite;
 use bg_formula::Literal;
 use std::alloc::{AllocError, Global};
 use std::collections::VecDeque;
 
 /// One of the literals is true or both forms are: a literal has its clause, other forms wait.
 #[tactic(auto, using(crate::proofs::Emits::emit_forms))]
-fn emit_both(
+fn emit_both<'a>(
     alloc: Global,
     out: &mut Vec<Vec<Literal>>,
-    waiting: &mut VecDeque<Waiting>,
+    waiting: &mut VecDeque<Waiting<'a>>,
     literals: Vec<Literal>,
-    f: Form,
-    g: Form,
+    f: Lent<'a>,
+    g: Lent<'a>,
 ) -> Result<(), AllocError>
-    ensures clauses { OnOk result ((n : ℕ) → clauses_in out.new.items ++ emitted_all (map waits_of waiting.new.items) n ≡ clauses_in out.old.items ++ emitted_all (Says true literals.items (form_in f) ∷ Says true literals.items (form_in g) ∷ map waits_of waiting.old.items) n) }
-    ensures more { OnOk result ((n : ℕ) → after_all (map waits_of waiting.new.items) n ≡ after_all (Says true literals.items (form_in f) ∷ Says true literals.items (form_in g) ∷ map waits_of waiting.old.items) n) }
-    ensures smaller { OnOk result (size_all (map waits_of waiting.new.items) ≤ size_all (Says true literals.items (form_in f) ∷ Says true literals.items (form_in g) ∷ map waits_of waiting.old.items)) }
+    ensures clauses { OnOk result ((n : ℕ) → clauses_in out.new.items ++ emitted_all (map waits_of waiting.new.items) n ≡ clauses_in out.old.items ++ emitted_all (Says true literals.items (lent_in f.entry) ∷ Says true literals.items (lent_in g.entry) ∷ map waits_of waiting.old.items) n) }
+    ensures more { OnOk result ((n : ℕ) → after_all (map waits_of waiting.new.items) n ≡ after_all (Says true literals.items (lent_in f.entry) ∷ Says true literals.items (lent_in g.entry) ∷ map waits_of waiting.old.items) n) }
+    ensures smaller { OnOk result (size_all (map waits_of waiting.new.items) ≤ size_all (Says true literals.items (lent_in f.entry) ∷ Says true literals.items (lent_in g.entry) ∷ map waits_of waiting.old.items)) }
 {
     match &f {
-        Form::Is(l) => {
+        Lent::Leaf(Leaf::Is(l)) => {
             let mut all = literals;
             all.push(*l)?;
             add(alloc, out, all.as_slice())?;
@@ -42,16 +43,16 @@ fn emit_both(
 
 /// One of the literals is true or the form is worth this: it has its clauses, or parts of it wait.
 #[tactic(auto, using(crate::proofs::Emits::emit_forms))]
-fn emit_says(
+fn emit_says<'a>(
     alloc: Global,
     out: &mut Vec<Vec<Literal>>,
-    waiting: &mut VecDeque<Waiting>,
-    says: Saying,
+    waiting: &mut VecDeque<Waiting<'a>>,
+    says: Saying<'a>,
     next: &mut u32,
 ) -> Result<(), AllocError>
-    ensures clauses { OnOk result (clauses_in out.new.items ++ emitted_all (map waits_of waiting.new.items) next.new ≡ clauses_in out.old.items ++ emitted_all (says_of says ∷ map waits_of waiting.old.items) next.old) }
-    ensures more { OnOk result (after_all (map waits_of waiting.new.items) next.new ≡ after_all (says_of says ∷ map waits_of waiting.old.items) next.old) }
-    ensures smaller { OnOk result (size_all (map waits_of waiting.new.items) < size_all (says_of says ∷ map waits_of waiting.old.items)) }
+    ensures clauses { OnOk result (clauses_in out.new.items ++ emitted_all (map waits_of waiting.new.items) next.new ≡ clauses_in out.old.items ++ emitted_all (says_of says.entry ∷ map waits_of waiting.old.items) next.old) }
+    ensures more { OnOk result (after_all (map waits_of waiting.new.items) next.new ≡ after_all (says_of says.entry ∷ map waits_of waiting.old.items) next.old) }
+    ensures smaller { OnOk result (size_all (map waits_of waiting.new.items) < size_all (says_of says.entry ∷ map waits_of waiting.old.items)) }
 {
     let Saying {
         literals,
@@ -91,17 +92,17 @@ fn emit_says(
 
 /// The literal is worth what the form is: it has its clauses, or parts of it wait.
 #[tactic(auto, using(crate::proofs::Emits::emit_forms))]
-fn emit_defines(
+fn emit_defines<'a>(
     alloc: Global,
     out: &mut Vec<Vec<Literal>>,
-    waiting: &mut VecDeque<Waiting>,
+    waiting: &mut VecDeque<Waiting<'a>>,
     k: Literal,
-    form: Form,
+    form: Lent<'a>,
     next: &mut u32,
 ) -> Result<(), AllocError>
-    ensures clauses { OnOk result (clauses_in out.new.items ++ emitted_all (map waits_of waiting.new.items) next.new ≡ clauses_in out.old.items ++ emitted_all (Defines k (form_in form) ∷ map waits_of waiting.old.items) next.old) }
-    ensures more { OnOk result (after_all (map waits_of waiting.new.items) next.new ≡ after_all (Defines k (form_in form) ∷ map waits_of waiting.old.items) next.old) }
-    ensures smaller { OnOk result (size_all (map waits_of waiting.new.items) < size_all (Defines k (form_in form) ∷ map waits_of waiting.old.items)) }
+    ensures clauses { OnOk result (clauses_in out.new.items ++ emitted_all (map waits_of waiting.new.items) next.new ≡ clauses_in out.old.items ++ emitted_all (Defines k (lent_in form.entry) ∷ map waits_of waiting.old.items) next.old) }
+    ensures more { OnOk result (after_all (map waits_of waiting.new.items) next.new ≡ after_all (Defines k (lent_in form.entry) ∷ map waits_of waiting.old.items) next.old) }
+    ensures smaller { OnOk result (size_all (map waits_of waiting.new.items) < size_all (Defines k (lent_in form.entry) ∷ map waits_of waiting.old.items)) }
 {
     match form.parts() {
         Parts::Plain(b) => add(alloc, out, &[signed_as(b, k)]),
@@ -123,16 +124,16 @@ fn emit_defines(
 }
 
 /// One form more has its clauses, or parts of it wait.
-fn emit_one(
+fn emit_one<'a>(
     alloc: Global,
     out: &mut Vec<Vec<Literal>>,
-    waiting: &mut VecDeque<Waiting>,
-    w: Waiting,
+    waiting: &mut VecDeque<Waiting<'a>>,
+    w: Waiting<'a>,
     next: &mut u32,
 ) -> Result<(), AllocError>
-    ensures clauses { OnOk result (clauses_in out.new.items ++ emitted_all (map waits_of waiting.new.items) next.new ≡ clauses_in out.old.items ++ emitted_all (waits_of w ∷ map waits_of waiting.old.items) next.old) }
-    ensures more { OnOk result (after_all (map waits_of waiting.new.items) next.new ≡ after_all (waits_of w ∷ map waits_of waiting.old.items) next.old) }
-    ensures smaller { OnOk result (size_all (map waits_of waiting.new.items) < size_all (waits_of w ∷ map waits_of waiting.old.items)) }
+    ensures clauses { OnOk result (clauses_in out.new.items ++ emitted_all (map waits_of waiting.new.items) next.new ≡ clauses_in out.old.items ++ emitted_all (waits_of w.entry ∷ map waits_of waiting.old.items) next.old) }
+    ensures more { OnOk result (after_all (map waits_of waiting.new.items) next.new ≡ after_all (waits_of w.entry ∷ map waits_of waiting.old.items) next.old) }
+    ensures smaller { OnOk result (size_all (map waits_of waiting.new.items) < size_all (waits_of w.entry ∷ map waits_of waiting.old.items)) }
 {
     match w {
         Waiting::Says(says) => emit_says(alloc, out, waiting, says, next),
@@ -142,15 +143,15 @@ fn emit_one(
 
 /// Adds clauses that say that one of the literals or the form is true.
 #[tactic(auto, using(crate::proofs::Emits::emit_forms))]
-pub fn emit(
+pub fn emit<'a>(
     alloc: Global,
     out: &mut Vec<Vec<Literal>>,
     literals: Vec<Literal>,
-    f: Form,
+    f: Lent<'a>,
     next: &mut u32,
 ) -> Result<(), AllocError>
-    ensures clauses { OnOk result (clauses_in out.new.items ≡ clauses_in out.old.items ++ emitted literals.items (form_in f) next.old) }
-    ensures more { OnOk result (next.new ≡ after (form_in f) next.old) }
+    ensures clauses { OnOk result (clauses_in out.new.items ≡ clauses_in out.old.items ++ emitted literals.items (lent_in f.entry) next.old) }
+    ensures more { OnOk result (next.new ≡ after (lent_in f.entry) next.old) }
 {
     let mut waiting = VecDeque::new(alloc);
     say(&mut waiting, true, literals, f)?;

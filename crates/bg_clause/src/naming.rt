@@ -1,9 +1,10 @@
 //! Names of forms.
 ghost use Rattle.std.specs.Prelude.{◌≡◌, suc, [], ◌∷◌, IfOk, OnOk};
 ghost use Rattle.bg_clause.specs.Emitted.{names, denies, name_of, next_of, signed_as};
-ghost use Rattle.bg_forms.specs.Views.{form_in};
+ghost use Rattle.bg_clause.specs.Lends.{lent_in};
 
-use bg_forms::{Form, opposite};
+use crate::lent::{Lent, literal_of};
+use bg_forms::opposite;
 use bg_formula::Literal;
 use std::alloc::{AllocError, Global};
 
@@ -55,16 +56,13 @@ fn denied_name(next: &mut u32) -> Result<Literal, AllocError>
 }
 
 /// The literal that stands for a form: a literal for itself, and for any other one the denial of a new name.
-pub fn name_for(f: &Form, next: &mut u32) -> Result<Literal, AllocError>
-    ensures named { IfOk result (λ l. l ≡ name_of (form_in f.now) next.old) }
-    ensures more { OnOk result (next.new ≡ next_of (form_in f.now) next.old) }
+pub fn name_for(f: &Lent<'_>, next: &mut u32) -> Result<Literal, AllocError>
+    ensures named { IfOk result (λ l. l ≡ name_of (lent_in f.now) next.old) }
+    ensures more { OnOk result (next.new ≡ next_of (lent_in f.now) next.old) }
 {
-    match f {
-        Form::Is(l) => Ok(*l),
-        Form::Plain(_) => denied_name(next),
-        Form::NotSo(_) => denied_name(next),
-        Form::Both(_, _) => denied_name(next),
-        Form::Same(_, _) => denied_name(next),
+    match literal_of(f) {
+        Some(l) => Ok(l),
+        None => denied_name(next),
     }
 }
 

@@ -1,67 +1,85 @@
 //! The clauses of blocks, from the last block back.
 ghost use Rattle.std.specs.Prelude.{◌≡◌, false, [], ◌∷◌, map, IfOk, OnOk};
 ghost use Rattle.bg_places.specs.Views.{spot_of};
+ghost use Rattle.bg_forms.specs.Forms.{Plain};
+ghost use Rattle.bg_formed.specs.Used.{unused, uses, use_later};
+ghost use Rattle.bg_formed.specs.Seen.{use_of};
 ghost use Rattle.bg_formed.specs.Views.{form_block_of};
-ghost use Rattle.bg_clause.specs.Told.{nothing, is_short, told_by, told, with_entry, entry_told};
-ghost use Rattle.bg_forms.specs.Views.{form_in};
+ghost use Rattle.bg_slice.specs.Slices.{sliced};
+ghost use Rattle.bg_clause.specs.Told.{nothing, is_short, with_entry, entry_told};
+ghost use Rattle.bg_clause.specs.Cutting.{ahead_of, cut_nothing, cut_by, cut_one, cut_told};
+ghost use Rattle.bg_clause.specs.Lends.{lent_in};
 ghost use Rattle.bg_clause.specs.Views.{short_in};
-ghost use Rattle.bg_clause.specs.Telling.{telling_of};
+ghost use Rattle.bg_clause.specs.Telling.{told_in, telling_of};
 
 use crate::emit::emit;
+use crate::fails::Ahead;
+use crate::lent::Lent;
 use crate::naming::{alone, denies, names, take_next};
 use crate::short::{Short, short_of};
-use crate::ways::fail_block;
-use bg_formed::FormBlock;
-use bg_forms::Form;
+use crate::ways::{Later, cut_block};
+use bg_formed::{FormBlock, Use};
 use bg_formula::Literal;
 use bg_places::Spot;
 use std::alloc::{AllocError, Global};
 use std::collections::VecDeque;
 
-/// For each block, the next one first, what stands in a form in its place; the clauses so far; and the next free number of an atom.
+/// What is known of the blocks so far, the clauses, and the next free number of an atom.
 #[derive(Drop)]
 pub struct Telling {
-    pub fails: VecDeque<Short>,
+    pub later: Later,
     pub clauses: Vec<Vec<Literal>>,
     pub next: u32,
 }
 
+/// What is told of all blocks, and what is reached from the first one.
+#[derive(Drop)]
+pub struct Entry {
+    pub told: Telling,
+    pub on: Use,
+}
+
 /// Nothing is told yet, and the numbers from this one on are free.
 fn nothing(alloc: Global, next: u32) -> Telling
-    ensures { telling_of result ≡ nothing next }
+    ensures { telling_of result ≡ cut_nothing next }
 {
     Telling {
-        fails: VecDeque::new(alloc),
+        later: Later {
+            fails: VecDeque::new(alloc),
+            uses: VecDeque::new(alloc),
+        },
         clauses: Vec::new(alloc),
         next,
     }
 }
 
 /// One more block in front, in whose place this stands.
-fn stand(s: &mut Telling, short: Short) -> Result<(), AllocError>
-    ensures { OnOk result (telling_of s.new ≡ record (telling_of s.old) { fails = short_in short ∷ (telling_of s.old).fails }) }
+fn stand(s: &mut Telling, short: Short, on: Use) -> Result<(), AllocError>
+    ensures { OnOk result (telling_of s.new ≡ record { told = record (told_in s.old) { fails = short_in short ∷ (told_in s.old).fails }; uses = use_of on ∷ (telling_of s.old).uses }) }
 {
-    s.fails.push_front(short)?;
+    s.later.fails.push_front(short)?;
+    s.later.uses.push_front(on)?;
     Ok(())
 }
 
 /// One more block in front, in whose place a new atom stands.
-fn name_it(alloc: Global, s: &mut Telling, f: Form) -> Result<(), AllocError>
-    ensures { OnOk result (telling_of s.new ≡ told_by false (form_in f) (telling_of s.old)) }
+fn name_it(alloc: Global, s: &mut Telling, ahead: Ahead<'_>) -> Result<(), AllocError>
+    ensures { OnOk result (telling_of s.new ≡ cut_by false (ahead_of ahead.entry) (telling_of s.old)) }
 {
+    let Ahead { form, on } = ahead;
     let name = take_next(&mut s.next)?;
     let literals = alone(alloc, denies(name))?;
-    emit(alloc, &mut s.clauses, literals, f, &mut s.next)?;
-    stand(s, Short::Is(names(name)))
+    emit(alloc, &mut s.clauses, literals, form, &mut s.next)?;
+    stand(s, Short::Is(names(name)), on)
 }
 
-/// One more block in front, where its form is this.
-fn tell(alloc: Global, s: &mut Telling, f: Form) -> Result<(), AllocError>
-    ensures { OnOk result (telling_of s.new ≡ told_by (is_short (form_in f)) (form_in f) (telling_of s.old)) }
+/// One more block in front, of which this is told.
+fn tell(alloc: Global, s: &mut Telling, ahead: Ahead<'_>) -> Result<(), AllocError>
+    ensures { OnOk result (telling_of s.new ≡ cut_by (is_short (lent_in ahead.entry.form)) (ahead_of ahead.entry) (telling_of s.old)) }
 {
-    match short_of(&f) {
-        Some(short) => stand(s, short),
-        None => name_it(alloc, s, f),
+    match short_of(&ahead.form) {
+        Some(short) => stand(s, short, ahead.on),
+        None => name_it(alloc, s, ahead),
     }
 }
 
@@ -73,10 +91,10 @@ fn tell_block(
     s: &mut Telling,
     b: &FormBlock,
 ) -> Result<(), AllocError>
-    ensures { OnOk result (telling_of s.new ≡ told units.now (spot_of target) (telling_of s.old) (form_block_of b.now ∷ [])) }
+    ensures { OnOk result (telling_of s.new ≡ cut_told units.now (spot_of target) (telling_of s.old) (form_block_of b.now ∷ [])) }
 {
-    let f = fail_block(alloc, units, target, &s.fails, b)?;
-    tell(alloc, s, f)
+    let ahead = cut_block(alloc, units, target, &s.later, b)?;
+    tell(alloc, s, ahead)
 }
 
 /// What is told of blocks.
@@ -88,7 +106,7 @@ fn tell_blocks(
     first: u32,
     blocks: &[FormBlock],
 ) -> Result<Telling, AllocError>
-    ensures { IfOk result (λ s. telling_of s ≡ told units.now (spot_of target) (nothing first) (map form_block_of blocks.now)) }
+    ensures { IfOk result (λ s. telling_of s ≡ cut_told units.now (spot_of target) (cut_nothing first) (map form_block_of blocks.now)) }
 {
     let mut s = nothing(alloc, first);
     let mut left: &[FormBlock] = blocks;
@@ -100,8 +118,8 @@ fn tell_blocks(
 }
 
 /// This form is true.
-fn claim(alloc: Global, s: Telling, f: Form) -> Result<Telling, AllocError>
-    ensures { IfOk result (λ x. telling_of x ≡ with_entry (form_in f) (telling_of s)) }
+fn claim(alloc: Global, s: Telling, f: Lent<'_>) -> Result<Telling, AllocError>
+    ensures { IfOk result (λ x. told_in x ≡ with_entry (lent_in f.entry) (told_in s)) }
 {
     let mut s = s;
     let literals = Vec::new(alloc);
@@ -109,22 +127,35 @@ fn claim(alloc: Global, s: Telling, f: Form) -> Result<Telling, AllocError>
     Ok(s)
 }
 
-/// The first block fails. The numbers from this one on are free.
+/// There is no first block that could fail.
+fn no_entry(alloc: Global, first: u32) -> Result<Entry, AllocError>
+    ensures told { IfOk result (λ x. told_in x.told ≡ with_entry (Plain false) (nothing first)) }
+    ensures on { IfOk result (λ x. use_of x.on ≡ unused) }
+{
+    let told = claim(alloc, nothing(alloc, first), Lent::Plain(false))?;
+    let on = Use {
+        reached: false,
+        refusal: None,
+    };
+    Ok(Entry { told, on })
+}
+
+/// The first block fails, where only what counts for the target says something. The numbers from this one on are free.
 pub fn tell_entry(
     alloc: Global,
     units: &[Option<u32>],
     target: Spot,
     first: u32,
     blocks: &[FormBlock],
-) -> Result<Telling, AllocError>
-    ensures { IfOk result (λ s. telling_of s ≡ entry_told units.now (spot_of target) first (map form_block_of blocks.now)) }
+) -> Result<Entry, AllocError>
+    ensures told { IfOk result (λ x. told_in x.told ≡ entry_told units.now (spot_of target) first (sliced (spot_of target) (map form_block_of blocks.now))) }
+    ensures on { IfOk result (λ x. use_of x.on ≡ use_later (uses (spot_of target) (map form_block_of blocks.now)) 0) }
 {
-    match blocks.split_first() {
-        None => claim(alloc, nothing(alloc, first), Form::Plain(false)),
-        Some((b, rest)) => {
-            let s = tell_blocks(alloc, units, target, first, rest)?;
-            let f = fail_block(alloc, units, target, &s.fails, b)?;
-            claim(alloc, s, f)
-        }
-    }
+    let Some((b, rest)) = blocks.split_first() else {
+        return no_entry(alloc, first);
+    };
+    let s = tell_blocks(alloc, units, target, first, rest)?;
+    let Ahead { form, on } = cut_block(alloc, units, target, &s.later, b)?;
+    let told = claim(alloc, s, form)?;
+    Ok(Entry { told, on })
 }

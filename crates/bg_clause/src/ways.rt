@@ -1,76 +1,92 @@
 //! The forms that say that blocks fail.
 ghost use Rattle.std.specs.Prelude.{◌≡◌, map, IfOk};
 ghost use Rattle.bg_places.specs.Views.{spot_of};
-ghost use Rattle.bg_formed.specs.Views.{form_cmds_of, form_edge_of, form_block_of};
+ghost use Rattle.bg_formed.specs.Seen.{use_of};
+ghost use Rattle.bg_formed.specs.Views.{form_edge_of, form_block_of};
 ghost use Rattle.bg_forms.specs.Forms.{any_of};
-ghost use Rattle.bg_clause.specs.Failing.{fail_cmds, fail_later, fail_edges, fail_block};
-ghost use Rattle.bg_forms.specs.Views.{form_in};
+ghost use Rattle.bg_clause.specs.Failing.{fail_later, fail_edges};
+ghost use Rattle.bg_clause.specs.Cutting.{ahead_of, fail_edge, cut_block};
+ghost use Rattle.bg_clause.specs.Lends.{lent_in};
 ghost use Rattle.bg_clause.specs.Views.{short_in};
+ghost use Rattle.bg_slice.specs.Slices.{slice_edge, slice_edges};
 
-use crate::fails::fail_cmds;
+use crate::fails::{Ahead, cut_cmds};
+use crate::lent::{Lent, any_of};
 use crate::short::{Short, form_at};
-use bg_formed::{FormBlock, FormEdge};
-use bg_forms::{Form, any_of};
+use bg_formed::{FormBlock, FormEdge, Use, use_edges, use_later};
 use bg_places::Spot;
 use std::alloc::{AllocError, Global};
 use std::collections::VecDeque;
 
+/// Of later blocks, the next one first, what stands in a form in the place of each, and what is reached from there.
+#[derive(Drop)]
+pub struct Later {
+    pub fails: VecDeque<Short>,
+    pub uses: VecDeque<Use>,
+}
+
 /// The later block so far ahead fails.
-fn fail_later(later: &VecDeque<Short>, to: usize) -> Form
-    ensures { form_in result ≡ fail_later (map short_in later.now.items) to }
+fn fail_later<'a>(later: &VecDeque<Short>, to: usize) -> Lent<'a>
+    ensures { lent_in result ≡ fail_later (map short_in later.now.items) to }
 {
     match later.get(to) {
         Some(s) => form_at(*s),
-        None => Form::Plain(false),
+        None => Lent::Plain(false),
     }
 }
 
 /// One way more, in front of others.
-fn fail_edge(
+fn cut_edge<'a>(
     alloc: Global,
     units: &[Option<u32>],
     target: Spot,
-    later: &VecDeque<Short>,
-    e: &FormEdge,
-    rest: Form,
-) -> Result<Form, AllocError>
-    ensures { IfOk result (λ x. form_in x ≡ any_of (fail_cmds units.now (spot_of target) (form_cmds_of e.now.cmds.items) (fail_later (map short_in later.now.items) e.now.to)) (form_in rest)) }
+    later: &Later,
+    e: &'a FormEdge,
+    rest: Lent<'a>,
+) -> Result<Lent<'a>, AllocError>
+    ensures { IfOk result (λ x. lent_in x ≡ any_of (fail_edge units.now (spot_of target) (map short_in later.now.fails.items) (slice_edge (spot_of target) (map use_of later.now.uses.items) (form_edge_of e.now))) (lent_in rest.entry)) }
 {
-    let ahead = fail_later(later, e.to);
-    let here = fail_cmds(alloc, units, target, &e.cmds, ahead)?;
+    let ahead = Ahead {
+        form: fail_later(&later.fails, e.to),
+        on: use_later(&later.uses, e.to),
+    };
+    let Ahead { form: here, on: _ } = cut_cmds(alloc, units, target, &e.cmds, ahead)?;
     any_of(alloc, here, rest)
 }
 
 /// The ways on fail.
-#[tactic(auto, using(crate::proofs::Onward::fail_rules))]
-fn fail_edges(
+#[tactic(auto, using(crate::proofs::Onward::cut_rules))]
+fn cut_edges<'a>(
     alloc: Global,
     units: &[Option<u32>],
     target: Spot,
-    later: &VecDeque<Short>,
-    edges: &[FormEdge],
-) -> Result<Form, AllocError>
-    ensures { IfOk result (λ x. form_in x ≡ fail_edges units.now (spot_of target) (map short_in later.now.items) (map form_edge_of edges.now)) }
+    later: &Later,
+    edges: &'a [FormEdge],
+) -> Result<Lent<'a>, AllocError>
+    ensures { IfOk result (λ x. lent_in x ≡ fail_edges units.now (spot_of target) (map short_in later.now.fails.items) (slice_edges (spot_of target) (map use_of later.now.uses.items) (map form_edge_of edges.now))) }
 {
-    let mut made = Form::Plain(false);
-    let mut left: &[FormEdge] = edges;
+    let mut made = Lent::Plain(false);
+    let mut left: &'a [FormEdge] = edges;
     while let Some((last, before)) = left.split_last() {
-        made = fail_edge(alloc, units, target, later, last, made)?;
+        made = cut_edge(alloc, units, target, later, last, made)?;
         left = before;
     }
     Ok(made)
 }
 
-/// A block fails.
-pub fn fail_block(
+/// A block fails, of which only what counts for the target says something; and what is reached from it.
+pub fn cut_block<'a>(
     alloc: Global,
     units: &[Option<u32>],
     target: Spot,
-    later: &VecDeque<Short>,
-    b: &FormBlock,
-) -> Result<Form, AllocError>
-    ensures { IfOk result (λ x. form_in x ≡ fail_block units.now (spot_of target) (map short_in later.now.items) (form_block_of b.now)) }
+    later: &Later,
+    b: &'a FormBlock,
+) -> Result<Ahead<'a>, AllocError>
+    ensures { IfOk result (λ x. ahead_of x ≡ cut_block units.now (spot_of target) (map short_in later.now.fails.items) (map use_of later.now.uses.items) (form_block_of b.now)) }
 {
-    let on = fail_edges(alloc, units, target, later, &b.next)?;
-    fail_cmds(alloc, units, target, &b.cmds, on)
+    let ahead = Ahead {
+        form: cut_edges(alloc, units, target, later, &b.next)?,
+        on: use_edges(target, &later.uses, &b.next),
+    };
+    cut_cmds(alloc, units, target, &b.cmds, ahead)
 }

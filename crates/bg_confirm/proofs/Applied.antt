@@ -3,19 +3,17 @@ use Rattle.std.proofs.Common.{◌≡◌, ℕ, zero, suc, Bool, true, false, List
 use Rattle.std.specs.Prelude.{not, slice_get}
 use Rattle.std.specs.List.{list_all}
 use Rattle.bg_ast.specs.Syntax.{Global, Local, Ex, Exs, Number, Fact, Constant, Read, Not, Negative, Binary, Apply, Select, Update, Old, NoMore, More, St, Const, Fun, Prog}
-use Rattle.bg_fits.specs.Holdings.{holdings_of}
 use Rattle.bg_fits.specs.Scalars.{is_scalar_type, is_empty, st_passes, fun_passes, proc_passes, impl_passes, decls_pass}
-use Rattle.bg_fits.specs.declared.types.Holding.{Holding}
 use Rattle.bg_sense.specs.Tables.{has_body}
 use Rattle.bg_sense.specs.Variables.{wheres_of}
 use Rattle.bg_sense.proofs.Bools.{and_left, and_right}
+use Rattle.bg_sense.specs.Types.{types_of}
+use Rattle.bg_ast.specs.Values.{Val, Table, Ty}
 use Rattle.bg_flow.specs.Core.{Demand, Saying, Cmd, Check, Suppose, Forget, Put, Perform, Finish, Core, Seq, Do, plain, desugar, frame_decls, routine_of}
 use Rattle.bg_flow.specs.Blocks.{Exit, Leap, Either, Block, Coded, led, code, at_end}
 use Rattle.bg_block_types.specs.Typed.{blocks_in}
-use Rattle.bg_scalar.specs.Tables.{TableOf, look_up, told}
-use Rattle.bg_scalar.specs.Worths.{Seen, Listed, Are, Leave, NoScalars, and_then, and_then_all, cons, joined, not_on, minus_on, worth, worths}
-use Rattle.bg_scalar.specs.declared.scalar.Scalar.{Scalar}
-use Rattle.bg_scalar.specs.declared.scalar.Worth.TheVariants.{Is}
+use Rattle.bg_sense.specs.Eval.{look_up}
+use Rattle.bg_scalar.specs.Worths.{Is, Seen, Listed, Are, Leave, NoValues, and_then, and_then_all, cons, joined, not_on, minus_on, worth, worths}
 use Rattle.bg_replay.specs.Moments.{Moment, Around, Out, Goes, Over, Outside, Unknown, and_so, seen_at}
 use Rattle.bg_replay.specs.Said.{Said, on_said, checks, supposes}
 use Rattle.bg_replay.specs.Acts.{acts}
@@ -60,7 +58,7 @@ module _ (F : List Fun) where
   PlainBlocks (b ∷ bs) = (PlainCmds b.cmds × IsLeap b.exit) × PlainBlocks bs
 
 -- tables that say the same of functions without a body
-abbrev pub Agree : List Fun → List TableOf → List TableOf → Type 0
+abbrev pub Agree : List Fun → List Table → List Table → Type 0
 Agree F ts us = (f : ℕ) → has_body (raw_bodies F f) ≡ false → slice_get ts f ≡ slice_get us f
 
 false_of : (b : Bool) → not b ≡ true → b ≡ false
@@ -69,17 +67,17 @@ false_of false h = refl
 
 -- ---- expressions are worth the same
 
-module _ (F : List Fun) (ts us : List TableOf) (agree : Agree F ts us) where
-  abbrev seen : List TableOf → List Scalar → List Scalar → List Scalar → Seen
+module _ (F : List Fun) (ts us : List Table) (agree : Agree F ts us) where
+  abbrev seen : List Table → List Val → List Val → List Val → Seen
   seen vs g b f = record { tables = vs; globals = g; before = b; frame = f }
 
-  told_alike : (f : ℕ) (l : Listed) → has_body (raw_bodies F f) ≡ false → and_then_all l (λ xs. Is (told ts f xs)) ≡ and_then_all l (λ xs. Is (told us f xs))
+  told_alike : (f : ℕ) (l : Listed) → has_body (raw_bodies F f) ≡ false → and_then_all l (λ xs. Is (look_up (slice_get ts f) xs)) ≡ and_then_all l (λ xs. Is (look_up (slice_get us f) xs))
   told_alike f (Are xs) h = ap (λ t. Is (look_up t xs)) (agree f h)
   told_alike f (Leave o) h = refl
-  told_alike f NoScalars h = refl
+  told_alike f NoValues h = refl
 
   mutual
-    worth_alike : (e : Ex) (g b f : List Scalar) → is_plain F e ≡ true → worth e (seen ts g b f) ≡ worth e (seen us g b f)
+    worth_alike : (e : Ex) (g b f : List Val) → is_plain F e ≡ true → worth e (seen ts g b f) ≡ worth e (seen us g b f)
     worth_alike (Number z) g b f h = refl
     worth_alike (Fact t) g b f h = refl
     worth_alike (Constant k) g b f h = absurd (let bad : ⊥ = cc in bad)
@@ -91,13 +89,13 @@ module _ (F : List Fun) (ts us : List TableOf) (agree : Agree F ts us) where
         ap (λ a. joined o a (worth y (seen ts g b f))) (worth_alike x g b f (and_left (is_plain F x) (is_plain F y) h))
         ∙ ap (λ a. joined o (worth x (seen us g b f)) a) (worth_alike y g b f (and_right (is_plain F x) (is_plain F y) h))
     worth_alike (Apply k es) g b f h =
-        ap (λ l. and_then_all l (λ xs. Is (told ts k xs))) (worths_alike es g b f (and_right (not (has_body (raw_bodies F k))) (are_plain F es) h))
+        ap (λ l. and_then_all l (λ xs. Is (look_up (slice_get ts k) xs))) (worths_alike es g b f (and_right (not (has_body (raw_bodies F k))) (are_plain F es) h))
         ∙ told_alike k (worths es (seen us g b f)) (false_of (has_body (raw_bodies F k)) (and_left (not (has_body (raw_bodies F k))) (are_plain F es) h))
     worth_alike (Select m es) g b f h = absurd (let bad : ⊥ = cc in bad)
     worth_alike (Update m es e) g b f h = absurd (let bad : ⊥ = cc in bad)
     worth_alike (Old e) g b f h = worth_alike e b b f h
 
-    worths_alike : (es : Exs) (g b f : List Scalar) → are_plain F es ≡ true → worths es (seen ts g b f) ≡ worths es (seen us g b f)
+    worths_alike : (es : Exs) (g b f : List Val) → are_plain F es ≡ true → worths es (seen ts g b f) ≡ worths es (seen us g b f)
     worths_alike NoMore g b f h = refl
     worths_alike (More e es) g b f h =
         ap (λ a. cons a (worths es (seen ts g b f))) (worth_alike e g b f (and_left (is_plain F e) (are_plain F es) h))
@@ -105,8 +103,8 @@ module _ (F : List Fun) (ts us : List TableOf) (agree : Agree F ts us) where
 
   -- ---- runs are alike
 
-  module _ (set : ℕ → Bool) (xs : List Scalar) (gs fs : List Holding) where
-    abbrev this : List TableOf → Around
+  module _ (set : ℕ → Bool) (xs : List Val) (gs fs : List Ty) where
+    abbrev this : List Table → Around
     this vs = record { set = set; tables = vs; before = xs; globals = gs; frame = fs }
 
     checks_alike : (m : Moment) (ds : List Demand) → PlainDemands F ds → checks set (seen_at (this ts) m) ds ≡ checks set (seen_at (this us) m) ds
@@ -229,7 +227,7 @@ claims_plain depth p o =
     supposed_plain F x.candidates (map (opened 0 (bodies_of depth q)) (claims p)) (opened_st 0 (bodies_of depth q) claims_false.body) s
 
 -- its run is the same under tables that agree
-pub tables_alike : (depth : ℕ) (p : Prog) → IsOpenable depth p → (set : ℕ → Bool) (ts us : List TableOf) (xs : List Scalar) → Agree p.functions ts us → run_in (A depth p) set 0 (M depth p) (Q depth p) ts xs ≡ run_in (A depth p) set 0 (M depth p) (Q depth p) us xs
+pub tables_alike : (depth : ℕ) (p : Prog) → IsOpenable depth p → (set : ℕ → Bool) (ts us : List Table) (xs : List Val) → Agree p.functions ts us → run_in (A depth p) set 0 (M depth p) (Q depth p) ts xs ≡ run_in (A depth p) set 0 (M depth p) (Q depth p) us xs
 tables_alike depth p o set ts us xs agree =
-    runs_alike p.functions ts us agree set xs (holdings_of (A depth p).globals) (holdings_of (frame_decls (M depth p) (Q depth p))) 0 (blocks_in (A depth p) 0 (M depth p) (Q depth p)) (moment_in xs [] [])
+    runs_alike p.functions ts us agree set xs (types_of (A depth p).globals) (types_of (frame_decls (M depth p) (Q depth p))) 0 (blocks_in (A depth p) 0 (M depth p) (Q depth p)) (moment_in xs [] [])
     (plain_blocks p.functions depth p (claims_plain depth p o))

@@ -1,15 +1,13 @@
 -- The run of the axioms' own program is the same under each set of candidates: it has none.
 use Rattle.std.proofs.Common.{◌≡◌, ℕ, zero, suc, Bool, true, false, List, [], ◌∷◌, ◌++◌, map, None, refl, ap, ◌∙◌}
 use Rattle.bg_ast.specs.Syntax.{Ex, Prog, Impl, Proc}
-use Rattle.bg_fits.specs.Holdings.{holdings_of}
-use Rattle.bg_fits.specs.declared.types.Holding.{Holding}
 use Rattle.bg_sense.specs.Variables.{wheres_of}
+use Rattle.bg_sense.specs.Types.{types_of}
+use Rattle.bg_ast.specs.Values.{Val, Table, Ty}
 use Rattle.bg_flow.specs.Core.{Demand, Saying, Cmd, Check, Suppose, Forget, Put, Perform, Finish, Core, Seq, Do, plain, desugar, frame_decls, routine_of}
 use Rattle.bg_flow.specs.Blocks.{Exit, Leap, Either, Block, Coded, led, code, at_end}
 use Rattle.bg_block_types.specs.Typed.{blocks_in}
-use Rattle.bg_scalar.specs.Tables.{TableOf}
 use Rattle.bg_scalar.specs.Worths.{Seen}
-use Rattle.bg_scalar.specs.declared.scalar.Scalar.{Scalar}
 use Rattle.bg_replay.specs.Moments.{Moment, Around, Out, Goes, Over, Outside, Unknown, and_so, seen_at}
 use Rattle.bg_replay.specs.Said.{Said, on_said, check_one, checks, suppose_one, supposes}
 use Rattle.bg_replay.specs.Acts.{acts}
@@ -53,7 +51,7 @@ BareBlocks (b ∷ bs) = (BareCmds b.cmds × IsLeap b.exit) × BareBlocks bs
 
 -- ---- run alike
 
-module _ (ts : List TableOf) (xs : List Scalar) (gs fs : List Holding) (set other : ℕ → Bool) where
+module _ (ts : List Table) (xs : List Val) (gs fs : List Ty) (set other : ℕ → Bool) where
   abbrev pub this : (ℕ → Bool) → Around
   this u = record { set = u; tables = ts; before = xs; globals = gs; frame = fs }
 
@@ -164,5 +162,5 @@ module _ (depth : ℕ) (p : Prog) where
       (body_bare (map (opened 0 (bodies_of depth (of_axioms p))) (claims p)) (at_end r.wanted) (((tt, tt), tt), tt))
 
   -- what it says doesn't depend on the set
-  pub alike : (set other : ℕ → Bool) (ts : List TableOf) (xs : List Scalar) → run_in A set 0 M Q ts xs ≡ run_in A other 0 M Q ts xs
-  alike set other ts xs = runs_alike ts xs (holdings_of A.globals) (holdings_of (frame_decls M Q)) set other 0 (blocks_in A 0 M Q) (moment_in xs [] []) bare_blocks
+  pub alike : (set other : ℕ → Bool) (ts : List Table) (xs : List Val) → run_in A set 0 M Q ts xs ≡ run_in A other 0 M Q ts xs
+  alike set other ts xs = runs_alike ts xs (types_of A.globals) (types_of (frame_decls M Q)) set other 0 (blocks_in A 0 M Q) (moment_in xs [] []) bare_blocks

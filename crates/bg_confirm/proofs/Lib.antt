@@ -11,3 +11,4 @@ pub mod Meeting
 pub mod Safety
 pub mod Answering
 pub mod Telling
+pub mod Bases

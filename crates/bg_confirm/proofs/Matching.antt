@@ -5,8 +5,8 @@ use Rattle.std.proofs.lemmas.Slice.Eq.{bytes_eq-Decides}
 use Rattle.bg_ast.specs.Resolved as r
 use Rattle.bg_ast.specs.Views.{const_of}
 use Rattle.bg_ast.specs.declared.resolved.Constant.{Constant}
-use Rattle.bg_fits.specs.declared.types.Holding.{Holding}
 use Rattle.bg_sense.proofs.Bools.{both, and_left, and_right}
+use Rattle.bg_ast.specs.Values.{Ty}
 use Rattle.bg_certtext.specs.declared.text.Given.{Given}
 use Rattle.bg_certtext.specs.Views.{given_of}
 use Rattle.bg_confirm.specs.Pairs.{each_fits}
@@ -41,7 +41,7 @@ names_fit (c ∷ cs) (g ∷ gs) h =
 
 -- ---- values
 
-pub values_alike : (types : List r.TypeName) (hs : List Holding) (gs : List Given) → each_fits (given_fits types) hs gs ≡ values_fit types hs (map (λ g. g.value) (map given_of gs))
+pub values_alike : (types : List r.TypeName) (hs : List Ty) (gs : List Given) → each_fits (given_fits types) hs gs ≡ values_fit types hs (map (λ g. g.value) (map given_of gs))
 values_alike types [] [] = refl
 values_alike types [] (g ∷ gs) = refl
 values_alike types (h ∷ hs) [] = refl
@@ -66,9 +66,9 @@ unnamed_by cs ds gs b e s f h =
     true_false (sym (s ∙ (ap (λ (l : List Constant). each_fits same_name l gs) e ∙ names_fit cs gs h)) ∙ f)
 
 -- and of values
-pub typed_by : (us types : List r.TypeName) (hs its : List Holding) (gs all : List Given) (b : Bool) → us ≡ types → hs ≡ its → gs ≡ all → b ≡ each_fits (given_fits us) hs gs → b ≡ values_fit types its (map (λ g. g.value) (map given_of all))
+pub typed_by : (us types : List r.TypeName) (hs its : List Ty) (gs all : List Given) (b : Bool) → us ≡ types → hs ≡ its → gs ≡ all → b ≡ each_fits (given_fits us) hs gs → b ≡ values_fit types its (map (λ g. g.value) (map given_of all))
 typed_by us types hs its gs all b d e f s =
     s ∙ (values_alike us hs gs
     ∙ (ap (λ (l : List r.TypeName). values_fit l hs (map (λ g. g.value) (map given_of gs))) d
-    ∙ (ap (λ (l : List Holding). values_fit types l (map (λ g. g.value) (map given_of gs))) e
+    ∙ (ap (λ (l : List Ty). values_fit types l (map (λ g. g.value) (map given_of gs))) e
     ∙ ap (λ (l : List Given). values_fit types its (map (λ g. g.value) (map given_of l))) f)))

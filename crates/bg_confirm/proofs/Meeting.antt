@@ -1,6 +1,7 @@
 -- Values that meet the axioms, as the replay tells, are an interpretation that meets the program.
 use Rattle.std.proofs.Common.{◌≡◌, ℕ, zero, suc, List, [], ◌∷◌, length, map, refl, ap, sym, ◌∙◌, subst}
 use Rattle.std.specs.Prelude.{Option, Some, None, slice_get}
+use Rattle.bg_ast.specs.Values.{Val}
 use Rattle.bg_ast.specs.Syntax.{Ex, Fun}
 use Rattle.bg_ast.specs.Resolved as r
 use Rattle.bg_ast.specs.Meaning.{meaning_of}
@@ -10,12 +11,11 @@ use Rattle.bg_sense.specs.Interps.{Meets}
 use Rattle.bg_sense.specs.Claims.{Fails}
 use Rattle.bg_flow.specs.Core.{frame_decls}
 use Rattle.bg_flow.proofs.BlockRuns.{blocks_same}
-use Rattle.bg_fits.specs.Holdings.{holdings_of}
 use Rattle.bg_block_types.specs.Typed.{blocks_in}
 use Rattle.bg_sense.specs.Eval.{functions_of, functions_to, body_of, body_value}
+use Rattle.bg_sense.specs.Types.{types_of}
 use Rattle.bg_opened.specs.Programs.{bodiless}
-use Rattle.bg_scalar.specs.Values.{tables_of, MeanTables}
-use Rattle.bg_scalar.specs.declared.scalar.Scalar.{Scalar}
+use Rattle.bg_scalar.specs.Values.{MeanTables}
 use Rattle.bg_scalar.specs.Choices.{state_of}
 use Rattle.bg_replay.specs.Moments.{Around}
 use Rattle.bg_replay.specs.Said.{Said, Stops}
@@ -28,7 +28,7 @@ use Rattle.bg_opened.specs.Axioms.{of_axioms, axiom_place}
 use Rattle.bg_opened.proofs.Whole.{meets}
 use Rattle.bg_expanded.specs.Chains.{most_bodies}
 use Rattle.bg_certtext.specs.Views.{InterpOf}
-use Rattle.bg_confirm.specs.Met.{scalars_in, axioms_of, constants_hold, values_in, IsMet}
+use Rattle.bg_confirm.specs.Met.{vals_for, axioms_of, constant_types, values_in, IsMet}
 use Rattle.bg_confirm.specs.Accepted.{AreMet}
 use Rattle.bg_confirm.proofs.Fitting.{are_held}
 
@@ -42,12 +42,12 @@ no_body (x ∷ fs) zero = refl
 no_body (x ∷ fs) (suc f) = no_body fs f
 
 module _ (p : r.Program) (i : InterpOf) (h : IsMet p i) where
-  abbrev xs : List Scalar
-  xs = scalars_in (constants_hold p) (values_in i)
+  abbrev xs : List Val
+  xs = vals_for (constant_types p) (values_in i)
 
   -- the tables as an interpretation of the axioms' own program, which has no constants
   abbrev tabled : Interp
-  tabled = record { constants = []; tables = tables_of h.tables }
+  tabled = record { constants = []; tables = h.tables }
 
   abbrev ds : List Rattle.bg_ast.specs.Syntax.Decl
   ds = frame_decls h.met.implementation h.met.procedure
@@ -58,8 +58,8 @@ module _ (p : r.Program) (i : InterpOf) (h : IsMet p i) where
         set = h.set;
         tables = h.tables;
         before = xs;
-        globals = holdings_of (axioms_of p).globals;
-        frame = holdings_of ds;
+        globals = types_of (axioms_of p).globals;
+        frame = types_of ds;
       }
 
   mean : MeanTables (functions_of (axioms_of p) tabled) h.tables

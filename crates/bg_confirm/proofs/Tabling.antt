@@ -8,11 +8,11 @@ use Rattle.std.proofs.lemmas.List.{map-append, drop_all, drop_more}
 use Rattle.bg_ast.specs.Resolved as r
 use Rattle.bg_ast.specs.Meaning as m
 use Rattle.bg_ast.specs.Meaning.{named_of}
+use Rattle.bg_ast.specs.Values as v
 use Rattle.bg_ast.specs.Syntax.{Fun}
 use Rattle.bg_ast.specs.Views.{fun_of}
 use Rattle.bg_ast.specs.declared.resolved.Expr.{Expr}
 use Rattle.bg_ast.specs.declared.resolved.Function as ast
-use Rattle.bg_scalar.specs.Tables.{TableOf}
 use Rattle.bg_scalar.specs.Views.{table_in, tables_in}
 use Rattle.bg_scalar.specs.declared.table.Table.{Table}
 use Rattle.bg_certtext.specs.declared.text.Function as text
@@ -52,7 +52,7 @@ module _ (types : List r.TypeName) where
   abbrev pub fits_from : List ast.Function → List text.Function → Bool
   fits_from fs gs = functions_fit types (map fun_of fs) (map function_of gs)
 
-  abbrev pub made_from : List ast.Function → List text.Function → List TableOf
+  abbrev pub made_from : List ast.Function → List text.Function → List v.Table
   made_from fs gs = tables_by (map (m.fun_of (named_of types)) (map fun_of fs)) (map function_of gs)
 
   -- ---- where no function is left
@@ -77,35 +77,35 @@ module _ (types : List r.TypeName) where
       ap (λ (k : List ast.Function). made_from k hs) (drop_item fs i f l at)
       ∙ ap (λ (c : Bool). if c then blank (one f) ∷ made_from (drop (i + 1) fs) hs else first_table (one f) (map function_of hs) ∷ tables_by (map (m.fun_of (named_of types)) (map fun_of (drop (i + 1) fs))) (drop 1 (map function_of hs))) (body_alike (fun_of f).body ∙ (some_alike f ∙ e))
 
-  one_more : (made new : List Table) (t : Table) (u : TableOf) (rest : List TableOf) → new ≡ made ++ t ∷ [] → table_in t ≡ u → tables_in new ++ rest ≡ tables_in made ++ u ∷ rest
+  one_more : (made new : List Table) (t : Table) (u : v.Table) (rest : List v.Table) → new ≡ made ++ t ∷ [] → table_in t ≡ u → tables_in new ++ rest ≡ tables_in made ++ u ∷ rest
   one_more made new t u rest e is =
       ap (λ (ts : List Table). tables_in ts ++ rest) e
-      ∙ (ap (λ (us : List TableOf). us ++ rest) (map-append table_in made (t ∷ []))
+      ∙ (ap (λ (us : List v.Table). us ++ rest) (map-append table_in made (t ∷ []))
       ∙ (append_assoc (tables_in made) (table_in t ∷ []) rest
-      ∙ ap (λ (v : TableOf). tables_in made ++ v ∷ rest) is))
+      ∙ ap (λ (w : v.Table). tables_in made ++ w ∷ rest) is))
 
   -- a function with a body
-  pub bodied : (fs : List ast.Function) (i : ℕ) (f : ast.Function) (hs : List text.Function) (made new : List Table) (t : Table) (whole : List TableOf) → i < length fs → f ≡ get_or fs i f → is_some f.body ≡ true →
+  pub bodied : (fs : List ast.Function) (i : ℕ) (f : ast.Function) (hs : List text.Function) (made new : List Table) (t : Table) (whole : List v.Table) → i < length fs → f ≡ get_or fs i f → is_some f.body ≡ true →
       new ≡ made ++ t ∷ [] → table_in t ≡ blank (one f) → tables_in made ++ made_from (drop i fs) hs ≡ whole → tables_in new ++ made_from (drop (i + 1) fs) hs ≡ whole
   bodied fs i f hs made new t whole l at e more is h =
       one_more made new t (blank (one f)) (made_from (drop (i + 1) fs) hs) more is
-      ∙ (ap (λ (r : List TableOf). tables_in made ++ r) (sym (made_at fs i f hs true l at e)) ∙ h)
+      ∙ (ap (λ (r : List v.Table). tables_in made ++ r) (sym (made_at fs i f hs true l at e)) ∙ h)
 
   -- one without, where no table is left
-  pub unmatched : (fs : List ast.Function) (i : ℕ) (f : ast.Function) (gs : List text.Function) (n : ℕ) (made new : List Table) (t : Table) (whole : List TableOf) → i < length fs → f ≡ get_or fs i f → is_some f.body ≡ false → length gs ≤ n →
+  pub unmatched : (fs : List ast.Function) (i : ℕ) (f : ast.Function) (gs : List text.Function) (n : ℕ) (made new : List Table) (t : Table) (whole : List v.Table) → i < length fs → f ≡ get_or fs i f → is_some f.body ≡ false → length gs ≤ n →
       new ≡ made ++ t ∷ [] → table_in t ≡ blank (one f) → tables_in made ++ made_from (drop i fs) (drop n gs) ≡ whole → tables_in new ++ made_from (drop (i + 1) fs) (drop n gs) ≡ whole
   unmatched fs i f gs n made new t whole l at e k more is h =
       one_more made new t (blank (one f)) (made_from (drop (i + 1) fs) (drop n gs)) more is
       ∙ (ap (λ (hs : List text.Function). tables_in made ++ blank (one f) ∷ made_from (drop (i + 1) fs) hs) (drop_all n gs k)
-      ∙ (ap (λ (r : List TableOf). tables_in made ++ r) (sym (made_at fs i f [] false l at e))
+      ∙ (ap (λ (r : List v.Table). tables_in made ++ r) (sym (made_at fs i f [] false l at e))
       ∙ (ap (λ (hs : List text.Function). tables_in made ++ made_from (drop i fs) hs) (sym (drop_all n gs k)) ∙ h)))
 
   -- one without, with the next table
-  pub matched : (fs : List ast.Function) (i : ℕ) (f : ast.Function) (gs : List text.Function) (n : ℕ) (d : text.Function) (made new : List Table) (t : Table) (whole : List TableOf) → i < length fs → f ≡ get_or fs i f → is_some f.body ≡ false → n < length gs →
+  pub matched : (fs : List ast.Function) (i : ℕ) (f : ast.Function) (gs : List text.Function) (n : ℕ) (d : text.Function) (made new : List Table) (t : Table) (whole : List v.Table) → i < length fs → f ≡ get_or fs i f → is_some f.body ≡ false → n < length gs →
       new ≡ made ++ t ∷ [] → table_in t ≡ table_of (one f) (function_of (get_or gs n d)) → tables_in made ++ made_from (drop i fs) (drop n gs) ≡ whole → tables_in new ++ made_from (drop (i + 1) fs) (drop (n + 1) gs) ≡ whole
   matched fs i f gs n d made new t whole l at e k more is h =
       let g = get_or gs n d in
       let front = drop_more gs n d k in
       one_more made new t (table_of (one f) (function_of g)) (made_from (drop (i + 1) fs) (drop (n + 1) gs)) more is
-      ∙ (ap (λ (r : List TableOf). tables_in made ++ r) (sym (made_at fs i f (g ∷ drop (n + 1) gs) false l at e))
+      ∙ (ap (λ (r : List v.Table). tables_in made ++ r) (sym (made_at fs i f (g ∷ drop (n + 1) gs) false l at e))
       ∙ (ap (λ (hs : List text.Function). tables_in made ++ made_from (drop i fs) hs) (sym front) ∙ h))

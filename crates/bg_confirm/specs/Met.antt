@@ -1,23 +1,19 @@
 -- When the values and tables that a certificate gives constants and functions are an interpretation that meets the axioms, as a replay
--- over scalars tells.
+-- tells.
 use Rattle.std.specs.Prelude.{◌≡◌, ℕ, ℤ, pos, Bool, true, false, if◌then◌else◌, List, [], ◌∷◌, map, drop, Some, slice_get}
+use Rattle.bg_ast.specs.Values as v
+use Rattle.bg_ast.specs.Values.{Val, Table, Ty, BoolTy, UserTy}
 use Rattle.bg_ast.specs.Syntax.{Fun, Proc, Impl, Prog}
 use Rattle.bg_ast.specs.Resolved as r
 use Rattle.bg_ast.specs.Meaning.{meaning_of}
 use Rattle.bg_ast.specs.Execution.{Place}
-use Rattle.bg_fits.specs.Holdings.{holding_of, holdings_of}
-use Rattle.bg_fits.specs.declared.types.Holding.{Holding}
-use Rattle.bg_fits.specs.declared.types.Holding.TheVariants.{Truths, Elements}
 use Rattle.bg_sense.specs.Flow.{Failed}
+use Rattle.bg_sense.specs.Types.{types_of}
 use Rattle.bg_sense.specs.Tables.{has_body, are_tables}
 use Rattle.bg_sense.specs.Variables.{procedure_of}
 use Rattle.bg_flow.specs.Core.{frame_decls}
 use Rattle.bg_block_types.specs.Typed.{blocks_in}
-use Rattle.bg_scalar.specs.Tables.{TableOf}
-use Rattle.bg_scalar.specs.Values.{tables_of}
-use Rattle.bg_scalar.specs.declared.scalar.Scalar.{Scalar}
-use Rattle.bg_scalar.specs.declared.scalar.Scalar.TheVariants as scalar
-use Rattle.bg_replay.specs.Holds.{held}
+use Rattle.bg_replay.specs.Holds.{type_at}
 use Rattle.bg_replay.specs.Said.{Said, Stops}
 use Rattle.bg_replay.specs.Ways.{runs}
 use Rattle.bg_replay.specs.Endings.{moment_in}
@@ -28,61 +24,61 @@ use Rattle.bg_certtext.specs.Views as value
 use Rattle.bg_certtext.specs.Views.{ValueOf, EntryOf, FunctionOf, InterpOf}
 use Rattle.bg_confirm.specs.Typed.{values_fit, functions_fit}
 
--- a value as one of what is held: an element has its number, and the type that is held
-abbrev pub element_in : Holding → ℤ → Scalar
-element_in (Elements k) z = scalar.Element k z
-element_in _ z = scalar.Number z
+-- a value as one of a type: an element has its number, and the type
+abbrev pub element_in : Ty → ℤ → Val
+element_in (UserTy k) z = v.Element k z
+element_in _ z = v.Num z
 
-abbrev pub scalar_in : Holding → ValueOf → Scalar
-scalar_in h (value.Truth b) = scalar.Truth b
-scalar_in h (value.Number z) = scalar.Number z
-scalar_in h (value.Element name z) = element_in h z
+abbrev pub val_for : Ty → ValueOf → Val
+val_for t (value.Truth b) = v.Truth b
+val_for t (value.Number z) = v.Num z
+val_for t (value.Element name z) = element_in t z
 
--- values as those of what is held, one by one
-abbrev pub scalars_in : List Holding → List ValueOf → List Scalar
-scalars_in hs [] = []
-scalars_in hs (x ∷ xs) = scalar_in (held hs 0) x ∷ scalars_in (drop 1 hs) xs
+-- values as those of types, one by one
+abbrev pub vals_for : List Ty → List ValueOf → List Val
+vals_for ts [] = []
+vals_for ts (x ∷ xs) = val_for (type_at ts 0) x ∷ vals_for (drop 1 ts) xs
 
--- a function's table over scalars
-abbrev pub entry_of : Fun → EntryOf → List Scalar × Scalar
-entry_of f e = (scalars_in (map holding_of f.params) e.key, scalar_in (holding_of f.result) e.value)
+-- a function's table
+abbrev pub entry_of : Fun → EntryOf → List Val × Val
+entry_of f e = (vals_for f.params e.key, val_for f.result e.value)
 
-abbrev pub table_of : Fun → FunctionOf → TableOf
-table_of f g = record { entries = map (entry_of f) g.entries; default = scalar_in (holding_of f.result) g.default }
+abbrev pub table_of : Fun → FunctionOf → Table
+table_of f g = record { entries = map (entry_of f) g.entries; default = val_for f.result g.default }
 
--- the table without entries of a function that gives what is held
-abbrev pub default_in : Holding → Scalar
-default_in Truths = scalar.Truth false
-default_in (Elements k) = scalar.Element k (pos 0)
-default_in _ = scalar.Number (pos 0)
+-- the table without entries of a function that gives values of a type
+abbrev pub default_in : Ty → Val
+default_in BoolTy = v.Truth false
+default_in (UserTy k) = v.Element k (pos 0)
+default_in _ = v.Num (pos 0)
 
-abbrev pub blank : Fun → TableOf
-blank f = record { entries = []; default = default_in (holding_of f.result) }
+abbrev pub blank : Fun → Table
+blank f = record { entries = []; default = default_in f.result }
 
-abbrev pub first_table : Fun → List FunctionOf → TableOf
+abbrev pub first_table : Fun → List FunctionOf → Table
 first_table f [] = blank f
 first_table f (g ∷ gs) = table_of f g
 
 -- the tables of functions: where one has no body the next of these, else one without entries
-abbrev pub tables_by : List Fun → List FunctionOf → List TableOf
+abbrev pub tables_by : List Fun → List FunctionOf → List Table
 tables_by [] gs = []
 tables_by (f ∷ fs) gs = if has_body f.body then blank f ∷ tables_by fs gs else first_table f gs ∷ tables_by fs (drop 1 gs)
 
 -- tables are these where a function has no body
-abbrev pub AreTablesOf : List Fun → List FunctionOf → List TableOf → Type 0
+abbrev pub AreTablesOf : List Fun → List FunctionOf → List Table → Type 0
 AreTablesOf fs gs ts =
     (f : ℕ) → has_body (raw_bodies fs f) ≡ false → slice_get ts f ≡ slice_get (tables_by fs gs) f
 
--- what the run of the implementation with this number over scalars says, where functions have these tables, from these values of globals,
+-- what the run of the implementation with this number says, where functions have these tables, from these values of globals,
 -- without a frame and choices
-abbrev pub run_in : Prog → (ℕ → Bool) → ℕ → Impl → Proc → List TableOf → List Scalar → Said
+abbrev pub run_in : Prog → (ℕ → Bool) → ℕ → Impl → Proc → List Table → List Val → Said
 run_in p set k m q ts xs =
     runs
-    (record { set = set; tables = ts; before = xs; globals = holdings_of p.globals; frame = holdings_of (frame_decls m q) })
+    (record { set = set; tables = ts; before = xs; globals = types_of p.globals; frame = types_of (frame_decls m q) })
     0 (blocks_in p k m q) (moment_in xs [] [])
 
 -- the implementation of a place runs so
-pub record RunsTo (p : Prog) (set : ℕ → Bool) (t : Place) (ts : List TableOf) (xs : List Scalar) (said : Said) : Type 0 where
+pub record RunsTo (p : Prog) (set : ℕ → Bool) (t : Place) (ts : List Table) (xs : List Val) (said : Said) : Type 0 where
   pub implementation : Impl
   pub procedure : Proc
   pub is_there : slice_get p.implementations t.implementation ≡ Some implementation
@@ -93,9 +89,9 @@ pub record RunsTo (p : Prog) (set : ℕ → Bool) (t : Place) (ts : List TableOf
 abbrev pub axioms_of : r.Program → Prog
 axioms_of p = axiom_program most_bodies (meaning_of p)
 
--- what the constants hold
-abbrev pub constants_hold : r.Program → List Holding
-constants_hold p = holdings_of (axioms_of p).globals
+-- the types of the constants
+abbrev pub constant_types : r.Program → List Ty
+constant_types p = types_of (axioms_of p).globals
 
 abbrev pub values_in : InterpOf → List ValueOf
 values_in i = map (λ g. g.value) i.constants
@@ -106,10 +102,10 @@ values_in i = map (λ g. g.value) i.constants
 -- sets of candidates are as good.
 pub record IsMet (p : r.Program) (i : InterpOf) : Type 0 where
   pub named : map (λ g. g.name) i.constants ≡ map (λ c. c.name.text) p.constants
-  pub typed : values_fit p.types (constants_hold p) (values_in i) ≡ true
+  pub typed : values_fit p.types (constant_types p) (values_in i) ≡ true
   pub functions : functions_fit p.types p.functions i.functions ≡ true
-  pub tables : List TableOf
+  pub tables : List Table
   pub are_its : AreTablesOf (meaning_of p).functions i.functions tables
-  pub typed_tables : are_tables (axioms_of p).functions (tables_of tables) ≡ true
+  pub typed_tables : are_tables (axioms_of p).functions tables ≡ true
   pub set : ℕ → Bool
-  pub met : RunsTo (axioms_of p) set axiom_place tables (scalars_in (constants_hold p) (values_in i)) (Stops (Failed axiom_place.spot))
+  pub met : RunsTo (axioms_of p) set axiom_place tables (vals_for (constant_types p) (values_in i)) (Stops (Failed axiom_place.spot))

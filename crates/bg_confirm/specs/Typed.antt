@@ -1,13 +1,11 @@
 -- Whether the values and tables that a certificate gives are those of constants and functions, by name and type.
-use Rattle.std.specs.Prelude.{ℕ, Bool, true, false, ◌&&◌, if◌then◌else◌, List, [], ◌∷◌, map, drop, Option, Some, None, is_some, slice_get}
+use Rattle.std.specs.Prelude.{ℕ, Bool, true, false, ◌&&◌, if◌then◌else◌, List, [], ◌∷◌, drop, Option, Some, None, is_some, slice_get}
 use Rattle.std.specs.List.{list_all}
 use Rattle.std.specs.Str.{bytes_eq}
+use Rattle.bg_ast.specs.Values.{Ty, IntTy, BoolTy, UserTy}
 use Rattle.bg_ast.specs.Syntax.{Fun}
 use Rattle.bg_ast.specs.Resolved as r
 use Rattle.bg_ast.specs.Meaning.{named_of, fun_of}
-use Rattle.bg_fits.specs.Holdings.{holding_of}
-use Rattle.bg_fits.specs.declared.types.Holding.{Holding}
-use Rattle.bg_fits.specs.declared.types.Holding.TheVariants.{Truths, Numbers, Elements, Others}
 use Rattle.bg_certtext.specs.Views.{ValueOf, Truth, Number, Element, EntryOf, FunctionOf}
 use Rattle.bg_confirm.specs.Pairs.{each_fits}
 
@@ -18,25 +16,31 @@ name_of (Some d) = d.name.text
 
 -- where these types are declared
 module _ (types : List r.TypeName) where
-  -- a value is of what is held; an element has the name of its type
-  abbrev pub value_fits : Holding → ValueOf → Bool
-  value_fits Truths (Truth b) = true
-  value_fits Numbers (Number z) = true
-  value_fits (Elements k) (Element name z) = bytes_eq (name_of (slice_get types k)) name
+  -- a value is of a type; an element has the name of its type
+  abbrev pub value_fits : Ty → ValueOf → Bool
+  value_fits BoolTy (Truth b) = true
+  value_fits IntTy (Number z) = true
+  value_fits (UserTy k) (Element name z) = bytes_eq (name_of (slice_get types k)) name
   value_fits _ _ = false
 
-  abbrev pub values_fit : List Holding → List ValueOf → Bool
-  values_fit hs xs = each_fits value_fits hs xs
+  abbrev pub values_fit : List Ty → List ValueOf → Bool
+  values_fit ts xs = each_fits value_fits ts xs
+
+  abbrev pub entry_by : List Ty → Ty → EntryOf → Bool
+  entry_by ts t e = values_fit ts e.key && value_fits t e.value
+
+  abbrev pub entries_by : List Ty → Ty → List EntryOf → Bool
+  entries_by ts t es = list_all (entry_by ts t) es
 
   abbrev pub entry_fits : Fun → EntryOf → Bool
-  entry_fits f e = values_fit (map holding_of f.params) e.key && value_fits (holding_of f.result) e.value
+  entry_fits f e = entry_by f.params f.result e
 
   abbrev pub entries_fit : Fun → List EntryOf → Bool
-  entries_fit f es = list_all (entry_fits f) es
+  entries_fit f es = entries_by f.params f.result es
 
   -- the values of a table are of the function's types
   abbrev pub table_fits : Fun → FunctionOf → Bool
-  table_fits f g = value_fits (holding_of f.result) g.default && entries_fit f g.entries
+  table_fits f g = value_fits f.result g.default && entries_fit f g.entries
 
   -- and it has the function's name
   abbrev pub function_fits : r.Fun → FunctionOf → Bool

@@ -7,7 +7,7 @@ ghost use Rattle.bg_sense.specs.Flow as flow;
 ghost use Rattle.bg_replay.specs.Said.{Stops};
 ghost use Rattle.bg_replay.specs.Views.{set_of, said_by};
 ghost use Rattle.bg_opened.specs.Axioms.{axiom_place};
-ghost use Rattle.bg_scalar.specs.Views.{tables_in};
+ghost use Rattle.bg_scalar.specs.Views.{tables_in, vals_in};
 ghost use Rattle.bg_confirm.specs.Met.{run_in};
 
 use bg_ast::resolved::Resolved;
@@ -26,7 +26,7 @@ pub fn ending_from(
     values: &[Scalar],
 ) -> Result<Ending, AllocError>
     ensures { IfOk result (λ ending. (m : r.Impl) (q : r.Proc) → slice_get (program_of program.now).implementations 0 ≡ Some m → slice_get (program_of program.now).procedures m.procedure ≡ Some q →
-        said_by ending ≡ run_in (meaning_of (program_of program.now)) (set_of []) 0 (impl_of (named_of (program_of program.now).types) m) (proc_of (named_of (program_of program.now).types) q) (tables_in tables.now) values.now) }
+        said_by ending ≡ run_in (meaning_of (program_of program.now)) (set_of []) 0 (impl_of (named_of (program_of program.now).types) m) (proc_of (named_of (program_of program.now).types) q) (tables_in tables.now) (vals_in values.now)) }
 {
     let callees = callees_of(alloc, program)?;
     let blocks = blocks(alloc, program, &callees, 0)?;

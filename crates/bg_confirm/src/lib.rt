@@ -8,6 +8,7 @@ pub mod laws;
 mod met;
 mod names;
 mod program;
+mod signature;
 mod tables;
 mod text;
 mod values;

@@ -13,7 +13,7 @@ use crate::ending::{ending_from, is_failure};
 use crate::functions::functions_fit;
 use crate::names::are_for;
 use crate::tables::tables_by;
-use crate::values::{are_given, holdings_in, scalars_in};
+use crate::values::{are_given, kinds_in, scalars_in};
 use bg_ast::resolved::Resolved;
 use bg_certtext::{CertText, Interp};
 use bg_opening::axiom_program;
@@ -34,16 +34,16 @@ fn are_met(alloc: Global, program: &Resolved, interp: &Interp) -> Result<bool, A
     if !are_for(&program.constants, &interp.constants) {
         return Ok(false);
     }
-    if !functions_fit(&program.types, &program.functions, &interp.functions) {
+    if !functions_fit(alloc, &program.types, &program.functions, &interp.functions)? {
         return Ok(false);
     }
     let tables = tables_by(alloc, program, &interp.functions)?;
     let axioms = axiom_program(alloc, DEPTH, program)?;
-    let holdings = holdings_in(alloc, &axioms)?;
-    if !are_given(&program.types, &holdings, &interp.constants) {
+    let kinds = kinds_in(alloc, &axioms)?;
+    if !are_given(&program.types, &kinds, &interp.constants) {
         return Ok(false);
     }
-    let values = scalars_in(alloc, &holdings, &interp.constants)?;
+    let values = scalars_in(alloc, &kinds, &interp.constants)?;
     let ending = ending_from(alloc, &axioms, &tables, &values)?;
     Ok(is_failure(ending))
 }

@@ -1,35 +1,33 @@
-//! The tables that a certificate gives functions, over scalars.
+//! The tables that a certificate gives functions.
 ghost use Rattle.std.specs.Prelude.{◌≡◌, true, map, IfOk};
 ghost use Rattle.std.specs.List.{list_all};
 ghost use Rattle.bg_ast.specs.Meaning as m;
-ghost use Rattle.bg_ast.specs.Meaning.{meaning_of, type_in, named_of};
-ghost use Rattle.bg_ast.specs.Views.{program_of, type_of, type_name_of, fun_of};
-ghost use Rattle.bg_fits.specs.Holdings.{holding_of};
-ghost use Rattle.bg_scalar.specs.Views.{table_in, tables_in};
+ghost use Rattle.bg_ast.specs.Meaning.{meaning_of, named_of};
+ghost use Rattle.bg_ast.specs.Views.{program_of, type_name_of, fun_of};
+ghost use Rattle.bg_kinds.specs.Views.{base_of, ref_in, ref_of};
+ghost use Rattle.bg_scalar.specs.Values.{val_of};
+ghost use Rattle.bg_scalar.specs.Views.{table_in, tables_in, vals_in};
 ghost use Rattle.bg_certtext.specs.Views.{value_of, function_of};
 ghost use Rattle.bg_certtext.specs.Spellable.{is_function};
-ghost use Rattle.bg_confirm.specs.Met.{scalars_in, default_in, blank, table_of, tables_by};
+ghost use Rattle.bg_confirm.specs.Met.{vals_for, default_in, blank, table_of, tables_by};
 
-use crate::values::{held_by, scalar_in};
-use bg_ast::resolved::{Function, Resolved, TypeName, WrittenType};
+use crate::signature::read_signature;
+use crate::values::{scalar_in, type_at};
+use bg_ast::resolved::{Function, Resolved, TypeName};
 use bg_certtext::Value;
-use bg_fits::{Holding, written_holding};
+use bg_fits::{base_in, written_kind};
+use bg_kinds::{Base, TypeRef, ValueType};
 use bg_scalar::{Scalar, Table};
 use std::alloc::{AllocError, Global};
 use std::collections::BTreeMap;
 
 /// The arguments of an entry over scalars, where these are the types of a function's.
-fn key_of(
-    alloc: Global,
-    types: &[TypeName],
-    params: &[WrittenType],
-    key: &[Value],
-) -> Result<Vec<Scalar>, AllocError>
-    ensures { IfOk result (λ made. made.items ≡ scalars_in (map holding_of (map (type_in (named_of (map type_name_of types.now))) (map type_of params.now))) (map value_of key.now)) }
+fn key_of(alloc: Global, kinds: &[ValueType], key: &[Value]) -> Result<Vec<Scalar>, AllocError>
+    ensures { IfOk result (λ made. vals_in made.items ≡ vals_for (map ref_in kinds.now) (map value_of key.now)) }
 {
     let mut made = Vec::new(alloc);
     for k in 0..key.len() {
-        made.push(scalar_in(held_by(types, params, k), key[k]))?;
+        made.push(scalar_in(type_at(kinds, k), key[k]))?;
     }
     Ok(made)
 }
@@ -44,39 +42,48 @@ fn table_of(
     requires spelled { is_function (function_of given.now) ≡ true }
     ensures { IfOk result (λ made. table_in made ≡ table_of (m.fun_of (named_of (map type_name_of types.now)) (fun_of f.now)) (function_of given.now)) }
 {
-    let holding = written_holding(types, &f.result);
+    let s = read_signature(alloc, types, f)?;
     let mut entries = BTreeMap::new(alloc);
     let mut k = given.entries.len();
     while k > 0 {
         k -= 1;
         let entry = &given.entries[k];
-        let key = key_of(alloc, types, &f.params, &entry.key)?;
-        entries.insert(key, scalar_in(holding, entry.value))?;
+        let key = key_of(alloc, &s.params, &entry.key)?;
+        entries.insert(key, scalar_in(s.value.as_ref(), entry.value))?;
     }
-    let default = scalar_in(holding, given.default);
+    let default = scalar_in(s.value.as_ref(), given.default);
     Ok(Table { entries, default })
 }
 
-/// The default of what is held.
-fn default_in(holding: Holding) -> Scalar
-    ensures { result ≡ default_in holding }
+fn default_of(base: Base) -> Scalar
+    ensures { val_of result ≡ default_in (base_of base) }
 {
-    match holding {
-        Holding::Truths => Scalar::Truth(false),
-        Holding::Numbers => Scalar::Number(0),
-        Holding::Elements(k) => Scalar::Element(k, 0),
-        Holding::Others => Scalar::Number(0),
+    match base {
+        Base::Bool => Scalar::Truth(false),
+        Base::Int => Scalar::Number(0),
+        Base::User(k) => Scalar::Element(k, 0),
+    }
+}
+
+/// The default of a type.
+fn default_in(t: TypeRef<'_>) -> Scalar
+    ensures { val_of result ≡ default_in (ref_of t.entry) }
+{
+    match base_in(t) {
+        None => Scalar::Number(0),
+        Some(base) => default_of(base),
     }
 }
 
 /// A function's table without entries.
-fn blank(alloc: Global, types: &[TypeName], f: &Function) -> Table
-    ensures { table_in result ≡ blank (m.fun_of (named_of (map type_name_of types.now)) (fun_of f.now)) }
+fn blank(alloc: Global, types: &[TypeName], f: &Function) -> Result<Table, AllocError>
+    ensures { IfOk result (λ made. table_in made ≡ blank (m.fun_of (named_of (map type_name_of types.now)) (fun_of f.now))) }
 {
-    Table {
+    let value = written_kind(alloc, types, &f.result)?;
+    Ok(Table {
         entries: BTreeMap::new(alloc),
-        default: default_in(written_holding(types, &f.result)),
-    }
+        default: default_in(value.as_ref()),
+    })
 }
 
 /// The tables of a program's functions: where one has no body the next of these, else one without entries.
@@ -95,7 +102,7 @@ pub fn tables_by(
             made.push(table_of(alloc, &program.types, f, &given[next])?)?;
             next += 1;
         } else {
-            made.push(blank(alloc, &program.types, f))?;
+            made.push(blank(alloc, &program.types, f)?)?;
         }
     }
     Ok(made)

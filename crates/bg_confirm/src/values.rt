@@ -1,19 +1,23 @@
 //! The values of constants as those of variables.
 ghost use Rattle.std.specs.Prelude.{◌≡◌, map, slice_get, IfOk};
-ghost use Rattle.bg_ast.specs.Meaning.{meaning_of, type_in, named_of};
-ghost use Rattle.bg_ast.specs.Views.{type_of, type_name_of, program_of};
-ghost use Rattle.bg_fits.specs.Holdings.{holding_of, holdings_of};
-ghost use Rattle.bg_fits.specs.declared.types.Holding.TheVariants.{Elements};
-ghost use Rattle.bg_replay.specs.Holds.{held};
+ghost use Rattle.bg_ast.specs.Values.{UserTy};
+ghost use Rattle.bg_ast.specs.Meaning.{meaning_of};
+ghost use Rattle.bg_ast.specs.Views.{type_name_of, program_of};
+ghost use Rattle.bg_sense.specs.Types.{types_of};
+ghost use Rattle.bg_kinds.specs.Views.{base_of, ref_in, ref_of};
+ghost use Rattle.bg_replay.specs.Holds.{type_at};
 ghost use Rattle.bg_certtext.specs.Views.{value_of, given_of};
 ghost use Rattle.bg_confirm.specs.Typed.{name_of, value_fits};
-ghost use Rattle.bg_confirm.specs.Met.{element_in, scalar_in, scalars_in};
+ghost use Rattle.bg_scalar.specs.Values.{val_of};
+ghost use Rattle.bg_scalar.specs.Views.{vals_in};
+ghost use Rattle.bg_confirm.specs.Met.{element_in, val_for, vals_for};
 ghost use Rattle.bg_confirm.specs.Pairs.{each_fits};
 ghost use Rattle.bg_confirm.specs.Named.{given_fits};
 
-use bg_ast::resolved::{Resolved, TypeName, WrittenType};
+use bg_ast::resolved::{Resolved, TypeName};
 use bg_certtext::{Given, Value};
-use bg_fits::{Holding, push_holdings, written_holding};
+use bg_fits::{base_in, push_kinds};
+use bg_kinds::{Base, TypeRef, ValueType, plain};
 use bg_scalar::Scalar;
 use std::alloc::{AllocError, Global};
 
@@ -29,7 +33,7 @@ fn name_of(types: &[TypeName], k: u32) -> &[u8]
 
 /// Whether a value is an element of the type with this number, by the type's name.
 fn is_element(types: &[TypeName], k: u32, value: Value<'_>) -> bool
-    ensures { result ≡ value_fits (map type_name_of types.now) (Elements k) (value_of value.entry) }
+    ensures { result ≡ value_fits (map type_name_of types.now) (UserTy k) (value_of value.entry) }
 {
     match value {
         Value::Truth(_) => false,
@@ -38,96 +42,105 @@ fn is_element(types: &[TypeName], k: u32, value: Value<'_>) -> bool
     }
 }
 
-/// Whether a value is one of what is held; an element has the name of its type.
-pub(crate) fn fits(types: &[TypeName], holding: Holding, value: Value<'_>) -> bool
-    ensures { result ≡ value_fits (map type_name_of types.now) holding (value_of value.entry) }
+fn fits_base(types: &[TypeName], base: Base, value: Value<'_>) -> bool
+    ensures { result ≡ value_fits (map type_name_of types.now) (base_of base) (value_of value.entry) }
 {
-    match holding {
-        Holding::Truths => matches!(value, Value::Truth(_)),
-        Holding::Numbers => matches!(value, Value::Number(_)),
-        Holding::Elements(k) => is_element(types, k, value),
-        Holding::Others => false,
+    match base {
+        Base::Bool => matches!(value, Value::Truth(_)),
+        Base::Int => matches!(value, Value::Number(_)),
+        Base::User(k) => is_element(types, k, value),
     }
 }
 
-fn element_in(holding: Holding, z: i128) -> Scalar
-    ensures { result ≡ element_in holding z }
+/// Whether a value is one of a type; an element has the name of its type.
+pub(crate) fn fits(types: &[TypeName], t: TypeRef<'_>, value: Value<'_>) -> bool
+    ensures { result ≡ value_fits (map type_name_of types.now) (ref_of t.entry) (value_of value.entry) }
 {
-    match holding {
-        Holding::Truths => Scalar::Number(z),
-        Holding::Numbers => Scalar::Number(z),
-        Holding::Elements(k) => Scalar::Element(k, z),
-        Holding::Others => Scalar::Number(z),
+    match base_in(t) {
+        None => false,
+        Some(base) => fits_base(types, base, value),
     }
 }
 
-/// A value as one of what is held.
-pub(crate) fn scalar_in(holding: Holding, value: Value<'_>) -> Scalar
-    ensures { result ≡ scalar_in holding (value_of value.entry) }
+fn element_of(base: Base, z: i128) -> Scalar
+    ensures { val_of result ≡ element_in (base_of base) z }
+{
+    match base {
+        Base::Bool => Scalar::Number(z),
+        Base::Int => Scalar::Number(z),
+        Base::User(k) => Scalar::Element(k, z),
+    }
+}
+
+fn element_in(t: TypeRef<'_>, z: i128) -> Scalar
+    ensures { val_of result ≡ element_in (ref_of t.entry) z }
+{
+    match base_in(t) {
+        None => Scalar::Number(z),
+        Some(base) => element_of(base, z),
+    }
+}
+
+/// A value as one of a type.
+pub(crate) fn scalar_in(t: TypeRef<'_>, value: Value<'_>) -> Scalar
+    ensures { val_of result ≡ val_for (ref_of t.entry) (value_of value.entry) }
 {
     match value {
         Value::Truth(b) => Scalar::Truth(b),
         Value::Number(z) => Scalar::Number(z),
-        Value::Element(_, z) => element_in(holding, z),
+        Value::Element(_, z) => element_in(t, z),
     }
 }
 
-/// What the variable with this number holds; whole numbers where there is none.
-fn held(holdings: &[Holding], k: usize) -> Holding
-    ensures { result ≡ held holdings.now k }
+/// The type at this place; whole numbers where there is none.
+pub(crate) fn type_at(kinds: &[ValueType], k: usize) -> TypeRef<'_>
+    ensures { ref_of result ≡ type_at (map ref_in kinds.now) k }
 {
-    holdings.get(k).copied().unwrap_or(Holding::Numbers)
+    match kinds.get(k) {
+        Some(t) => t.as_ref(),
+        None => plain(Base::Int),
+    }
 }
 
-/// The values that are given, in order, as those of variables that hold such.
+/// The values that are given, in order, as those of variables of these types.
 pub fn scalars_in(
     alloc: Global,
-    holdings: &[Holding],
+    kinds: &[ValueType],
     given: &[Given],
 ) -> Result<Vec<Scalar>, AllocError>
-    ensures { IfOk result (λ made. made.items ≡ scalars_in holdings.now (map (λ g. g.value) (map given_of given.now))) }
+    ensures { IfOk result (λ made. vals_in made.items ≡ vals_for (map ref_in kinds.now) (map (λ g. g.value) (map given_of given.now))) }
 {
     let mut made = Vec::new(alloc);
     for k in 0..given.len() {
-        made.push(scalar_in(held(holdings, k), given[k].value))?;
+        made.push(scalar_in(type_at(kinds, k), given[k].value))?;
     }
     Ok(made)
 }
 
-/// What is held by what has the type at this place; whole numbers where there is none.
-pub(crate) fn held_by(types: &[TypeName], written: &[WrittenType], k: usize) -> Holding
-    ensures { result ≡ held (map holding_of (map (type_in (named_of (map type_name_of types.now))) (map type_of written.now))) k }
-{
-    match written.get(k) {
-        None => Holding::Numbers,
-        Some(ty) => written_holding(types, ty),
-    }
-}
-
-/// What each global holds.
-pub fn holdings_in(alloc: Global, program: &Resolved) -> Result<Vec<Holding>, AllocError>
-    ensures { IfOk result (λ made. made.items ≡ holdings_of (meaning_of (program_of program.now)).globals) }
+/// The type of each global.
+pub fn kinds_in(alloc: Global, program: &Resolved) -> Result<Vec<ValueType>, AllocError>
+    ensures { IfOk result (λ made. map ref_in made.items ≡ types_of (meaning_of (program_of program.now)).globals) }
 {
     let mut made = Vec::new(alloc);
-    push_holdings(&program.types, &program.globals, &mut made)?;
+    push_kinds(alloc, &program.types, &program.globals, &mut made)?;
     Ok(made)
 }
 
-fn is_given(types: &[TypeName], holding: Holding, given: &Given) -> bool
-    ensures { result ≡ given_fits (map type_name_of types.now) holding given.now }
+fn is_given(types: &[TypeName], t: TypeRef<'_>, given: &Given) -> bool
+    ensures { result ≡ given_fits (map type_name_of types.now) (ref_of t.entry) given.now }
 {
-    fits(types, holding, given.value)
+    fits(types, t, given.value)
 }
 
-/// Whether variables that hold such may have the values that are given.
-pub fn are_given(types: &[TypeName], holdings: &[Holding], given: &[Given]) -> bool
-    ensures { result ≡ each_fits (given_fits (map type_name_of types.now)) holdings.now given.now }
+/// Whether variables of these types may have the values that are given.
+pub fn are_given(types: &[TypeName], kinds: &[ValueType], given: &[Given]) -> bool
+    ensures { result ≡ each_fits (given_fits (map type_name_of types.now)) (map ref_in kinds.now) given.now }
 {
-    if holdings.len() != given.len() {
+    if kinds.len() != given.len() {
         return false;
     }
     for k in 0..given.len() {
-        if !is_given(types, holdings[k], &given[k]) {
+        if !is_given(types, kinds[k].as_ref(), &given[k]) {
             return false;
         }
     }

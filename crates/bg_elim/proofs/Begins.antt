@@ -1,6 +1,6 @@
 -- The start of an elimination.
 use Rattle.std.proofs.Common.{◌≡◌, ℕ, suc, ◌+◌, ◌<◌, true, List, [], ◌∷◌, length, map, get_or, ◌⊎◌, inl, inr, refl, sym, ap, ◌∙◌, subst, below_more}
-use Rattle.std.specs.Prelude.{Some}
+use Rattle.std.specs.Prelude.{Some, None}
 use Rattle.bg_rows.specs.declared.row.Row.{Row}
 use Rattle.bg_rows.specs.Rows.{RowOf, row_of, tightened}
 use Rattle.bg_rows.specs.Steps.{row_at}
@@ -10,6 +10,11 @@ use Rattle.bg_elim.proofs.Places.{at_map}
 
 pub given_at : (given : List Row) (j : ℕ) (r : Row) → j < length given → r ≡ get_or given j r → row_at (map row_of given) j ≡ Some (row_of r)
 given_at given j r h e = at_map row_of given j r h ∙ ap (λ (z : Row). Some (row_of z)) (sym e)
+
+pub no_row : (rows : List Row) (n : ℕ) (r : RowOf) → rows ≡ [] → row_at (map row_of rows) n ≡ Some r → ⊥
+no_row rows n r e h =
+    let g : None ≡ Some r = subst (λ (z : List Row). row_at (map row_of z) n ≡ Some r) e h in
+    absurd (cc)
 
 pub there_more : (w made : WorkOf) (r : RowOf) → KeepsRows w made → IsThere r w → IsThere r made
 there_more w made r k (inl t) = inl t

@@ -1,9 +1,12 @@
 pub mod Places
+pub mod Live
 pub mod Orders
 pub mod Covers
 pub mod Rounds
 pub mod Pairs
+pub mod Lists
 pub mod Sides
+pub mod Listed
 pub mod Names
 pub mod Begins
 pub mod Derive

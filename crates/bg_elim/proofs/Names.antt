@@ -6,8 +6,6 @@ use Rattle.bg_rows.specs.declared.entry.Entry.{Entry}
 use Rattle.bg_rows.specs.Rows.{RowOf}
 use Rattle.bg_rows.specs.Steps.{row_at}
 use Rattle.bg_elim.specs.Kept.{is_in, no_twice, entries_in, rows_in}
-use Rattle.bg_elim.specs.declared.work.Stand.{Stand}
-use Rattle.bg_elim.specs.declared.work.Stand.TheVariants.{Nearer}
 use Rattle.bg_elim.specs.Work.{AllInside}
 use Rattle.bg_elim.proofs.Orders.{is_in_last}
 
@@ -119,27 +117,12 @@ parted_step all order rest made left i x p lt v e f =
     let q = middle_parted all order (take i rest) x (drop (suc i) rest) (subst (Parted all order) is p) in
     subst (λ z. Parted all z left) (sym e) (subst (Parted all (order ++ (x ∷ []))) (sym f) q)
 
--- ---- a number taken out of a list
+-- ---- an element taken out of a list
 
-other_than : (a b : Bool) → (a || b) ≡ true → (b ≡ true) ⊎ (a ≡ true)
-other_than true b h = inr refl
-other_than false b h = inl h
-
-pub out_back : (xs left : List ℕ) (i n : ℕ) → i < length xs → get_or xs i 0 ≡ n → left ≡ take i xs ++ drop (suc i) xs → (q : ℕ) → is_in q left ≡ true → is_in q xs ≡ true
-out_back xs left i n lt e f q h =
-    let is = taken_out xs i 0 lt in
-    let a : is_in q (take i xs ++ drop (suc i) xs) ≡ true = subst (λ (z : List ℕ). is_in q z ≡ true) f h in
-    ap (is_in q) is ∙ in_middle q (take i xs) (get_or xs i 0) (drop (suc i) xs) ∙ or_true (nat_eq q (get_or xs i 0)) _ a
-
-pub out_rest : (xs left : List ℕ) (i n : ℕ) → i < length xs → get_or xs i 0 ≡ n → left ≡ take i xs ++ drop (suc i) xs → (q : ℕ) → is_in q xs ≡ true → (is_in q left ≡ true) ⊎ (q ≡ n)
-out_rest xs left i n lt e f q h =
-    let is = taken_out xs i 0 lt in
-    let a : (nat_eq q (get_or xs i 0) || is_in q (take i xs ++ drop (suc i) xs)) ≡ true = sym (ap (is_in q) is ∙ in_middle q (take i xs) (get_or xs i 0) (drop (suc i) xs)) ∙ h in
-    elim (other_than (nat_eq q (get_or xs i 0)) _ a) [
-      | inl g ↦ inl (ap (is_in q) f ∙ g)
-      | inr g ↦ inr (eqb-true q (get_or xs i 0) g ∙ e)
-    ]
-
-pub nearer_is : (A : Type 0) (stand : Stand) (n q : ℕ) → stand ≡ Nearer n → A ⊎ (q ≡ n) → A ⊎ (stand ≡ Nearer q)
-nearer_is A stand n q e (inl a) = inl a
-nearer_is A stand n q e (inr s) = inr (e ∙ ap Nearer (sym s))
+pub removed_length : (xs left : List ℕ) (i : ℕ) → i < length xs → left ≡ take i xs ++ drop (suc i) xs → suc (length left) ≡ length xs
+removed_length xs left i h e = rw e (shorter xs i h)
+  where
+    shorter : (xs : List ℕ) (i : ℕ) → i < length xs → suc (length (take i xs ++ drop (suc i) xs)) ≡ length xs
+    shorter [] i h = absurd (omega arith)
+    shorter (x ∷ xs) zero h = refl
+    shorter (x ∷ xs) (suc i) h = ap suc (shorter xs i (omega arith))

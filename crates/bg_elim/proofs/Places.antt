@@ -42,6 +42,9 @@ row_eq_is r s h =
     let y : r.bound ≡ s.bound = grind (arith, ints) in
     ap (λ (z : List Entry). record { entries = z; bound = r.bound }) x ∙ ap (λ (z : ℤ). record { entries = s.entries; bound = z }) y
 
+pub rows_same : (r s : RowOf) → entries_eq r.entries s.entries ≡ true → r.bound ≡ s.bound → r ≡ s
+rows_same r s h b = ap (λ (z : List Entry). record { entries = z; bound = r.bound }) (entries_eq_is r.entries s.entries h) ∙ ap (λ (z : ℤ). record { entries = s.entries; bound = z }) b
+
 new_test : (r s : RowOf) (n : ℕ) (rows : List RowOf) (b : Bool) → (place_of (key_of r) (suc n) rows ≡ None → is_new r rows ≡ true) → is_eq (key_cmp (key_of r) (key_of s)) ≡ b → cond b (Some n) (place_of (key_of r) (suc n) rows) ≡ None → (not (row_eq s r) && is_new r rows) ≡ true
 new_test r s n rows true f e g = absurd (cc)
 new_test r s n rows false f e g = and_from (not (row_eq s r)) _ (differs (row_eq s r) refl) (f g)

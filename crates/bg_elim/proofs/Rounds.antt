@@ -12,7 +12,8 @@ use Rattle.bg_rows.proofs.Divisors.{not_zero}
 use Rattle.bg_elim.specs.declared.order.Reason.TheVariants.{Tightened}
 use Rattle.bg_elim.specs.declared.work.Stand.{Stand}
 use Rattle.bg_elim.specs.declared.work.Stand.TheVariants.{Alone, Implied, Nearer}
-use Rattle.bg_elim.specs.Work.{StaysSound, StaysPlaced, IsStand}
+use Rattle.bg_elim.specs.Work.{StaysSound, StaysPlaced, IsStand, is_nearer}
+use Rattle.bg_elim.proofs.Live.{nearer_is}
 use Rattle.bg_elim.proofs.Places.{entries_eq_is}
 use Rattle.bg_rows.specs.Steps.{row_at}
 use Rattle.bg_rows.proofs.Normal.{no_coefficient}
@@ -288,20 +289,30 @@ stand_covers w t stand n h e r at =
     subst (Covers t) same (covers_same t p.0 (sym p.2) p.3)
 
 -- what stays of the live numbers, and one more
-pub record Retired (w : WorkOf) (stand : Stand) (left : List ℕ) : Type 0 where
-  pub back : (q : ℕ) → is_in q left ≡ true → is_in q w.live ≡ true
-  pub rest : (q : ℕ) → is_in q w.live ≡ true → (is_in q left ≡ true) ⊎ (stand ≡ Nearer q)
+abbrev pub Joins : WorkOf → ℕ → Stand → List ℕ → Type 0
+Joins w m stand live = (q : ℕ) → is_in q live ≡ (nat_eq q m || (is_in q w.live && not (is_nearer q stand)))
 
-pub added_live : (all : List ℕ) (t : RowOf) (w : WorkOf) (stand : Stand) (m : ℕ) (left live : List ℕ) → row_at w.rows m ≡ Some t → IsStand w t stand → Retired w stand left → live ≡ left ++ (m ∷ []) → Added all t w (record w { live = live })
-added_live all t w stand m left live h is d e = record {
+pub added_live : (all : List ℕ) (t : RowOf) (w : WorkOf) (stand : Stand) (m : ℕ) (live : List ℕ) → row_at w.rows m ≡ Some t → IsStand w t stand → Joins w m stand live → Added all t w (record w { live = live })
+added_live all t w stand m live h is j = record {
   grows = record { order = refl; stays = λ n r g. g; back = λ n r g. inl g };
   back = λ n r g. inl g;
-  live = λ n g. elim (d.rest n g) [
-    | inl i ↦ inl (rw e (in_more n left m i))
-    | inr s ↦ inr (stand_covers w t stand n is s)
+  live = λ n g. stays n (is_nearer n stand) refl g;
+  lives = λ n g. elim (or_cases (nat_eq n m) _ (sym (j n) ∙ g)) [
+    | inl e ↦ inr (rw (eqb-true n m e) h)
+    | inr a ↦ inl (and_parts (is_in n w.live) _ a).0
   ];
-  lives = λ n g. elim (in_last_cases n m left (rw e at g)) [ inl i ↦ inl (d.back n i) | inr i ↦ inr (rw i h) ];
 }
+  where
+    or_true : (b : Bool) → (b || true) ≡ true
+    or_true true = refl
+    or_true false = refl
+
+    stays : (n : ℕ) (b : Bool) → is_nearer n stand ≡ b → is_in n w.live ≡ true → (is_in n live ≡ true) ⊎ ((r : RowOf) → row_at w.rows n ≡ Some r → Covers t r)
+    stays n true e g = inr (stand_covers w t stand n is (nearer_is stand n e))
+    stays n false e g = inl (j n ∙ rw (g, e) (or_true (nat_eq n m)))
+
+joins_itself : (w : WorkOf) (m : ℕ) (stand : Stand) (live : List ℕ) → Joins w m stand live → is_in m live ≡ true
+joins_itself w m stand live j = j m ∙ rw (eq-eqb m m refl) refl
 
 live_stays : (w a : WorkOf) (r : RowOf) (reason : Reason) → KeptAs w r reason a → (t : RowOf) → Covered w t → Covered a t
 live_stays w a r reason (inl k) t c = subst (λ (z : WorkOf). Covered z t) (sym k) c
@@ -326,14 +337,14 @@ comes all w a b r t reason n e nr nt k l inside fr =
     let y = added_kept all t a b t (Tightened n) l (subst (λ (o : List ℕ). Fits all o t t) (sym x.grows.order) tight) in
     record { covers = cov; free = ft; first = x; second = y }
 
-pub settled_placed : (w a b : WorkOf) (r t : RowOf) (reason : Reason) (n m : ℕ) (stand : Stand) (left live : List ℕ) → t ≡ tightened r → IsNormal r → IsNormal t → KeptAs w r reason a → KeptAs a t (Tightened n) b → row_at b.rows m ≡ Some t → IsStand w t stand → Retired b stand left → live ≡ left ++ (m ∷ []) → StaysPlaced w r (record b { live = live })
-settled_placed w a b r t reason n m stand left live e nr nt k l at is d le all ready p inside fr =
+pub settled_placed : (w a b : WorkOf) (r t : RowOf) (reason : Reason) (n m : ℕ) (stand : Stand) (live : List ℕ) → t ≡ tightened r → IsNormal r → IsNormal t → KeptAs w r reason a → KeptAs a t (Tightened n) b → row_at b.rows m ≡ Some t → IsStand w t stand → Joins b m stand live → StaysPlaced w r (record b { live = live })
+settled_placed w a b r t reason n m stand live e nr nt k l at is j all ready p inside fr =
     let made = record b { live = live } in
     let i = comes all w a b r t reason n e nr nt k l inside fr in
     let g = grows_on w a b i.first.grows i.second.grows in
-    let z = added_live all t b stand m left live at (stand_grows w b t stand g is) d le in
+    let z = added_live all t b stand m live at (stand_grows w b t stand g is) j in
     let ad = added_on all t w a made i.first (added_on all t a b made i.second z) in
-    let c : Covered made t = record { number = m; row = t; there = at; lives = rw le (in_last left m); covers = covers_itself t } in
+    let c : Covered made t = record { number = m; row = t; there = at; lives = joins_itself b m stand live j; covers = covers_itself t } in
     (placed_added all ready t w made p ad i.free c, inr (covered_on made t r i.covers c), ad.grows)
 
 -- a row that a kept one implies, kept and not paired

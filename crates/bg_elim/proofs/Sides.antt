@@ -9,9 +9,9 @@ use Rattle.bg_rows.specs.Entries.{is_zero, coefficient}
 use Rattle.bg_rows.specs.Rows.{RowOf}
 use Rattle.bg_rows.specs.Steps.{row_at}
 use Rattle.bg_rows.proofs.Normal.{from_rising, not_mentioned}
-use Rattle.bg_elim.specs.declared.work.Side.TheVariants.{Above, Below, Neither}
+use Rattle.bg_elim.specs.declared.work.Side.TheVariants.{Above, Below}
 use Rattle.bg_elim.specs.Kept.{is_in, none_before, MeetBehind, BoundsAgree, PairAgrees}
-use Rattle.bg_elim.specs.Work.{WorkOf, Covered, Placed, Grows, IsPair, PairReady, on_side, IsSide, KeepsSound, IsRound, IsGone}
+use Rattle.bg_elim.specs.Work.{WorkOf, Covered, Placed, Grows, IsPair, PairReady, on_side, off_side, IsSide, KeepsSound, IsRound, IsGone}
 use Rattle.bg_elim.specs.declared.work.Round.{Round}
 use Rattle.bg_elim.specs.declared.work.Round.TheVariants.{Whole, RefutedBy, Filled, Left}
 use Rattle.bg_elim.proofs.Orders.{is_in_last, in_last, before_last}
@@ -69,7 +69,7 @@ is_above x r h = grind (arith, ints)
 is_below : (x : ℕ) (r : RowOf) → coefficient x r.entries <ℤ pos 0 → on_side Below x (Some r) ≡ true
 is_below x r h = grind (arith, ints)
 
-is_neither : (x : ℕ) (r : RowOf) → coefficient x r.entries ≡ pos 0 → on_side Neither x (Some r) ≡ true
+is_neither : (x : ℕ) (r : RowOf) → coefficient x r.entries ≡ pos 0 → off_side x (Some r) ≡ true
 is_neither x r h = rw h refl
 
 pub pairs_of_sides : (all : List ℕ) (w : WorkOf) (x : ℕ) (ups lows rest : List ℕ) → Placed all w.order w → is_in x w.order ≡ false → IsSide w Above x ups → IsSide w Below x lows → (i j : ℕ) → is_in i ups ≡ true → is_in j lows ≡ true → IsPair (next_round w x rest) x i j
@@ -89,11 +89,15 @@ pairs_of_sides all w x ups lows rest p n su sl i j hi hj =
       no_second = before_last w.order x l.0 n ∙ l.2;
     }
 
-pub placed_start : (all : List ℕ) (w : WorkOf) (x : ℕ) (rest : List ℕ) → Placed all w.order w → IsSide w Neither x rest → Placed all w.order (next_round w x rest)
+-- the live rows in which x doesn't stand
+abbrev pub IsRest : WorkOf → ℕ → List ℕ → Type 0
+IsRest w x ns = (n : ℕ) → is_in n ns ≡ (is_in n w.live && off_side x (row_at w.rows n))
+
+pub placed_start : (all : List ℕ) (w : WorkOf) (x : ℕ) (rest : List ℕ) → Placed all w.order w → IsRest w x rest → Placed all w.order (next_round w x rest)
 placed_start all w x rest p s =
     placed_next all w x rest p
-    (λ n h. let a = and_parts (is_in n w.live) _ (sym (s n) ∙ h) in (a.0, λ r g. zero_of (coefficient x r.entries) (subst (λ (z : Option RowOf). on_side Neither x z ≡ true) g a.1)))
-    (λ n r h g e. s n ∙ and_from (is_in n w.live) _ h (subst (λ (z : Option RowOf). on_side Neither x z ≡ true) (sym g) (is_neither x r e)))
+    (λ n h. let a = and_parts (is_in n w.live) _ (sym (s n) ∙ h) in (a.0, λ r g. zero_of (coefficient x r.entries) (subst (λ (z : Option RowOf). off_side x z ≡ true) g a.1)))
+    (λ n r h g e. s n ∙ and_from (is_in n w.live) _ h (subst (λ (z : Option RowOf). off_side x z ≡ true) (sym g) (is_neither x r e)))
     (λ r n e. not_mentioned x 0 r.entries (from_rising 0 r.entries n) e)
 
 -- ---- the end of a round
@@ -156,7 +160,7 @@ next_is w x rest order e = ap (λ (o : List ℕ). record w { order = o; live = r
 pub sound_next : (w made : WorkOf) (x : ℕ) (rest : List ℕ) → KeepsSound (next_round w x rest) made → KeepsSound w made
 sound_next w made x rest h given s = h given (holds_next given w x rest s)
 
-pub round_gone : (budget : ℕ) (w made : WorkOf) (x : ℕ) (ups lows rest : List ℕ) (r : Round) → is_in x w.order ≡ false → IsSide w Above x ups → IsSide w Below x lows → IsSide w Neither x rest → IsRound budget (next_round w x rest) x made (AllReady made x ups lows) r → IsGone budget w x made r
+pub round_gone : (budget : ℕ) (w made : WorkOf) (x : ℕ) (ups lows rest : List ℕ) (r : Round) → is_in x w.order ≡ false → IsSide w Above x ups → IsSide w Below x lows → IsRest w x rest → IsRound budget (next_round w x rest) x made (AllReady made x ups lows) r → IsGone budget w x made r
 round_gone budget w made x ups lows rest Whole new su sl sr h = λ all p.
     let t = h all w.order refl new (placed_start all w x rest p sr) in
     placed_end all w made x ups lows rest p new su sl t.0 t.1 t.2

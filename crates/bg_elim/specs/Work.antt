@@ -1,5 +1,5 @@
 -- The state of an elimination.
-use Rattle.std.specs.Prelude.{◌≡◌, ℕ, Bool, true, false, not, ◌&&◌, List, [], ◌∷◌, ◌++◌, length, map, Option, Some, None, ℤ, pos, ◌*ℤ◌, ◌≤ℤ◌, ◌<ℤ◌, ◌⊎◌, Vec, int_lt}
+use Rattle.std.specs.Prelude.{◌≡◌, ℕ, suc, nat_eq, Bool, true, false, not, ◌&&◌, ◌||◌, slice_index_or, if◌then◌else◌, List, [], ◌∷◌, ◌++◌, length, map, Option, Some, None, ℤ, pos, ◌*ℤ◌, ◌≤ℤ◌, ◌<ℤ◌, ◌⊎◌, Vec, int_lt}
 use Rattle.std.specs.BTreeMap.{get_by}
 use Rattle.std.specs.declared.alloc.Global.{Global}
 use Rattle.bg_rows.specs.Entries.{is_zero, total, mentions, coefficient}
@@ -10,7 +10,7 @@ use Rattle.bg_elim.specs.declared.order.Reason.{Reason}
 use Rattle.bg_elim.specs.declared.work.Work.{Work}
 use Rattle.bg_elim.specs.declared.order.Reason.TheVariants.{Eliminated}
 use Rattle.bg_elim.specs.declared.work.Side.{Side}
-use Rattle.bg_elim.specs.declared.work.Side.TheVariants.{Above, Below, Neither}
+use Rattle.bg_elim.specs.declared.work.Side.TheVariants.{Above, Below}
 use Rattle.bg_elim.specs.declared.work.Round.{Round}
 use Rattle.bg_elim.specs.declared.work.Round.TheVariants.{Whole, RefutedBy, Filled, Left}
 use Rattle.bg_elim.specs.declared.work.Paired.{Paired}
@@ -21,6 +21,7 @@ use Rattle.bg_elim.specs.declared.work.Taken.{Taken}
 use Rattle.bg_elim.specs.declared.work.Taken.TheVariants.{Done, False, Full}
 use Rattle.bg_rows.specs.Keys.{key_cmp}
 use Rattle.bg_elim.specs.Keys.{place_of}
+use Rattle.bg_elim.specs.Columns.{Stands}
 use Rattle.bg_elim.specs.Kept.{Solves, no_twice, is_in, none_before, made_rows, none_false, all_different, is_new, entries_in, reason_row, is_true_row, Among, leaves_at, MeetBehind, BoundsAgree, PairAgrees}
 
 -- what is kept so far: the variables done, rows with their reasons, and the numbers of the rows that are still paired
@@ -30,8 +31,16 @@ pub record WorkOf : Type 0 where
   pub rows : List RowOf
   pub live : List ℕ
 
+-- whether a number is marked, and the numbers that are
+abbrev pub is_live : List Bool → ℕ → Bool
+is_live bs n = slice_index_or bs n false
+
+abbrev pub marked : ℕ → List Bool → List ℕ
+marked n [] = []
+marked n (b ∷ bs) = if b then n ∷ marked (suc n) bs else marked (suc n) bs
+
 abbrev pub work_of : Work → WorkOf
-work_of w = record { order = w.order.items; reasons = w.reasons.items; rows = map row_of w.rows.items; live = w.live.items }
+work_of w = record { order = w.order.items; reasons = w.reasons.items; rows = map row_of w.rows.items; live = marked 0 w.live.items }
 
 -- no variable of the list stands in the row
 abbrev pub free : List ℕ → RowOf → Bool
@@ -98,11 +107,11 @@ PairReady w x i j =
     (u : RowOf) × (l : RowOf) × (row_at w.rows i ≡ Some u) × (row_at w.rows j ≡ Some l) ×
     ((v : ℕ → ℤ) → MeetBehind v w.order x w.rows → PairAgrees v x u l)
 
--- each row is found by its key
-abbrev pub IsIndexed : Work → Type 0
-IsIndexed w =
-    (k : Vec (ℕ × ℤ) Global × ℤ) →
-    get_by (λ y. key_cmp (k.0.items, k.1) (y.0.items, y.1)) w.at ≡ place_of (k.0.items, k.1) 0 (map row_of w.rows.items)
+-- each row is found by its key, has a mark, and where that is set it stands in the column of each of its variables
+pub record IsIndexed (w : Work) : Type 0 where
+  pub keys : (k : Vec (ℕ × ℤ) Global × ℤ) → get_by (λ y. key_cmp (k.0.items, k.1) (y.0.items, y.1)) w.at ≡ place_of (k.0.items, k.1) 0 (map row_of w.rows.items)
+  pub sized : length w.live.items ≡ length w.rows.items
+  pub listed : (n : ℕ) (r : RowOf) (x : ℕ) → is_live w.live.items n ≡ true → row_at (map row_of w.rows.items) n ≡ Some r → mentions x r.entries ≡ true → Stands w.columns x n
 
 -- one more row, with its reason
 abbrev pub with_row : WorkOf → RowOf → Reason → WorkOf
@@ -140,6 +149,17 @@ abbrev pub IsStand : WorkOf → RowOf → Stand → Type 0
 IsStand w r Alone = Unit {0}
 IsStand w r (Implied n) = (s : RowOf) × (row_at w.rows n ≡ Some s) × (s.entries ≡ r.entries) × (s.bound ≤ℤ r.bound)
 IsStand w r (Nearer n) = (s : RowOf) × (row_at w.rows n ≡ Some s) × (s.entries ≡ r.entries) × (r.bound ≤ℤ s.bound)
+
+-- whether a row implies the one of this number
+abbrev pub is_nearer : ℕ → Stand → Bool
+is_nearer q Alone = false
+is_nearer q (Implied n) = false
+is_nearer q (Nearer n) = nat_eq q n
+
+-- a kept row is live now, in the place of one that it implies
+pub record IsJoined (w : WorkOf) (m : ℕ) (stand : Stand) (made : WorkOf) : Type 0 where
+  pub same : made ≡ record w { live = made.live }
+  pub live : (q : ℕ) → is_in q made.live ≡ (nat_eq q m || (is_in q w.live && not (is_nearer q stand)))
 
 -- the row is kept, or always true
 abbrev pub IsThere : RowOf → WorkOf → Type 0
@@ -182,12 +202,21 @@ KeepsSound w made = (given : List RowOf) → Holds given w → Holds given made
 abbrev pub has_side : Side → ℤ → Bool
 has_side Above c = int_lt (pos 0) c
 has_side Below c = int_lt c (pos 0)
-has_side Neither c = is_zero c
 
 -- whether a kept row's coefficient of x is on this side of 0
 abbrev pub on_side : Side → ℕ → Option RowOf → Bool
 on_side side x None = false
 on_side side x (Some r) = has_side side (coefficient x r.entries)
+
+-- whether x doesn't stand in a kept row
+abbrev pub off_side : ℕ → Option RowOf → Bool
+off_side x None = false
+off_side x (Some r) = is_zero (coefficient x r.entries)
+
+-- besides some numbers, those of others that are live rows with the coefficient of x on this side
+abbrev pub IsMore : Work → Side → ℕ → List ℕ → List ℕ → List ℕ → Type 0
+IsMore w side x numbers old new =
+    (n : ℕ) → is_in n new ≡ (is_in n old || (is_in n numbers && (is_live w.live.items n && on_side side x (row_at (work_of w).rows n))))
 
 -- the live rows with the coefficient of x on this side
 abbrev pub IsSide : WorkOf → Side → ℕ → List ℕ → Type 0

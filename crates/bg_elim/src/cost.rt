@@ -1,8 +1,6 @@
 //! What the elimination of a variable costs. What is counted here decides which variable goes first, and so which order and which
 //! rows are answered; that they are right doesn't depend on it.
-use crate::work::Stand;
 use bg_rows::{Entry, Row};
-use std::alloc::AllocError;
 use std::collections::BTreeMap;
 
 /// How many times a pair counts of which whole numbers may be lost.
@@ -18,33 +16,36 @@ pub struct Sides {
     pub steep_lows: u64,
 }
 
-/// For each variable the live rows that bound it.
-pub type Counts = BTreeMap<u32, Sides>;
-
-/// One entry more.
-fn count(counts: &mut Counts, t: &Entry) -> Result<(), AllocError> {
-    let nothing = Sides {
+/// No rows.
+pub fn no_sides() -> Sides {
+    Sides {
         ups: 0,
         lows: 0,
         steep_ups: 0,
         steep_lows: 0,
-    };
-    let mut both = counts.get(&t.variable).copied().unwrap_or(nothing);
-    let steep = u64::from(t.by != 1 && t.by != -1);
-    if t.by > 0 {
-        both.ups = both.ups.saturating_add(1);
-        both.steep_ups = both.steep_ups.saturating_add(steep);
-    } else {
-        both.lows = both.lows.saturating_add(1);
-        both.steep_lows = both.steep_lows.saturating_add(steep);
     }
-    counts.insert(t.variable, both)?;
-    Ok(())
+}
+
+/// One entry more, of the variable at a place, if it is one that is counted.
+pub fn count(counts: &mut Vec<Sides>, place: usize, t: &Entry, counted: bool) {
+    if !counted {
+        return;
+    }
+    if let Some(both) = counts.get_mut(place) {
+        let steep = u64::from(t.by != 1 && t.by != -1);
+        if t.by > 0 {
+            both.ups = both.ups.saturating_add(1);
+            both.steep_ups = both.steep_ups.saturating_add(steep);
+        } else {
+            both.lows = both.lows.saturating_add(1);
+            both.steep_lows = both.steep_lows.saturating_add(steep);
+        }
+    }
 }
 
 /// One entry less.
-fn discount(counts: &mut Counts, t: &Entry) {
-    if let Some(both) = counts.get_mut(&t.variable) {
+fn discount(counts: &mut Vec<Sides>, place: usize, t: &Entry) {
+    if let Some(both) = counts.get_mut(place) {
         let steep = u64::from(t.by != 1 && t.by != -1);
         if t.by > 0 {
             both.ups = both.ups.saturating_sub(1);
@@ -56,23 +57,19 @@ fn discount(counts: &mut Counts, t: &Entry) {
     }
 }
 
-/// Counts a row that is to be paired, unless it takes the place of one of the same entries.
-pub fn count_row(counts: &mut Counts, row: &Row, stand: Stand) -> Result<(), AllocError> {
-    if let Stand::Nearer(_) = stand {
-        return Ok(());
-    }
-    for t in &row.entries {
-        count(counts, t)?;
-    }
-    Ok(())
-}
-
 /// Counts kept rows no more.
-pub fn discount_rows(counts: &mut Counts, rows: &[Row], numbers: &[usize]) {
+pub fn discount_rows(
+    counts: &mut Vec<Sides>,
+    places: &BTreeMap<u32, usize>,
+    rows: &[Row],
+    numbers: &[usize],
+) {
     for n in numbers {
         if let Some(row) = rows.get(*n) {
             for t in &row.entries {
-                discount(counts, t);
+                if let Some(p) = places.get(&t.variable) {
+                    discount(counts, *p, t);
+                }
             }
         }
     }

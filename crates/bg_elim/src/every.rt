@@ -9,6 +9,17 @@ use crate::variables::choose;
 use crate::work::{Round, Work};
 use std::alloc::{AllocError, Global};
 
+/// The numbers below one.
+fn places(alloc: Global, n: usize) -> Result<Vec<usize>, AllocError>
+    ensures { IfOk result (λ made. length made.items ≡ n) }
+{
+    let mut made = Vec::with_capacity(alloc, n)?;
+    for i in 0..n {
+        made.push(i)?;
+    }
+    Ok(made)
+}
+
 /// Eliminates every variable, each time one that costs least.
 pub fn eliminate_all(
     alloc: Global,
@@ -27,8 +38,10 @@ pub fn eliminate_all(
     ensures ends { IfOk result (λ r. (given : List RowOf) → EndsAs given budget (work_of work.new) (IsOver variables.now (work_of work.new)) r) }
 {
     let mut rest = variables.to_vec(alloc)?;
+    let mut places = places(alloc, rest.len())?;
     'every: while !rest.is_empty() {
-        let i = choose(work, &rest);
+        let i = choose(work, &places);
+        places.remove(i);
         let x = rest.remove(i);
         match eliminate_one(alloc, work, x, budget)? {
             Round::Whole => {}

@@ -62,7 +62,7 @@ pub fn refute_or_order(alloc: Global, rows: &[Row], budget: u32) -> Result<Found
     ensures { IfOk result (λ f. IsFound (map row_of rows.now) budget f) }
 {
     let all = variables(alloc, rows)?;
-    let mut work = empty(alloc);
+    let mut work = empty(alloc, &all)?;
     match take_all(alloc, rows, &mut work, budget)? {
         Round::Whole => {
             let round = eliminate_all(alloc, &mut work, &all, budget)?;

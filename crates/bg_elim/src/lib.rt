@@ -1,6 +1,7 @@
 //! Rows are refuted, or an order of their variables solves them.
 #![tactic(auto)]
 
+mod columns;
 mod cost;
 mod every;
 mod find;

@@ -10,7 +10,7 @@ use bg_rows::{Entry, Row, key};
 use std::alloc::{AllocError, Global};
 
 /// Whether two lists of entries are equal.
-fn are_equal(a: &[Entry], b: &[Entry]) -> bool
+pub fn are_equal(a: &[Entry], b: &[Entry]) -> bool
     ensures { result ≡ entries_eq a.now b.now }
 {
     if a.len() != b.len() {

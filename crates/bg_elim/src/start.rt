@@ -3,6 +3,7 @@ ghost use Rattle.std.specs.Prelude.{◌≡◌, ◌≤◌, [], map, IfOk, OnOk, l
 ghost use Rattle.bg_rows.specs.Rows.{row_of};
 ghost use Rattle.bg_elim.specs.Work.{WorkOf, work_of, IsIndexed, Holds, EndsAs, IsStarted};
 
+use crate::columns::columns_of;
 use crate::order::Reason;
 use crate::take::take_given;
 use crate::work::{Round, Taken, Work};
@@ -10,19 +11,20 @@ use bg_rows::Row;
 use std::alloc::{AllocError, Global};
 use std::collections::BTreeMap;
 
-/// Nothing is kept.
-pub fn empty(alloc: Global) -> Work
-    ensures indexed { IsIndexed result }
-    ensures work { work_of result ≡ record { order = []; reasons = []; rows = []; live = [] } }
+/// Nothing is kept, and the variables have their places.
+pub fn empty(alloc: Global, variables: &[u32]) -> Result<Work, AllocError>
+    ensures indexed { IfOk result (λ work. IsIndexed work) }
+    ensures work { IfOk result (λ work. work_of work ≡ record { order = []; reasons = []; rows = []; live = [] }) }
 {
-    Work {
+    let columns = columns_of(alloc, variables)?;
+    Ok(Work {
         order: Vec::new(alloc),
         reasons: Vec::new(alloc),
         rows: Vec::new(alloc),
         at: BTreeMap::new(alloc),
         live: Vec::new(alloc),
-        counts: BTreeMap::new(alloc),
-    }
+        columns,
+    })
 }
 
 /// Takes in the given rows.

@@ -1,12 +1,12 @@
 //! Rows are taken in: kept, tightened, and paired from then on.
-ghost use Rattle.std.specs.Prelude.{◌≡◌, ◌≤◌, false, IfOk, OnOk, length};
+ghost use Rattle.std.specs.Prelude.{◌≡◌, ◌<◌, ◌≤◌, false, IfOk, OnOk, length};
 ghost use Rattle.bg_rows.specs.Rows.{row_of, is_false, tightened};
 ghost use Rattle.bg_elim.specs.declared.order.Reason.TheVariants.{Given};
 ghost use Rattle.bg_elim.specs.declared.work.Taken.TheVariants.{Done};
-ghost use Rattle.bg_elim.specs.Work.{work_of, Extends, IsIndexed, StaysSound, IsTaken, IsThere, IsStand};
+ghost use Rattle.bg_elim.specs.Work.{work_of, Extends, IsIndexed, StaysSound, IsTaken, IsThere, IsStand, IsJoined};
 
-use crate::cost::count_row;
-use crate::keep::keep;
+use crate::columns::{list_row, turn_of};
+use crate::keep::{keep, keep_tight};
 use crate::order::Reason;
 use crate::retire::retire;
 use crate::stand::stand;
@@ -22,6 +22,20 @@ fn tight_of(alloc: Global, work: &Work, row: &Row) -> Result<Tight, AllocError>
     let row = tighten(alloc, row)?;
     let stand = stand(alloc, work, &row)?;
     Ok(Tight { row, stand })
+}
+
+/// A kept row is paired from now on, in the place of one that it implies.
+fn join(alloc: Global, work: &mut Work, m: usize, stand: Stand) -> Result<(), AllocError>
+    requires indexed { IsIndexed work.old }
+    requires there { m < length work.old.rows.items }
+    ensures indexed { OnOk result (IsIndexed work.new) }
+    ensures joined { OnOk result (IsJoined (work_of work.old) m stand (work_of work.new)) }
+{
+    let turn = turn_of(work.order.len());
+    list_row(alloc, &mut work.columns, &work.rows[m], m, turn, stand)?;
+    retire(&mut work.live, stand);
+    work.live[m] = true;
+    Ok(())
 }
 
 /// Keeps a row and its tightening, which is paired from then on in the place of one that it
@@ -53,12 +67,10 @@ fn settle(
         return Ok(Taken::Done);
     }
     let Tight { row: tight, stand } = tight;
-    count_row(&mut work.counts, &tight, stand)?;
-    let Some(m) = keep(alloc, work, tight, Reason::Tightened(n), budget)? else {
+    let Some(m) = keep_tight(alloc, work, n, tight, budget)? else {
         return Ok(Taken::Full);
     };
-    retire(&mut work.live, stand);
-    work.live.push(m)?;
+    join(alloc, work, m, stand)?;
     Ok(Taken::Done)
 }
 

@@ -56,15 +56,15 @@ pub fn variables(alloc: Global, rows: &[Row]) -> Result<Vec<u32>, AllocError>
     Ok(all)
 }
 
-/// The place of a variable whose elimination costs least: see `cost_of`.
-pub fn choose(work: &Work, rest: &[u32]) -> usize
+/// Of variables that are named by their places, which one's elimination costs least: see `cost_of`.
+pub fn choose(work: &Work, rest: &[usize]) -> usize
     requires { 0 < length rest.now }
     ensures { result < length rest.now }
 {
     let mut best = 0;
     let mut least = u64::MAX;
-    for (i, x) in rest.iter().enumerate() {
-        let cost = match work.counts.get(x) {
+    for (i, p) in rest.iter().enumerate() {
+        let cost = match work.columns.counts.get(*p) {
             Some(both) => cost_of(both),
             None => 0,
         };

@@ -1,22 +1,22 @@
 //! The state of an elimination.
 
-use crate::cost::Counts;
+use crate::columns::Columns;
 use crate::order::{Further, Reason};
 use bg_base::OutOfRange;
 use bg_rows::{Key, Row};
 use std::collections::BTreeMap;
 
-/// The variables done, the kept rows with their reasons, where each row is found by its key, the
-/// numbers of the rows that are still to be paired, of the same entries only the nearest, and how
-/// many of these bound each variable.
+/// The variables done, the kept rows with their reasons, where each row is found by its key, which
+/// rows are still to be paired, of the same entries only the nearest, and in which rows each variable
+/// stands.
 #[derive(Drop)]
 pub struct Work {
     pub order: Vec<u32>,
     pub reasons: Vec<Reason>,
     pub rows: Vec<Row>,
     pub at: BTreeMap<Key, usize>,
-    pub live: Vec<usize>,
-    pub counts: Counts,
+    pub live: Vec<bool>,
+    pub columns: Columns,
 }
 
 /// What taking a row in did.
@@ -79,5 +79,4 @@ pub enum Round {
 pub enum Side {
     Above,
     Below,
-    Neither,
 }

@@ -1,11 +1,12 @@
 -- Nodes of what is claimed of constants: three for each pair of unique constants of a type, and those of the axioms.
 use Rattle.std.proofs.Common.{◌≡◌, ℕ, suc, ◌+◌, ◌*◌, Bool, true, false, List, [], ◌∷◌, ◌++◌, length, map, Option, refl, sym, ap, ◌∙◌, arith}
 use Rattle.std.specs.Prelude.{if◌then◌else◌}
+use Rattle.bg_ast.specs.Values.{Ty}
 use Rattle.bg_ast.specs.Resolved as r
 use Rattle.bg_ast.specs.Views.{exs_of}
 use Rattle.bg_places.specs.Counts.{capped, nodes, nodes_of}
-use Rattle.bg_fits.specs.declared.types.Holding.{Holding}
-use Rattle.bg_opened.specs.Unique.{is_alike, uniques, pairs_with, pairs, unique_pairs}
+use Rattle.bg_sense.specs.Types.{ty_eq}
+use Rattle.bg_opened.specs.Unique.{uniques, pairs_with, pairs, unique_pairs}
 use Rattle.bg_opened.specs.Written.{all_opened, apart, constants_of, claims}
 use Rattle.bg_expanded.specs.Bodies.{IsAlike, IsCountOf}
 use Rattle.bg_expanded.specs.Pairs.{count_with, pair_count}
@@ -16,15 +17,15 @@ length_both : {A : Type 0} (xs ys : List A) → length (xs ++ ys) ≡ length xs 
 length_both [] ys = omega arith
 length_both (x ∷ xs) ys = let h = length_both xs ys in omega arith
 
-length_with : (k : ℕ) (h : Holding) (xs : List (ℕ × Holding)) → length (pairs_with k h xs) ≡ count_with h xs
-length_with k h [] = refl
-length_with k h (x ∷ xs) = by (is_alike h x.1) (length_with k h xs)
+length_with : (k : ℕ) (t : Ty) (xs : List (ℕ × Ty)) → length (pairs_with k t xs) ≡ count_with t xs
+length_with k t [] = refl
+length_with k t (x ∷ xs) = by (ty_eq t x.1) (length_with k t xs)
   where
-    by : (b : Bool) → length (pairs_with k h xs) ≡ count_with h xs → length {A = ℕ × ℕ} ((if b then (k, x.0) ∷ [] else []) ++ pairs_with k h xs) ≡ (if b then 1 else 0) + count_with h xs
-    by true e = let one : suc (length (pairs_with k h xs)) ≡ 1 + count_with h xs = omega (arith, e) in one
-    by false e = let none : length (pairs_with k h xs) ≡ 0 + count_with h xs = omega (arith, e) in none
+    by : (b : Bool) → length (pairs_with k t xs) ≡ count_with t xs → length {A = ℕ × ℕ} ((if b then (k, x.0) ∷ [] else []) ++ pairs_with k t xs) ≡ (if b then 1 else 0) + count_with t xs
+    by true e = let one : suc (length (pairs_with k t xs)) ≡ 1 + count_with t xs = omega (arith, e) in one
+    by false e = let none : length (pairs_with k t xs) ≡ 0 + count_with t xs = omega (arith, e) in none
 
-pairs_length : (xs : List (ℕ × Holding)) → length (pairs xs) ≡ pair_count xs
+pairs_length : (xs : List (ℕ × Ty)) → length (pairs xs) ≡ pair_count xs
 pairs_length [] = refl
 pairs_length (x ∷ xs) =
     let a = length_both (pairs_with x.0 x.1 xs) (pairs xs) in
@@ -44,7 +45,7 @@ module _ (table : List (Option Count)) (o : r.Ex → r.Ex) (tells : IsCountOf ta
       alike_sum (nodes (o (apart q))) (Nodes (map apart qs ++ es)) 3 (3 * length qs + Nodes es) one (apart_nodes qs es)
       ∙ ap capped same
 
-  pub claims_counted : (p : r.Program) (told : List (ℕ × Holding)) → told ≡ uniques 0 (constants_of p) → (old first new : ℕ) → IsAlike first (old + 3 * pair_count told) → IsAlike new (first + Nodes p.axioms) → IsAlike new (old + Nodes (claims p))
+  pub claims_counted : (p : r.Program) (told : List (ℕ × Ty)) → told ≡ uniques 0 (constants_of p) → (old first new : ℕ) → IsAlike first (old + 3 * pair_count told) → IsAlike new (first + Nodes p.axioms) → IsAlike new (old + Nodes (claims p))
   claims_counted p told e old first new a b =
       let qs = unique_pairs (constants_of p) in
       let is : length qs ≡ pair_count told = pairs_length (uniques 0 (constants_of p)) ∙ ap pair_count (sym e) in

@@ -1,16 +1,20 @@
 //! Nodes of pairs of unique constants.
-ghost use Rattle.std.specs.Prelude.{ℕ, ◌+◌, ◌*◌, ◌<◌, ◌≡◌, ◌==◌, if◌then◌else◌, length, get_or, OnOk};
+ghost use Rattle.std.specs.Prelude.{ℕ, ◌+◌, ◌*◌, ◌<◌, ◌≡◌, ◌==◌, if◌then◌else◌, length, drop, get_or, map, OnOk};
+ghost use Rattle.bg_kinds.specs.Views.{base_of, ref_of};
+ghost use Rattle.bg_opening.specs.Constants.{unique_of};
 ghost use Rattle.bg_expanded.specs.Bodies.{IsAlike, Adds};
-ghost use Rattle.bg_expanded.specs.Pairs.{one_with, pair_count, tallied};
+ghost use Rattle.bg_expanded.specs.Pairs.{one_with, count_with, pair_count, tallied};
 
 use crate::count::{Count, add_own, read_at, widen};
-use bg_fits::Holding;
+use bg_fits::base_in;
+use bg_kinds::{Base, TypeRef, is_same_type};
+use bg_opening::Unique;
 use std::alloc::{AllocError, Global};
 
 /// The nodes of `a != b`.
 const APART_NODES: u64 = 3;
 
-/// How many constants hold truth values, whole numbers, and elements of each type, as far as 64 bits tell it.
+/// How many constants are truth values, whole numbers, and elements of each type, as far as 64 bits tell it.
 #[derive(Drop)]
 pub struct Tally {
     pub truths: u64,
@@ -20,7 +24,7 @@ pub struct Tally {
 
 /// No constant.
 fn no_constant(alloc: Global) -> Tally
-    ensures { (h : Holding) → tallied result h ≡ 0 }
+    ensures { (b : Base) → tallied result b ≡ 0 }
 {
     Tally {
         truths: 0,
@@ -29,15 +33,14 @@ fn no_constant(alloc: Global) -> Tally
     }
 }
 
-/// How many hold this; those that hold something else than scalars don't count.
-fn tallied(tally: &Tally, holding: Holding) -> u64
-    ensures { result ≡ tallied tally.now holding }
+/// How many are of this type.
+fn tallied(tally: &Tally, base: Base) -> u64
+    ensures { result ≡ tallied tally.now base }
 {
-    match holding {
-        Holding::Truths => tally.truths,
-        Holding::Numbers => tally.numbers,
-        Holding::Elements(u) => read_at(&tally.elements, u as usize),
-        Holding::Others => 0,
+    match base {
+        Base::Bool => tally.truths,
+        Base::Int => tally.numbers,
+        Base::User(u) => read_at(&tally.elements, u as usize),
     }
 }
 
@@ -59,54 +62,96 @@ fn add_element(elements: &mut Vec<u64>, u: u32) -> Result<(), AllocError>
 }
 
 /// Counts one constant more.
-fn add_constant(tally: &mut Tally, holding: Holding) -> Result<(), AllocError>
-    ensures { OnOk result ((h : Holding) → IsAlike (tallied tally.new h) (one_with h holding + tallied tally.old h)) }
+fn add_based(tally: &mut Tally, base: Base) -> Result<(), AllocError>
+    ensures { OnOk result ((b : Base) → IsAlike (tallied tally.new b) (one_with (base_of b) (base_of base) + tallied tally.old b)) }
 {
-    match holding {
-        Holding::Truths => {
+    match base {
+        Base::Bool => {
             tally.truths = tally.truths.saturating_add(1);
             Ok(())
         }
-        Holding::Numbers => {
+        Base::Int => {
             tally.numbers = tally.numbers.saturating_add(1);
             Ok(())
         }
-        Holding::Elements(u) => add_element(&mut tally.elements, u),
-        Holding::Others => Ok(()),
+        Base::User(u) => add_element(&mut tally.elements, u),
     }
 }
 
-/// Adds the nodes of a constant's being different from each that was counted and holds the same.
-fn add_with(count: &mut Count, tally: &Tally, holding: Holding)
-    ensures { Adds count.old count.new (λ ws. 3 * tallied tally.now holding) }
+/// Counts one constant more, where it is no map.
+fn add_constant(tally: &mut Tally, t: TypeRef<'_>) -> Result<(), AllocError>
+    ensures { OnOk result ((b : Base) → IsAlike (tallied tally.new b) (one_with (base_of b) (ref_of t.entry) + tallied tally.old b)) }
 {
-    add_own(count, tallied(tally, holding).saturating_mul(APART_NODES));
+    match base_in(t) {
+        Some(base) => add_based(tally, base),
+        None => Ok(()),
+    }
+}
+
+/// One, where both types are the same.
+fn one_with(t: TypeRef<'_>, u: TypeRef<'_>) -> u64
+    ensures { result ≡ one_with (ref_of t.entry) (ref_of u.entry) }
+{
+    if is_same_type(t, u) { 1 } else { 0 }
+}
+
+/// How many of these are of this type.
+fn maps_with(t: TypeRef<'_>, told: &[Unique]) -> u64
+    ensures { IsAlike result (count_with (ref_of t.entry) (map unique_of told.now)) }
+{
+    let mut count = 0u64;
+    for u in told {
+        count = count.saturating_add(one_with(t, u.kind.as_ref()));
+    }
+    count
+}
+
+/// How many of these are of this type, where those that are no maps were counted; maps are compared one by one.
+fn count_with(tally: &Tally, t: TypeRef<'_>, told: &[Unique]) -> u64
+    ensures { ((b : Base) → IsAlike (tallied tally.now b) (count_with (base_of b) (map unique_of told.now))) → IsAlike result (count_with (ref_of t.entry) (map unique_of told.now)) }
+{
+    match base_in(t) {
+        Some(base) => tallied(tally, base),
+        None => maps_with(t, told),
+    }
+}
+
+/// Adds the nodes of so many constants' being different from one.
+fn add_apart(count: &mut Count, n: u64)
+    ensures { Adds count.old count.new (λ ws. 3 * n) }
+{
+    add_own(count, n.saturating_mul(APART_NODES));
 }
 
 /// The constant in a place.
-fn constant_at(told: &[(u32, Holding)], place: usize) -> (u32, Holding)
+fn constant_at(told: &[Unique], place: usize) -> &Unique
     requires { place < length told.now }
-    ensures { result ≡ get_or told.now place result }
+    ensures { result.now ≡ get_or told.now place result.now }
 {
-    told[place]
+    &told[place]
 }
 
-/// Adds the nodes of constants' being pairwise different that hold the same. Time and memory are linear in the number of constants and
-/// the greatest number of a type.
+/// The constants behind a place.
+fn behind(told: &[Unique], place: usize) -> &[Unique]
+    requires { place < length told.now }
+    ensures { result.now ≡ drop (place + 1) told.now }
+{
+    &told[place + 1..]
+}
+
+/// Adds the nodes of constants' being pairwise different that are of one type. Time and memory are linear in the number of constants that
+/// are no maps, and in the greatest number of a type; maps are compared two by two.
 ///
 /// Only want of memory is an error.
-pub fn add_pairs(
-    alloc: Global,
-    count: &mut Count,
-    told: &[(u32, Holding)],
-) -> Result<(), AllocError>
-    ensures { OnOk result (Adds count.old count.new (λ ws. 3 * pair_count told.now)) }
+pub fn add_pairs(alloc: Global, count: &mut Count, told: &[Unique]) -> Result<(), AllocError>
+    ensures { OnOk result (Adds count.old count.new (λ ws. 3 * pair_count (map unique_of told.now))) }
 {
     let mut later = no_constant(alloc);
     for done in 0..told.len() {
-        let constant = constant_at(told, told.len() - 1 - done);
-        add_with(count, &later, constant.1);
-        add_constant(&mut later, constant.1)?;
+        let place = told.len() - 1 - done;
+        let t = constant_at(told, place).kind.as_ref();
+        add_apart(count, count_with(&later, t, behind(told, place)));
+        add_constant(&mut later, t)?;
     }
     Ok(())
 }

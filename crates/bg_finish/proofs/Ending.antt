@@ -1,5 +1,5 @@
 -- The tables are what is read off.
-use Rattle.std.proofs.Common.{◌≡◌, ℕ, zero, suc, ◌+◌, ◌<◌, true, List, [], ◌∷◌, length, map, Option, Some, None, refl, sym, ap, ◌∙◌, subst, arith}
+use Rattle.std.proofs.Common.{◌≡◌, ℕ, zero, suc, ◌+◌, ◌<◌, true, List, [], ◌∷◌, length, map, Option, Some, None, refl, sym, ap, ◌∙◌, subst, arith, Vec, Global}
 use Rattle.std.specs.Prelude.{slice_get, not, ◌||◌}
 use Rattle.bg_ast.specs.Values as v
 use Rattle.bg_ast.specs.Values.{Val, Ty, is_of}
@@ -14,8 +14,11 @@ use Rattle.bg_read_off.proofs.Entries.{EachTyped, entries_typed, no_entries}
 use Rattle.bg_term_table.specs.declared.instance.Instance as code
 use Rattle.bg_term_table.specs.Instances.{instances_of}
 use Rattle.bg_scalar.specs.declared.scalar.Scalar.{Scalar}
-use Rattle.bg_scalar.specs.Tables.{TableOf}
-use Rattle.bg_scalar.specs.Values.{val_of, entry_of, table_of, tables_of}
+use Rattle.bg_finish.specs.Scalars.{TableOf}
+use Rattle.bg_scalar.specs.Values.{val_of}
+use Rattle.bg_scalar.specs.Views as views
+use Rattle.bg_scalar.specs.declared.table.Table.{Table}
+use Rattle.bg_finish.specs.Scalars.{entry_of, table_of, tables_of, entry_in, table_in, tables_in}
 use Rattle.bg_finish.specs.Finished.{default_of, IsScalarLeaf, AreReadOff}
 use Rattle.bg_finish.specs.Rows.{RowOf, AreRows}
 use Rattle.bg_finish.specs.Firsts.{Agreeing}
@@ -144,5 +147,21 @@ pub still_some : (es : List code.Instance) → 0 < length es → 0 < length (ins
 still_some [] h = absurd (omega (arith, h))
 still_some (e ∷ es) h = omega arith
 
-pub read_off_by : (fs : List Fun) (n : ℕ) (ts : List Term) (s : List Val) (ds : List Scalar) (rs : List RowOf) (tables : List TableOf) → tables ≡ filled rs (map blank ds) → AreReadOff fs n ts s (tables_of (filled rs (map blank ds))) → AreReadOff fs n ts s (tables_of tables)
-read_off_by fs n ts s ds rs tables e h = subst (λ l. AreReadOff fs n ts s (tables_of l)) (sym e) h
+entries_alike : (es : List (Vec Scalar Global × Scalar)) → map entry_of (map entry_in es) ≡ map views.entry_in es
+entries_alike [] = refl
+entries_alike (e ∷ es) = ap (λ (l : List (List Val × Val)). views.entry_in e ∷ l) (entries_alike es)
+
+table_alike : (t : Table) → table_of (table_in t) ≡ views.table_in t
+table_alike t =
+    ap (λ (es : List (List Val × Val)). (let u : v.Table = record { entries = es; default = val_of t.default } in u)) (entries_alike t.entries.entries)
+
+-- tables over scalars are tables of their values
+tables_alike : (ts : List Table) → tables_of (tables_in ts) ≡ views.tables_in ts
+tables_alike [] = refl
+tables_alike (t ∷ ts) =
+    ap (λ (u : v.Table). u ∷ tables_of (tables_in ts)) (table_alike t)
+    ∙ ap (λ (l : List v.Table). views.table_in t ∷ l) (tables_alike ts)
+
+pub read_off_by : (fs : List Fun) (n : ℕ) (ts : List Term) (s : List Val) (ds : List Scalar) (rs : List RowOf) (tables : List Table) → tables_in tables ≡ filled rs (map blank ds) → AreReadOff fs n ts s (tables_of (filled rs (map blank ds))) → AreReadOff fs n ts s (views.tables_in tables)
+read_off_by fs n ts s ds rs tables e h =
+    subst (AreReadOff fs n ts s) (tables_alike tables) (subst (λ l. AreReadOff fs n ts s (tables_of l)) (sym e) h)

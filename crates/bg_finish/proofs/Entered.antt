@@ -16,7 +16,8 @@ use Rattle.bg_sense.proofs.MapLaws.{val_eq_refl}
 use Rattle.bg_sense.proofs.Order.{vals_same}
 use Rattle.bg_scalar.specs.declared.scalar.Scalar.{Scalar}
 use Rattle.bg_scalar.specs.declared.scalar.Scalar.TheVariants.{Truth, Number, Element}
-use Rattle.bg_scalar.specs.Values.{val_of, entry_of}
+use Rattle.bg_scalar.specs.Values.{val_of}
+use Rattle.bg_finish.specs.Scalars.{entry_of}
 use Rattle.bg_finish.specs.Firsts.{scalar_cmp, args_cmp}
 use Rattle.bg_finish.specs.Filled.{with_entry}
 use Rattle.bg_finish.proofs.Earliest.{args_exact, args_equal, nat_same}

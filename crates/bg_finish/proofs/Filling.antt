@@ -13,7 +13,7 @@ use Rattle.bg_sense.proofs.Order.{vals_same}
 use Rattle.bg_terms.specs.Terms.{Applies, Term, over, head_eq}
 use Rattle.bg_terms.specs.Tables.{entries_of}
 use Rattle.bg_scalar.specs.declared.scalar.Scalar.{Scalar}
-use Rattle.bg_scalar.specs.Tables.{TableOf}
+use Rattle.bg_finish.specs.Scalars.{TableOf}
 use Rattle.bg_scalar.specs.Values.{val_of}
 use Rattle.bg_finish.specs.Finished.{Each}
 use Rattle.bg_finish.specs.Rows.{RowOf, AreRows}

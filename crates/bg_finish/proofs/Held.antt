@@ -10,9 +10,9 @@ use Rattle.bg_ast.specs.Values.{val_eq}
 use Rattle.bg_term_table.proofs.Loops.{read_more, read_last}
 use Rattle.bg_scalar.specs.declared.scalar.Scalar.{Scalar}
 use Rattle.bg_scalar.specs.declared.table.Table.{Table}
-use Rattle.bg_scalar.specs.Tables.{TableOf}
+use Rattle.bg_finish.specs.Scalars.{TableOf}
 use Rattle.bg_scalar.specs.Values.{val_of}
-use Rattle.bg_scalar.specs.Views.{entry_in, table_in, tables_in}
+use Rattle.bg_finish.specs.Scalars.{entry_in, table_in, tables_in}
 use Rattle.bg_finish.specs.declared.row.Row.{Row}
 use Rattle.bg_finish.specs.Rows.{row_of, rows_of}
 use Rattle.bg_finish.specs.Firsts.{args_cmp}

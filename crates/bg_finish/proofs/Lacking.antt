@@ -1,5 +1,5 @@
 -- Typed terms lack nothing.
-use Rattle.std.proofs.Common.{◌≡◌, ℕ, zero, suc, ◌+◌, true, List, [], ◌∷◌, length, map, drop, Some, None, refl, sym, ap, ◌∙◌, subst, arith, ⊎_elim}
+use Rattle.std.proofs.Common.{◌≡◌, ℕ, zero, suc, ◌+◌, true, false, List, [], ◌∷◌, length, map, drop, Some, None, refl, sym, ap, ◌∙◌, subst, arith, ⊎_elim}
 use Rattle.std.specs.Prelude.{slice_get}
 use Rattle.bg_ast.specs.Values.{Ty, IntTy, BoolTy, MapTy, is_of}
 use Rattle.bg_ast.specs.Syntax.{Ex, Exs, Number, Fact, Constant, Read, Local, Global, Not, Negative, Binary, And, Or, Implies, Iff, Equal, Unequal, Less, AtMost, Greater, AtLeast, Plus, Minus, Times, Apply, Select, Update, Old, NoMore, More, Fun, Op}
@@ -7,13 +7,15 @@ use Rattle.bg_sense.specs.Types.{are_of}
 use Rattle.bg_sense.specs.Typing.{Sig, HasType, HaveTypes, OpHasType, key_ty}
 use Rattle.bg_sense.proofs.Bools.{and_right, both}
 use Rattle.bg_terms.specs.Terms.{Head, Applies, Selects, Updates, Differs, Term}
+use Rattle.bg_terms.specs.Tables.{is_application}
 use Rattle.bg_terms.specs.Alike.{HasFlatType}
 use Rattle.bg_terms.specs.Typed.{HaveFlatTypes, HeadHasType, type_of, types_with, sig_with}
 use Rattle.bg_terms.proofs.Typed.{at_back, at_map}
 use Rattle.bg_scalar.specs.declared.scalar.Scalar.{Scalar}
-use Rattle.bg_scalar.specs.Worths.{NoScalars, worths}
+use Rattle.bg_scalar.specs.Worths.{NoValues, worths}
 use Rattle.bg_scalar.specs.Values.{val_of}
-use Rattle.bg_scalar.specs.Typed.{is_scalar, are_scalar, Sees, HaveWorths}
+use Rattle.bg_scalar.specs.Views.{vals_in}
+use Rattle.bg_scalar.specs.Typed.{is_valued, are_valued, Sees, HaveWorths}
 use Rattle.bg_scalar.proofs.Typing.{have_worths}
 use Rattle.bg_finish.specs.Finished.{IsScalarLeaf, seen_at}
 use Rattle.bg_finish.specs.Rows.{LacksOne}
@@ -21,22 +23,22 @@ use Rattle.bg_finish.specs.Rows.{LacksOne}
 -- ---- flat expressions are over scalars
 
 module _ (tys : List Ty) where
-  op_scalar : (o : Op) (A B : Ty → Type 0) (a b : Ex) (t : Ty) → ((u : Ty) → A u → is_scalar a ≡ true) → ((u : Ty) → B u → is_scalar b ≡ true) → OpHasType o A B t → is_scalar (Binary o a b) ≡ true
-  op_scalar And A B a b t f g h = both (is_scalar a) (is_scalar b) (f BoolTy h.1) (g BoolTy h.2)
-  op_scalar Or A B a b t f g h = both (is_scalar a) (is_scalar b) (f BoolTy h.1) (g BoolTy h.2)
-  op_scalar Implies A B a b t f g h = both (is_scalar a) (is_scalar b) (f BoolTy h.1) (g BoolTy h.2)
-  op_scalar Iff A B a b t f g h = both (is_scalar a) (is_scalar b) (f BoolTy h.1) (g BoolTy h.2)
-  op_scalar Equal A B a b t f g h = both (is_scalar a) (is_scalar b) (f h.1.0 h.1.1) (g h.1.0 h.1.2)
-  op_scalar Unequal A B a b t f g h = both (is_scalar a) (is_scalar b) (f h.1.0 h.1.1) (g h.1.0 h.1.2)
-  op_scalar Less A B a b t f g h = both (is_scalar a) (is_scalar b) (f IntTy h.1) (g IntTy h.2)
-  op_scalar AtMost A B a b t f g h = both (is_scalar a) (is_scalar b) (f IntTy h.1) (g IntTy h.2)
-  op_scalar Greater A B a b t f g h = both (is_scalar a) (is_scalar b) (f IntTy h.1) (g IntTy h.2)
-  op_scalar AtLeast A B a b t f g h = both (is_scalar a) (is_scalar b) (f IntTy h.1) (g IntTy h.2)
-  op_scalar Plus A B a b t f g h = both (is_scalar a) (is_scalar b) (f IntTy h.1) (g IntTy h.2)
-  op_scalar Minus A B a b t f g h = both (is_scalar a) (is_scalar b) (f IntTy h.1) (g IntTy h.2)
-  op_scalar Times A B a b t f g h = both (is_scalar a) (is_scalar b) (f IntTy h.1) (g IntTy h.2)
+  op_scalar : (o : Op) (A B : Ty → Type 0) (a b : Ex) (t : Ty) → ((u : Ty) → A u → is_valued a ≡ true) → ((u : Ty) → B u → is_valued b ≡ true) → OpHasType o A B t → is_valued (Binary o a b) ≡ true
+  op_scalar And A B a b t f g h = both (is_valued a) (is_valued b) (f BoolTy h.1) (g BoolTy h.2)
+  op_scalar Or A B a b t f g h = both (is_valued a) (is_valued b) (f BoolTy h.1) (g BoolTy h.2)
+  op_scalar Implies A B a b t f g h = both (is_valued a) (is_valued b) (f BoolTy h.1) (g BoolTy h.2)
+  op_scalar Iff A B a b t f g h = both (is_valued a) (is_valued b) (f BoolTy h.1) (g BoolTy h.2)
+  op_scalar Equal A B a b t f g h = both (is_valued a) (is_valued b) (f h.1.0 h.1.1) (g h.1.0 h.1.2)
+  op_scalar Unequal A B a b t f g h = both (is_valued a) (is_valued b) (f h.1.0 h.1.1) (g h.1.0 h.1.2)
+  op_scalar Less A B a b t f g h = both (is_valued a) (is_valued b) (f IntTy h.1) (g IntTy h.2)
+  op_scalar AtMost A B a b t f g h = both (is_valued a) (is_valued b) (f IntTy h.1) (g IntTy h.2)
+  op_scalar Greater A B a b t f g h = both (is_valued a) (is_valued b) (f IntTy h.1) (g IntTy h.2)
+  op_scalar AtLeast A B a b t f g h = both (is_valued a) (is_valued b) (f IntTy h.1) (g IntTy h.2)
+  op_scalar Plus A B a b t f g h = both (is_valued a) (is_valued b) (f IntTy h.1) (g IntTy h.2)
+  op_scalar Minus A B a b t f g h = both (is_valued a) (is_valued b) (f IntTy h.1) (g IntTy h.2)
+  op_scalar Times A B a b t f g h = both (is_valued a) (is_valued b) (f IntTy h.1) (g IntTy h.2)
 
-  flat_scalar : (x : Ex) (t : Ty) → HasFlatType tys x t → is_scalar x ≡ true
+  flat_scalar : (x : Ex) (t : Ty) → HasFlatType tys x t → is_valued x ≡ true
   flat_scalar (Number z) t h = refl
   flat_scalar (Fact b) t h = refl
   flat_scalar (Constant k) t h = absurd h
@@ -86,10 +88,10 @@ module _ (tys : List Ty) where
   flat_typed (Update m es e) t h = absurd h
   flat_typed (Old x) t h = absurd h
 
-  flats_scalar : (xs : Exs) (ps : List Ty) → HaveFlatTypes tys xs ps → are_scalar xs ≡ true
+  flats_scalar : (xs : Exs) (ps : List Ty) → HaveFlatTypes tys xs ps → are_valued xs ≡ true
   flats_scalar NoMore ps h = refl
   flats_scalar (More x xs) [] h = absurd h
-  flats_scalar (More x xs) (p ∷ ps) h = both (is_scalar x) (are_scalar xs) (flat_scalar x p h.0) (flats_scalar xs ps h.1)
+  flats_scalar (More x xs) (p ∷ ps) h = both (is_valued x) (are_valued xs) (flat_scalar x p h.0) (flats_scalar xs ps h.1)
 
   flats_typed : (xs : Exs) (ps : List Ty) → HaveFlatTypes tys xs ps → HaveTypes xs here ps
   flats_typed NoMore ps h = h
@@ -115,16 +117,22 @@ drop_missing [] (suc n) a e = refl
 drop_missing (v ∷ vs) (suc n) a e = ap (slice_get (v ∷ vs)) (let q : suc n + a ≡ suc (n + a) = omega arith in q) ∙ drop_missing vs n a e
 
 pub nothing_lacks : (fs : List Fun) (incs : List Ty) (ts : List Term) (values : List Scalar) (ds : List _) (n : ℕ) → length incs ≡ n → IsScalarLeaf fs incs ts (map val_of values) ds → LacksOne values n ts → ⊥
-nothing_lacks fs incs ts values ds n count leaf l = ⊎_elim no_scalar missing l.lacks
+nothing_lacks fs incs ts values ds n count leaf l = ⊎_elim (λ k. ⊎_elim no_scalar missing k) other l.lacks
   where
     missing : slice_get (drop n values) l.number ≡ None → ⊥
     missing e =
         value_missing (types_with incs ts) values (n + l.number) l.term.ty leaf.values (at_back incs (map type_of ts) l.number n (sym count) ∙ at_map type_of ts l.number l.term l.is_there) (drop_missing values n l.number e)
 
-    sees : Sees (sig_with [] [] (types_with incs ts)) (seen_at values)
-    sees = record { tables = refl; globals = refl; before = refl; frame = leaf.values }
+    other : is_application l.term.head ≡ false → ⊥
+    other e =
+        let no : true ≡ false = sym (leaf.applied l.number l.term l.is_there) ∙ e in
+        let bad : ⊥ = cc in
+        bad
 
-    no_scalar : worths l.term.args (seen_at values) ≡ NoScalars → ⊥
+    sees : Sees (sig_with [] [] (types_with incs ts)) (seen_at (vals_in values))
+    sees = record { tables = λ f fn args e. absurd cc; globals = refl; before = refl; frame = leaf.values }
+
+    no_scalar : worths l.term.args (seen_at (vals_in values)) ≡ NoValues → ⊥
     no_scalar e =
         let p = args_types fs (types_with incs ts) l.term.head l.term.args l.term.ty (leaf.terms l.number l.term l.is_there) in
-        subst (HaveWorths p.0) e (have_worths l.term.args (seen_at values) (sig_with [] [] (types_with incs ts)) p.0 (flats_scalar (types_with incs ts) l.term.args p.0 p.1) (flats_typed (types_with incs ts) l.term.args p.0 p.1) sees)
+        subst (HaveWorths p.0) e (have_worths l.term.args (seen_at (vals_in values)) (sig_with [] [] (types_with incs ts)) p.0 (flats_scalar (types_with incs ts) l.term.args p.0 p.1) (flats_typed (types_with incs ts) l.term.args p.0 p.1) sees)

@@ -10,6 +10,7 @@ use Rattle.bg_ast.specs.Views.{exs_in}
 use Rattle.bg_ast.specs.declared.resolved.Expr.{Expr}
 use Rattle.bg_sense.specs.Eval.{value_at, evs}
 use Rattle.bg_terms.specs.Terms.{Term, over}
+use Rattle.bg_terms.specs.Tables.{is_application}
 use Rattle.bg_term_table.specs.declared.table.Term as kept
 use Rattle.bg_term_table.specs.declared.table.Head as code
 use Rattle.bg_term_table.specs.declared.table.Head.TheVariants as head
@@ -18,6 +19,7 @@ use Rattle.bg_term_table.proofs.Loops.{read_more, read_last}
 use Rattle.bg_scalar.specs.declared.scalar.Scalar.{Scalar}
 use Rattle.bg_scalar.specs.Worths.{Listed, Are, worths}
 use Rattle.bg_scalar.specs.Values.{val_of, MeanTables}
+use Rattle.bg_scalar.specs.Views.{vals_in}
 use Rattle.bg_scalar.proofs.Agreeing.{AllAgree, all_agree}
 use Rattle.bg_finish.specs.declared.row.Row.{Row}
 use Rattle.bg_finish.specs.declared.row.One.{One}
@@ -83,9 +85,9 @@ no_tables : MeanTables (λ f args. Num (pos 0)) []
 no_tables f args = refl
 
 -- arguments that are worth scalars have these values
-pub args_worth : (values : List Scalar) (t : Term) (xs : List Scalar) → worths t.args (seen_at values) ≡ Are xs → evs t.args (over (map val_of values)) ≡ map val_of xs
+pub args_worth : (values : List Scalar) (t : Term) (xs : List Scalar) → worths t.args (seen_at (vals_in values)) ≡ Are (vals_in xs) → evs t.args (over (map val_of values)) ≡ map val_of xs
 args_worth values t xs h =
-    subst (λ l. AllAgree l (evs t.args (over (map val_of values)))) h (all_agree (λ f args. Num (pos 0)) [] t.args (seen_at values) no_tables)
+    subst (λ l. AllAgree l (evs t.args (over (map val_of values)))) h (all_agree (λ f args. Num (pos 0)) [] t.args (seen_at (vals_in values)) no_tables)
 
 value_there : (values : List Scalar) (a : ℕ) (x : Scalar) → slice_get values a ≡ Some x → value_at (map val_of values) a ≡ val_of x
 value_there [] a x e = absurd (let bad : ⊥ = cc in bad)
@@ -109,14 +111,14 @@ module _ (values : List Scalar) (n : ℕ) (fs : List Fun) (terms : List kept.Ter
   so_far = map (term_of fs) (take i terms)
 
   module _ (made : List Row) (rows : AreRows values n 0 (map (term_of fs) (take i terms)) (rows_of made)) where
-    pub leaves_first : (it : One) (o : OutOfRange) (value : Option Scalar) → it ≡ one.Leaves o → IsOne values (term_of fs x) value it → LeavesFirst (terms_in fs terms) values o
+    pub leaves_first : (it : One) (o : OutOfRange) (value : Option Scalar) → it ≡ one.Leaves o → IsOne values (term_of fs x) value it → LeavesFirst (terms_in fs terms) (vals_in values) o
     leaves_first it o value e h =
         record {
           number = i;
           term = term_of fs x;
           is_there = map_there (term_of fs) terms i x lt is;
           leaves = subst (IsOne values (term_of fs x) value) e h;
-          before = λ a t la there. let w = its_row values n 0 so_far (rows_of made) rows a t (take_there (term_of fs) terms i a t la there) in (w.0.args, w.1.1.1.0);
+          before = λ a t la there. let w = its_row values n 0 so_far (rows_of made) rows a t (take_there (term_of fs) terms i a t la there) in (vals_in w.0.args, w.1.1.1.0);
         }
 
     pub rows_more : (now : List Row) (it : One) (r : Row) (value : Option Scalar) → it ≡ one.Is r → now ≡ made ++ r ∷ [] → value ≡ slice_get (drop n values) i → IsOne values (term_of fs x) value it → AreRows values n 0 (map (term_of fs) (take (i + 1) terms)) (rows_of now)
@@ -131,7 +133,7 @@ module _ (values : List Scalar) (n : ℕ) (fs : List Fun) (terms : List kept.Ter
         number = i;
         term = term_of fs x;
         is_there = map_there (term_of fs) terms i x lt is;
-        lacks = ⊎_elim (λ k. inl k) (λ k. inr (sym v ∙ k)) (subst (IsOne values (term_of fs x) value) e h);
+        lacks = ⊎_elim (λ a. inl (⊎_elim (λ k. inl k) (λ k. inr (sym v ∙ k)) a)) (λ k. inr k) (subst (IsOne values (term_of fs x) value) e h);
       }
 
 -- ---- one term
@@ -141,16 +143,19 @@ all_listed : (es : List Expr) → exs_of (exs_in es) ≡ listed (meanings es)
 all_listed [] = refl
 all_listed (e ∷ es) = ap (More (meaning e)) (all_listed es)
 
-pub args_are : (values : List Scalar) (fs : List Fun) (x : kept.Term) (es : List Expr) (l m : Listed) → es ≡ x.args.items → l ≡ worths (exs_of (exs_in es)) (seen_at values) → l ≡ m → worths (term_of fs x).args (seen_at values) ≡ m
+pub args_are : (values : List Scalar) (fs : List Fun) (x : kept.Term) (es : List Expr) (l m : Listed) → es ≡ x.args.items → l ≡ worths (exs_of (exs_in es)) (seen_at (vals_in values)) → l ≡ m → worths (term_of fs x).args (seen_at (vals_in values)) ≡ m
 args_are values fs x es l m same is e =
-    ap (λ a. worths a (seen_at values)) (sym (all_listed x.args.items) ∙ ap (λ a. exs_of (exs_in a)) (sym same)) ∙ sym is ∙ e
+    ap (λ a. worths a (seen_at (vals_in values))) (sym (all_listed x.args.items) ∙ ap (λ a. exs_of (exs_in a)) (sym same)) ∙ sym is ∙ e
 
-pub one_made : (values : List Scalar) (fs : List Fun) (x : kept.Term) (args : Vec Scalar Global) (value : Option Scalar) → worths (term_of fs x).args (seen_at values) ≡ Are args.items → IsOne values (term_of fs x) value (one_with x.head args value)
-one_made values fs x args None h = inr refl
+pub one_made : (values : List Scalar) (fs : List Fun) (x : kept.Term) (args : Vec Scalar Global) (value : Option Scalar) → worths (term_of fs x).args (seen_at (vals_in values)) ≡ Are (vals_in args.items) → IsOne values (term_of fs x) value (one_with x.head args value)
+one_made values fs x args None h = inl (inr refl)
 one_made values fs x args (Some v) h = by_head x.head refl
   where
     by_head : (k : code.Head) → x.head ≡ k → IsOne values (term_of fs x) (Some v) (one_with k args (Some v))
     by_head (head.Function f) e = (ap head_of e, (h, refl))
+    by_head (head.Selects k t) e = inr (ap (λ g. is_application (head_of g)) e)
+    by_head (head.Updates k t) e = inr (ap (λ g. is_application (head_of g)) e)
+    by_head (head.Differs k t j) e = inr (ap (λ g. is_application (head_of g)) e)
 
 -- ---- past the end
 

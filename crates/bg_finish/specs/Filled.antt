@@ -3,7 +3,7 @@ use Rattle.std.specs.Prelude.{ℕ, zero, suc, if◌then◌else◌, List, [], ◌
 use Rattle.std.specs.Ordering.{match_ordering}
 use Rattle.bg_ast.specs.Values.{val_eq}
 use Rattle.bg_scalar.specs.declared.scalar.Scalar.{Scalar}
-use Rattle.bg_scalar.specs.Tables.{TableOf}
+use Rattle.bg_finish.specs.Scalars.{TableOf}
 use Rattle.bg_scalar.specs.Values.{val_of}
 use Rattle.bg_finish.specs.Rows.{RowOf}
 use Rattle.bg_finish.specs.Firsts.{args_cmp}

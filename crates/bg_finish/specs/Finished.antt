@@ -13,11 +13,9 @@ use Rattle.bg_terms.specs.Flat.{HaveNoBodies}
 use Rattle.bg_terms.specs.Typed.{TermsTyped, types_with}
 use Rattle.bg_terms.specs.Tables.{IsReadOff}
 use Rattle.bg_terms.specs.Instances.{Instance, instance_ex}
-use Rattle.bg_read_off.specs.Leaves.{AreCongruent, silent}
+use Rattle.bg_read_off.specs.Leaves.{AreApplications, AreCongruent, silent}
 use Rattle.bg_term_table.specs.Instances.{instances_of}
-use Rattle.bg_scalar.specs.declared.scalar.Scalar.{Scalar}
 use Rattle.bg_scalar.specs.Worths.{Seen, Are, Leave, worths}
-use Rattle.bg_scalar.specs.Values.{val_of, tables_of}
 use Rattle.bg_scalar.specs.Views.{tables_in}
 use Rattle.bg_finish.specs.declared.kind.Finish.{Finish}
 use Rattle.bg_finish.specs.declared.kind.Finish.TheVariants as come
@@ -26,11 +24,12 @@ use Rattle.bg_finish.specs.declared.kind.Finish.TheVariants as come
 abbrev pub default_of : Fun → Val
 default_of f = default_for f.result
 
--- terms of functions without a body are typed, they and the incarnations have values of their types, and these are the defaults of the
+-- terms are applications of functions without a body, and typed; they and the incarnations have values of their types, and these are the defaults of the
 -- functions
 pub record IsScalarLeaf (fs : List Fun) (incs : List Ty) (ts : List Term) (s given : List Val) : Type 0 where
   pub bodiless : HaveNoBodies fs
   pub terms : TermsTyped fs incs ts
+  pub applied : AreApplications ts
   pub values : are_of (types_with incs ts) s ≡ true
   pub defaults : given ≡ map default_of fs
 
@@ -53,20 +52,20 @@ pub record AreFalse (n : ℕ) (ts : List Term) (s : List Val) (es : List Instanc
   pub each : Each (IsFalse s n ts) es
 
 -- what incarnations and terms are worth, and nothing else
-abbrev pub seen_at : List Scalar → Seen
+abbrev pub seen_at : List Val → Seen
 seen_at values = record { tables = []; globals = []; before = []; frame = values }
 
 -- this operation of the arguments is the first that leaves the range
-pub record LeavesFirst (ts : List Term) (values : List Scalar) (o : OutOfRange) : Type 0 where
+pub record LeavesFirst (ts : List Term) (values : List Val) (o : OutOfRange) : Type 0 where
   pub number : ℕ
   pub term : Term
   pub is_there : slice_get ts number ≡ Some term
   pub leaves : worths term.args (seen_at values) ≡ Leave o
-  pub before : (a : ℕ) (t : Term) → a < number → slice_get ts a ≡ Some t → (xs : List Scalar) × (worths t.args (seen_at values) ≡ Are xs)
+  pub before : (a : ℕ) (t : Term) → a < number → slice_get ts a ≡ Some t → (xs : List Val) × (worths t.args (seen_at values) ≡ Are xs)
 
 -- what a leaf comes to
-abbrev pub IsFinish : List Fun → ℕ → List Term → List Scalar → Finish → Type 0
-IsFinish fs n ts s (come.Tables made) = AreReadOff fs n ts (map val_of s) (tables_of (tables_in made.items))
-IsFinish fs n ts s (come.Instances made) = AreFalse n ts (map val_of s) (instances_of made.items)
+abbrev pub IsFinish : List Fun → ℕ → List Term → List Val → Finish → Type 0
+IsFinish fs n ts s (come.Tables made) = AreReadOff fs n ts s (tables_in made.items)
+IsFinish fs n ts s (come.Instances made) = AreFalse n ts s (instances_of made.items)
 IsFinish fs n ts s (come.Leaves o) = LeavesFirst ts s o
 IsFinish fs n ts s come.NoScalars = ⊥

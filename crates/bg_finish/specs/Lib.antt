@@ -1,3 +1,4 @@
+pub mod Scalars
 pub mod Finished
 pub mod Rows
 pub mod Firsts

@@ -39,22 +39,25 @@ fn row(
     match args {
         Scalars::Leave(o) => Ok(One::Leaves(o)),
         Scalars::NoScalars => Ok(One::NoRow),
-        Scalars::Are(args) => Ok(valued(term.head, args, value)),
+        Scalars::Are(args) => Ok(valued(&term.head, args, value)),
     }
 }
 
 /// An application to these arguments, with this value, if it has one.
-fn valued(head: Head, args: Vec<Scalar>, value: Option<Scalar>) -> One
-    ensures { result ≡ one_with head args value }
+fn valued(head: &Head, args: Vec<Scalar>, value: Option<Scalar>) -> One
+    ensures { result ≡ one_with head.now args value }
 {
     match value {
         None => One::NoRow,
         Some(value) => match head {
             Head::Function(function) => One::Is(Row {
-                function,
+                function: *function,
                 args,
                 value,
             }),
+            Head::Selects(_, _) => One::NoRow,
+            Head::Updates(_, _) => One::NoRow,
+            Head::Differs(_, _, _) => One::NoRow,
         },
     }
 }

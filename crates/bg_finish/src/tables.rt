@@ -1,6 +1,6 @@
 //! Tables of functions, by applications.
 ghost use Rattle.std.specs.Prelude.{◌≡◌, map, IfOk, OnOk};
-ghost use Rattle.bg_scalar.specs.Views.{table_in, tables_in};
+ghost use Rattle.bg_finish.specs.Scalars.{table_in, tables_in};
 ghost use Rattle.bg_finish.specs.Rows.{row_of, rows_of};
 ghost use Rattle.bg_finish.specs.Filled.{put_in, blank, with_row, filled};
 

@@ -30,7 +30,7 @@ pub fn finish(
     terms: &[Term],
     values: &[Scalar],
 ) -> Result<Finish, AllocError>
-    ensures { IfOk result (λ made. (fs : List Fun) (incs : List Ty) → length incs ≡ count → IsScalarLeaf fs incs (terms_in fs terms.now) (map val_of values.now) (map val_of defaults.now) → IsFinish fs count (terms_in fs terms.now) values.now made) }
+    ensures { IfOk result (λ made. (fs : List Fun) (incs : List Ty) → length incs ≡ count → IsScalarLeaf fs incs (terms_in fs terms.now) (map val_of values.now) (map val_of defaults.now) → IsFinish fs count (terms_in fs terms.now) (map val_of values.now) made) }
 {
     let made = rows(alloc, count, terms, values)?;
     match made {

@@ -1,2 +1,4 @@
 pub mod Synonyms
 pub mod Bare
+pub mod Towers
+pub mod Bases

@@ -91,3 +91,13 @@ pub fn finished_leaves_fail()
     bg_terms::laws::finished_leaves_give_models();
     denied_flat_blocks_fail()
 }
+
+/// Flat blocks stay so when terms come behind.
+pub fn flat_blocks_stay()
+    ensures types { (incs : List Ty) (ts us : List Term) (n : ℕ) (vs : List Term) (blocks flat : List PassiveBlock) →
+        FlatBlocks (types_with incs ts) n vs blocks flat → FlatBlocks (types_with incs (ts ++ us)) n vs blocks flat }
+    ensures terms { (tys : List Ty) (n : ℕ) (ts us : List Term) (blocks flat : List PassiveBlock) →
+        FlatBlocks tys n ts blocks flat → FlatBlocks tys n (ts ++ us) blocks flat }
+{
+    bg_terms::laws::terms_may_come_behind()
+}

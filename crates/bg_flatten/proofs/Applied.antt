@@ -1,58 +1,131 @@
--- Each term that blocks have is an application.
-use Rattle.std.proofs.Common.{◌≡◌, ℕ, true, List, [], ◌∷◌, Option, Some, None, ap, ⊎_elim}
+-- Each term that blocks without selects and updates have is an application; and no term of blocks is a part of an index.
+use Rattle.std.proofs.Common.{◌≡◌, ℕ, true, false, List, [], ◌∷◌, Option, Some, None, refl, ap, ◌∙◌, ⊎_elim}
 use Rattle.std.specs.Prelude.{slice_get}
+use Rattle.bg_ast.specs.Values.{Ty}
 use Rattle.bg_ast.specs.Syntax.{Ex, Exs, Number, Fact, Constant, Read, Not, Negative, Binary, Apply, Select, Update, Old, NoMore, More, Fun}
 use Rattle.bg_passive.specs.Passive.{PassiveCmd, Claims, Supposes, Edge, PassiveBlock}
-use Rattle.bg_terms.specs.Terms.{Applies, Term}
+use Rattle.bg_terms.specs.Terms.{Head, Applies, Term}
+use Rattle.bg_terms.specs.Closed.{is_differs}
 use Rattle.bg_terms.specs.Tables.{is_application}
-use Rattle.bg_numbered.specs.Put.{found_from, applied, with_by, with_applied}
-use Rattle.bg_numbered.specs.Numbered.{behind, all_behind, all_numbered}
+use Rattle.bg_numbered.specs.Put.{found_from, made, with_by, with_term, select_head, update_head, map_ty}
+use Rattle.bg_numbered.specs.Numbered.{behind, numbered, all_behind, all_numbered}
 use Rattle.bg_numbered.proofs.Growing.{last_or}
+use Rattle.bg_flatten.specs.Makes.{Each}
 use Rattle.bg_flatten.specs.Numbered.{list_behind, cmd_behind, edge_behind, block_behind, terms_of}
+use Rattle.bg_flatten.proofs.Handled.{HasNoMaps, HaveNoMaps, CmdWithout, EdgeWithout, BlockWithout}
+
+-- ---- lists
+
+list_keeps : {A : Type 0} → (Fine : A → Type 0) (Good : List Term → Type 0) (f : A → List Term → List Term) → ((x : A) (ts : List Term) → Fine x → Good ts → Good (f x ts)) → (xs : List A) (ts : List Term) → Each Fine xs → Good ts → Good (list_behind f xs ts)
+list_keeps Fine Good f one [] ts k h = h
+list_keeps Fine Good f one (x ∷ xs) ts k h = list_keeps Fine Good f one xs (f x ts) k.1 (one x ts k.0 h)
+
+-- ---- applications
 
 abbrev AreApplied : List Term → Type 0
 AreApplied ts = (a : ℕ) (t : Term) → slice_get ts a ≡ Some t → is_application t.head ≡ true
 
-list_applied : {A : Type 0} → (f : A → List Term → List Term) → ((x : A) (ts : List Term) → AreApplied ts → AreApplied (f x ts)) → (xs : List A) (ts : List Term) → AreApplied ts → AreApplied (list_behind f xs ts)
-list_applied f one [] ts h = h
-list_applied f one (x ∷ xs) ts h = list_applied f one xs (f x ts) (one x ts h)
-
-module _ (fs : List Fun) (n : ℕ) where
-  put_applied : (f : ℕ) (xs : Exs) (ts : List Term) → AreApplied ts → AreApplied (with_applied fs f xs ts)
+module _ (fs : List Fun) (incs : List Ty) where
+  put_applied : (f : ℕ) (xs : Exs) (ts : List Term) → AreApplied ts → AreApplied (with_term fs (Applies f) xs ts)
   put_applied f xs ts h = on (found_from 0 (Applies f) xs ts)
     where
-      on : (o : Option ℕ) → AreApplied (with_by o (applied fs f xs) ts)
+      on : (o : Option ℕ) → AreApplied (with_by o (made fs (Applies f) xs) ts)
       on (Some a) = h
-      on None = λ a t e. ⊎_elim (h a t) (λ same. ap (λ u. is_application u.head) same) (last_or ts (applied fs f xs) a t e)
+      on None =
+          λ a t e. ⊎_elim (h a t) (λ same. ap (λ u. is_application u.head) same) (last_or ts (made fs (Applies f) xs) a t e)
 
   mutual
-    each : (e : Ex) (ts : List Term) → AreApplied ts → AreApplied (behind fs n e ts)
-    each (Number z) ts h = h
-    each (Fact b) ts h = h
-    each (Constant k) ts h = h
-    each (Read x) ts h = h
-    each (Not e) ts h = each e ts h
-    each (Negative e) ts h = each e ts h
-    each (Binary op a b) ts h = each b (behind fs n a ts) (each a ts h)
-    each (Apply f es) ts h = put_applied f (all_numbered fs n es ts) (all_behind fs n es ts) (all es ts h)
-    each (Select m es) ts h = h
-    each (Update m es e) ts h = h
-    each (Old e) ts h = each e ts h
+    each : (e : Ex) (ts : List Term) → HasNoMaps e → AreApplied ts → AreApplied (behind fs incs e ts)
+    each (Number z) ts k h = h
+    each (Fact b) ts k h = h
+    each (Constant c) ts k h = h
+    each (Read x) ts k h = h
+    each (Not e) ts k h = each e ts k h
+    each (Negative e) ts k h = each e ts k h
+    each (Binary op a b) ts k h = each b (behind fs incs a ts) k.1 (each a ts k.0 h)
+    each (Apply f es) ts k h = put_applied f (all_numbered fs incs es ts) (all_behind fs incs es ts) (all es ts k h)
+    each (Select m es) ts k h = absurd k
+    each (Update m es e) ts k h = absurd k
+    each (Old e) ts k h = each e ts k h
 
-    all : (es : Exs) (ts : List Term) → AreApplied ts → AreApplied (all_behind fs n es ts)
-    all NoMore ts h = h
-    all (More e es) ts h = all es (behind fs n e ts) (each e ts h)
+    all : (es : Exs) (ts : List Term) → HaveNoMaps es → AreApplied ts → AreApplied (all_behind fs incs es ts)
+    all NoMore ts k h = h
+    all (More e es) ts k h = all es (behind fs incs e ts) k.1 (each e ts k.0 h)
 
-  cmd : (k : PassiveCmd) (ts : List Term) → AreApplied ts → AreApplied (cmd_behind fs n k ts)
-  cmd (Claims s b e) ts h = each e ts h
-  cmd (Supposes b e) ts h = each e ts h
+  cmd : (k : PassiveCmd) (ts : List Term) → CmdWithout k → AreApplied ts → AreApplied (cmd_behind fs incs k ts)
+  cmd (Claims s b e) ts k h = each e ts k h
+  cmd (Supposes b e) ts k h = each e ts k h
 
-  edge : (e : Edge) (ts : List Term) → AreApplied ts → AreApplied (edge_behind fs n e ts)
-  edge e ts h = list_applied (cmd_behind fs n) cmd e.cmds ts h
+  edge : (e : Edge) (ts : List Term) → EdgeWithout e → AreApplied ts → AreApplied (edge_behind fs incs e ts)
+  edge e ts k h = list_keeps CmdWithout AreApplied (cmd_behind fs incs) cmd e.cmds ts k h
 
-  block : (b : PassiveBlock) (ts : List Term) → AreApplied ts → AreApplied (block_behind fs n b ts)
-  block b ts h =
-      list_applied (edge_behind fs n) edge b.next (list_behind (cmd_behind fs n) b.cmds ts) (list_applied (cmd_behind fs n) cmd b.cmds ts h)
+  block : (b : PassiveBlock) (ts : List Term) → BlockWithout b → AreApplied ts → AreApplied (block_behind fs incs b ts)
+  block b ts k h =
+      list_keeps EdgeWithout AreApplied (edge_behind fs incs) edge b.next (list_behind (cmd_behind fs incs) b.cmds ts) k.1 (list_keeps CmdWithout AreApplied (cmd_behind fs incs) cmd b.cmds ts k.0 h)
 
-  pub are_applied : (bs : List PassiveBlock) → AreApplied (terms_of fs n bs)
-  are_applied bs = list_applied (block_behind fs n) block bs [] (λ a t e. absurd (let bad : ⊥ = cc in bad))
+  pub are_applied : (bs : List PassiveBlock) → Each BlockWithout bs → AreApplied (terms_of fs incs bs)
+  are_applied bs k =
+      list_keeps BlockWithout AreApplied (block_behind fs incs) block bs [] k (λ a t e. absurd (let bad : ⊥ = cc in bad))
+
+-- ---- no parts of indices
+
+abbrev AreOrdinary : List Term → Type 0
+AreOrdinary ts = (a : ℕ) (t : Term) → slice_get ts a ≡ Some t → is_differs t.head ≡ false
+
+abbrev Any : {A : Type 0} → A → Type 0
+Any x = Unit {0}
+
+any : {A : Type 0} → (xs : List A) → Each Any xs
+any [] = tt
+any (x ∷ xs) = (tt, any xs)
+
+module _ (fs : List Fun) (incs : List Ty) where
+  put_ordinary : (h : Head) (xs : Exs) (ts : List Term) → is_differs h ≡ false → AreOrdinary ts → AreOrdinary (with_term fs h xs ts)
+  put_ordinary h xs ts same k = on (found_from 0 h xs ts)
+    where
+      on : (o : Option ℕ) → AreOrdinary (with_by o (made fs h xs) ts)
+      on (Some a) = k
+      on None = λ a t e. ⊎_elim (k a t) (λ last. ap (λ u. is_differs u.head) last ∙ same) (last_or ts (made fs h xs) a t e)
+
+  mutual
+    ordinary : (e : Ex) (ts : List Term) → AreOrdinary ts → AreOrdinary (behind fs incs e ts)
+    ordinary (Number z) ts h = h
+    ordinary (Fact b) ts h = h
+    ordinary (Constant c) ts h = h
+    ordinary (Read x) ts h = h
+    ordinary (Not e) ts h = ordinary e ts h
+    ordinary (Negative e) ts h = ordinary e ts h
+    ordinary (Binary op a b) ts h = ordinary b (behind fs incs a ts) (ordinary a ts h)
+    ordinary (Apply f es) ts h =
+        put_ordinary (Applies f) (all_numbered fs incs es ts) (all_behind fs incs es ts) refl (all_ordinary es ts h)
+    ordinary (Select m es) ts h =
+        let mid = behind fs incs m ts in
+        let last = all_behind fs incs es mid in
+        let x = numbered fs incs m ts in
+        put_ordinary (select_head (map_ty incs x last)) (More x (all_numbered fs incs es mid)) last refl (all_ordinary es mid (ordinary m ts h))
+    ordinary (Update m es e) ts h =
+        let mid = behind fs incs m ts in
+        let far = all_behind fs incs es mid in
+        let last = behind fs incs e far in
+        let x = numbered fs incs m ts in
+        put_ordinary (update_head (map_ty incs x last)) (More x (More (numbered fs incs e far) (all_numbered fs incs es mid))) last refl (ordinary e far (all_ordinary es mid (ordinary m ts h)))
+    ordinary (Old e) ts h = ordinary e ts h
+
+    all_ordinary : (es : Exs) (ts : List Term) → AreOrdinary ts → AreOrdinary (all_behind fs incs es ts)
+    all_ordinary NoMore ts h = h
+    all_ordinary (More e es) ts h = all_ordinary es (behind fs incs e ts) (ordinary e ts h)
+
+  cmd_ordinary : (k : PassiveCmd) (ts : List Term) → Any k → AreOrdinary ts → AreOrdinary (cmd_behind fs incs k ts)
+  cmd_ordinary (Claims s b e) ts k h = ordinary e ts h
+  cmd_ordinary (Supposes b e) ts k h = ordinary e ts h
+
+  edge_ordinary : (e : Edge) (ts : List Term) → Any e → AreOrdinary ts → AreOrdinary (edge_behind fs incs e ts)
+  edge_ordinary e ts k h = list_keeps Any AreOrdinary (cmd_behind fs incs) cmd_ordinary e.cmds ts (any e.cmds) h
+
+  block_ordinary : (b : PassiveBlock) (ts : List Term) → Any b → AreOrdinary ts → AreOrdinary (block_behind fs incs b ts)
+  block_ordinary b ts k h =
+      list_keeps Any AreOrdinary (edge_behind fs incs) edge_ordinary b.next (list_behind (cmd_behind fs incs) b.cmds ts) (any b.next) (list_keeps Any AreOrdinary (cmd_behind fs incs) cmd_ordinary b.cmds ts (any b.cmds) h)
+
+  pub are_ordinary : (bs : List PassiveBlock) → AreOrdinary (terms_of fs incs bs)
+  are_ordinary bs =
+      list_keeps Any AreOrdinary (block_behind fs incs) block_ordinary bs [] (any bs) (λ a t e. absurd (let bad : ⊥ = cc in bad))

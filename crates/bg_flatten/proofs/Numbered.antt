@@ -1,53 +1,21 @@
 -- Blocks whose commands are made flat one after the other are flat.
-use Rattle.std.proofs.Common.{◌≡◌, ℕ, List, [], ◌∷◌, length, Option, Some, None, refl, ap, sym, ◌∙◌, ⊎_elim}
+use Rattle.std.proofs.Common.{◌≡◌, ℕ, true, List, [], ◌∷◌, length, refl}
 use Rattle.bg_ast.specs.Values.{Ty}
-use Rattle.bg_ast.specs.Syntax.{Ex, Exs, Number, Fact, Constant, Read, Not, Negative, Binary, Apply, Select, Update, Old, NoMore, More, Fun}
+use Rattle.bg_ast.specs.Syntax.{Ex, Fun}
 use Rattle.bg_passive.specs.Passive.{PassiveCmd, Claims, Supposes, Edge, PassiveBlock}
-use Rattle.bg_terms.specs.Terms.{Applies, Selects, Term}
+use Rattle.bg_terms.specs.Terms.{Term}
 use Rattle.bg_terms.specs.Flat.{IsFlat}
-use Rattle.bg_flat.specs.Fronts.{AreIndexed}
 use Rattle.bg_numbered.specs.Fair.{Fair, FairTerms, Grows}
-use Rattle.bg_numbered.specs.Put.{found_from, applied, with_by, with_applied}
-use Rattle.bg_numbered.specs.Numbered.{behind, numbered, all_behind, all_numbered}
-use Rattle.bg_numbered.proofs.Growing.{stays, grows_on, last_or}
+use Rattle.bg_numbered.specs.Lines.{HaveIndices}
+use Rattle.bg_numbered.specs.Indexed.{are_indexed, GiveIndexed}
+use Rattle.bg_numbered.specs.Numbered.{behind, numbered}
+use Rattle.bg_numbered.proofs.Growing.{stays, grows_on}
 use Rattle.bg_flatten.specs.Makes.{Each, Pairwise, FineCmd, FineCmds, FineEdge, FineEdges, FineBlock, FineBlocks, FlatCmd, CmdsFlat, FlatEdge, EdgesFlat, FlatBlock}
 use Rattle.bg_flatten.specs.Flattens.{AreFlattened}
 use Rattle.bg_flatten.specs.Numbered.{list_behind, list_numbered, cmd_behind, cmd_numbered, cmds_behind, cmds_numbered, edge_behind, edge_numbered, block_behind, block_numbered, terms_of, flat_of}
 use Rattle.bg_flatten.proofs.Forms.{fair_of, cmd_keeps, edge_keeps, block_keeps}
 use Rattle.bg_flatten.proofs.Lists.{all_keep}
 use Rattle.bg_flatten.proofs.Joined.{all_blocks, no_terms}
-
--- ---- no term selects
-
-no_select : (fs : List Fun) (f : ℕ) (xs : Exs) (u : Term) (t : Ty) → u ≡ applied fs f xs → u.head ≡ Selects [] t → ⊥
-no_select fs f xs u t e h = let q : Applies f ≡ Selects [] t = sym (ap (λ v. v.head) e) ∙ h in let bad : ⊥ = cc in bad
-
-module _ (fs : List Fun) (n : ℕ) where
-  put_indexed : (f : ℕ) (xs : Exs) (ts : List Term) → AreIndexed ts → AreIndexed (with_applied fs f xs ts)
-  put_indexed f xs ts h = on (found_from 0 (Applies f) xs ts)
-    where
-      on : (o : Option ℕ) → AreIndexed (with_by o (applied fs f xs) ts)
-      on (Some a) = h
-      on None = λ a u t e k. ⊎_elim (λ i. h a u t i k) (λ i. no_select fs f xs u t i k) (last_or ts (applied fs f xs) a u e)
-
-  mutual
-    indexed : (e : Ex) (ts : List Term) → AreIndexed ts → AreIndexed (behind fs n e ts)
-    indexed (Number z) ts h = h
-    indexed (Fact b) ts h = h
-    indexed (Constant k) ts h = h
-    indexed (Read x) ts h = h
-    indexed (Not e) ts h = indexed e ts h
-    indexed (Negative e) ts h = indexed e ts h
-    indexed (Binary op a b) ts h = indexed b (behind fs n a ts) (indexed a ts h)
-    indexed (Apply f es) ts h =
-        put_indexed f (all_numbered fs n es ts) (all_behind fs n es ts) (all_indexed es ts h)
-    indexed (Select m es) ts h = h
-    indexed (Update m es e) ts h = h
-    indexed (Old e) ts h = indexed e ts h
-
-    all_indexed : (es : Exs) (ts : List Term) → AreIndexed ts → AreIndexed (all_behind fs n es ts)
-    all_indexed NoMore ts h = h
-    all_indexed (More e es) ts h = all_indexed es (behind fs n e ts) (indexed e ts h)
 
 -- ---- lists
 
@@ -68,86 +36,90 @@ module _ (A : Type 0) (Is : List Term → A → A → Type 0) (Fine : A → Type
 -- ---- commands, edges, blocks
 
 abbrev GrowsLaw : Type 0
-GrowsLaw = (fs : List Fun) (n : ℕ) (ts : List Term) (e : Ex) → Grows ts (behind fs n e ts)
+GrowsLaw = (fs : List Fun) (incs : List Ty) (ts : List Term) (e : Ex) → Grows ts (behind fs incs e ts)
 
 abbrev FlatLaw : Type 0
 FlatLaw =
-    (fs : List Fun) (incs : List Ty) (ts : List Term) (e : Ex) → Fair fs incs e → IsFlat (length incs) (behind fs (length incs) e ts) e (numbered fs (length incs) e ts)
+    (fs : List Fun) (incs : List Ty) (ts : List Term) (e : Ex) → Fair fs incs e → IsFlat (length incs) (behind fs incs e ts) e (numbered fs incs e ts)
 
 abbrev FairLaw : Type 0
 FairLaw =
-    (fs : List Fun) (incs : List Ty) (ts : List Term) (e : Ex) → Fair fs incs e → FairTerms fs incs ts → FairTerms fs incs (behind fs (length incs) e ts)
+    (fs : List Fun) (incs : List Ty) (ts : List Term) (e : Ex) → Fair fs incs e → FairTerms fs incs ts → FairTerms fs incs (behind fs incs e ts)
 
-module _ (grows : GrowsLaw) (flat : FlatLaw) (fair : FairLaw) (fs : List Fun) (incs : List Ty) where
+abbrev IndexedLaw : Type 0
+IndexedLaw =
+    (fs : List Fun) (incs : List Ty) (ts : List Term) (e : Ex) → GiveIndexed fs → are_indexed incs ≡ true → Fair fs incs e → FairTerms fs incs ts → HaveIndices ts → HaveIndices (behind fs incs e ts)
+
+module _ (grows : GrowsLaw) (flat : FlatLaw) (fair : FairLaw) (indexed : IndexedLaw) (fs : List Fun) (incs : List Ty) (gives : GiveIndexed fs) (all : are_indexed incs ≡ true) where
   abbrev n : ℕ
   n = length incs
 
   abbrev Good : List Term → Type 0
-  Good ts = FairTerms fs incs ts × AreIndexed ts
+  Good ts = FairTerms fs incs ts × HaveIndices ts
 
-  cmd_grows : (k : PassiveCmd) (ts : List Term) → Grows ts (cmd_behind fs n k ts)
-  cmd_grows (Claims s b e) ts = grows fs n ts e
-  cmd_grows (Supposes b e) ts = grows fs n ts e
+  cmd_grows : (k : PassiveCmd) (ts : List Term) → Grows ts (cmd_behind fs incs k ts)
+  cmd_grows (Claims s b e) ts = grows fs incs ts e
+  cmd_grows (Supposes b e) ts = grows fs incs ts e
 
-  cmd_flat : (k : PassiveCmd) (ts : List Term) → FineCmd fs incs k → FlatCmd n (cmd_behind fs n k ts) k (cmd_numbered fs n k ts)
+  cmd_flat : (k : PassiveCmd) (ts : List Term) → FineCmd fs incs k → FlatCmd n (cmd_behind fs incs k ts) k (cmd_numbered fs incs k ts)
   cmd_flat (Claims s b e) ts h = (refl, (refl, flat fs incs ts e (fair_of fs incs e h)))
   cmd_flat (Supposes b e) ts h = (refl, flat fs incs ts e (fair_of fs incs e h))
 
-  cmd_good : (k : PassiveCmd) (ts : List Term) → FineCmd fs incs k → Good ts → Good (cmd_behind fs n k ts)
-  cmd_good (Claims s b e) ts h g = (fair fs incs ts e (fair_of fs incs e h) g.0, indexed fs n e ts g.1)
-  cmd_good (Supposes b e) ts h g = (fair fs incs ts e (fair_of fs incs e h) g.0, indexed fs n e ts g.1)
+  cmd_good : (k : PassiveCmd) (ts : List Term) → FineCmd fs incs k → Good ts → Good (cmd_behind fs incs k ts)
+  cmd_good (Claims s b e) ts h g = (fair fs incs ts e (fair_of fs incs e h) g.0, indexed fs incs ts e gives all (fair_of fs incs e h) g.0 g.1)
+  cmd_good (Supposes b e) ts h g = (fair fs incs ts e (fair_of fs incs e h) g.0, indexed fs incs ts e gives all (fair_of fs incs e h) g.0 g.1)
 
-  cmds_grow : (ks : List PassiveCmd) (ts : List Term) → Grows ts (cmds_behind fs n ks ts)
+  cmds_grow : (ks : List PassiveCmd) (ts : List Term) → Grows ts (cmds_behind fs incs ks ts)
   cmds_grow =
-      list_grows PassiveCmd (FlatCmd n) (FineCmd fs incs) Good (cmd_behind fs n) (cmd_numbered fs n) (cmd_keeps n) cmd_grows cmd_flat cmd_good
+      list_grows PassiveCmd (FlatCmd n) (FineCmd fs incs) Good (cmd_behind fs incs) (cmd_numbered fs incs) (cmd_keeps n) cmd_grows cmd_flat cmd_good
 
-  cmds_flat : (ks : List PassiveCmd) (ts : List Term) → FineCmds fs incs ks → CmdsFlat n (cmds_behind fs n ks ts) ks (cmds_numbered fs n ks ts)
+  cmds_flat : (ks : List PassiveCmd) (ts : List Term) → FineCmds fs incs ks → CmdsFlat n (cmds_behind fs incs ks ts) ks (cmds_numbered fs incs ks ts)
   cmds_flat =
-      list_flat PassiveCmd (FlatCmd n) (FineCmd fs incs) Good (cmd_behind fs n) (cmd_numbered fs n) (cmd_keeps n) cmd_grows cmd_flat cmd_good
+      list_flat PassiveCmd (FlatCmd n) (FineCmd fs incs) Good (cmd_behind fs incs) (cmd_numbered fs incs) (cmd_keeps n) cmd_grows cmd_flat cmd_good
 
-  cmds_good : (ks : List PassiveCmd) (ts : List Term) → FineCmds fs incs ks → Good ts → Good (cmds_behind fs n ks ts)
+  cmds_good : (ks : List PassiveCmd) (ts : List Term) → FineCmds fs incs ks → Good ts → Good (cmds_behind fs incs ks ts)
   cmds_good =
-      list_good PassiveCmd (FlatCmd n) (FineCmd fs incs) Good (cmd_behind fs n) (cmd_numbered fs n) (cmd_keeps n) cmd_grows cmd_flat cmd_good
+      list_good PassiveCmd (FlatCmd n) (FineCmd fs incs) Good (cmd_behind fs incs) (cmd_numbered fs incs) (cmd_keeps n) cmd_grows cmd_flat cmd_good
 
-  edge_grows : (e : Edge) (ts : List Term) → Grows ts (edge_behind fs n e ts)
+  edge_grows : (e : Edge) (ts : List Term) → Grows ts (edge_behind fs incs e ts)
   edge_grows e ts = cmds_grow e.cmds ts
 
-  edge_flat : (e : Edge) (ts : List Term) → FineEdge fs incs e → FlatEdge n (edge_behind fs n e ts) e (edge_numbered fs n e ts)
+  edge_flat : (e : Edge) (ts : List Term) → FineEdge fs incs e → FlatEdge n (edge_behind fs incs e ts) e (edge_numbered fs incs e ts)
   edge_flat e ts h = (refl, cmds_flat e.cmds ts h)
 
-  edge_good : (e : Edge) (ts : List Term) → FineEdge fs incs e → Good ts → Good (edge_behind fs n e ts)
+  edge_good : (e : Edge) (ts : List Term) → FineEdge fs incs e → Good ts → Good (edge_behind fs incs e ts)
   edge_good e ts h g = cmds_good e.cmds ts h g
 
-  edges_grow : (es : List Edge) (ts : List Term) → Grows ts (list_behind (edge_behind fs n) es ts)
+  edges_grow : (es : List Edge) (ts : List Term) → Grows ts (list_behind (edge_behind fs incs) es ts)
   edges_grow =
-      list_grows Edge (FlatEdge n) (FineEdge fs incs) Good (edge_behind fs n) (edge_numbered fs n) (edge_keeps n) edge_grows edge_flat edge_good
+      list_grows Edge (FlatEdge n) (FineEdge fs incs) Good (edge_behind fs incs) (edge_numbered fs incs) (edge_keeps n) edge_grows edge_flat edge_good
 
-  edges_flat : (es : List Edge) (ts : List Term) → FineEdges fs incs es → EdgesFlat n (list_behind (edge_behind fs n) es ts) es (list_numbered (edge_behind fs n) (edge_numbered fs n) es ts)
+  edges_flat : (es : List Edge) (ts : List Term) → FineEdges fs incs es → EdgesFlat n (list_behind (edge_behind fs incs) es ts) es (list_numbered (edge_behind fs incs) (edge_numbered fs incs) es ts)
   edges_flat =
-      list_flat Edge (FlatEdge n) (FineEdge fs incs) Good (edge_behind fs n) (edge_numbered fs n) (edge_keeps n) edge_grows edge_flat edge_good
+      list_flat Edge (FlatEdge n) (FineEdge fs incs) Good (edge_behind fs incs) (edge_numbered fs incs) (edge_keeps n) edge_grows edge_flat edge_good
 
-  edges_good : (es : List Edge) (ts : List Term) → FineEdges fs incs es → Good ts → Good (list_behind (edge_behind fs n) es ts)
+  edges_good : (es : List Edge) (ts : List Term) → FineEdges fs incs es → Good ts → Good (list_behind (edge_behind fs incs) es ts)
   edges_good =
-      list_good Edge (FlatEdge n) (FineEdge fs incs) Good (edge_behind fs n) (edge_numbered fs n) (edge_keeps n) edge_grows edge_flat edge_good
+      list_good Edge (FlatEdge n) (FineEdge fs incs) Good (edge_behind fs incs) (edge_numbered fs incs) (edge_keeps n) edge_grows edge_flat edge_good
 
-  block_grows : (b : PassiveBlock) (ts : List Term) → Grows ts (block_behind fs n b ts)
+  block_grows : (b : PassiveBlock) (ts : List Term) → Grows ts (block_behind fs incs b ts)
   block_grows b ts =
-      grows_on ts (cmds_behind fs n b.cmds ts) (block_behind fs n b ts) (cmds_grow b.cmds ts) (edges_grow b.next (cmds_behind fs n b.cmds ts))
+      grows_on ts (cmds_behind fs incs b.cmds ts) (block_behind fs incs b ts) (cmds_grow b.cmds ts) (edges_grow b.next (cmds_behind fs incs b.cmds ts))
 
-  block_flat : (b : PassiveBlock) (ts : List Term) → FineBlock fs incs b → FlatBlock n (block_behind fs n b ts) b (block_numbered fs n b ts)
+  block_flat : (b : PassiveBlock) (ts : List Term) → FineBlock fs incs b → FlatBlock n (block_behind fs incs b ts) b (block_numbered fs incs b ts)
   block_flat b ts h =
-      let mid = cmds_behind fs n b.cmds ts in
-      (all_keep PassiveCmd (FlatCmd n) (λ i k. Unit {0}) (cmd_keeps n) mid (block_behind fs n b ts) b.cmds (cmds_numbered fs n b.cmds ts) (edges_grow b.next mid) (cmds_flat b.cmds ts h.0), edges_flat b.next mid h.1)
+      let mid = cmds_behind fs incs b.cmds ts in
+      (all_keep PassiveCmd (FlatCmd n) (λ i k. Unit {0}) (cmd_keeps n) mid (block_behind fs incs b ts) b.cmds (cmds_numbered fs incs b.cmds ts) (edges_grow b.next mid) (cmds_flat b.cmds ts h.0), edges_flat b.next mid h.1)
 
-  block_good : (b : PassiveBlock) (ts : List Term) → FineBlock fs incs b → Good ts → Good (block_behind fs n b ts)
-  block_good b ts h g = edges_good b.next (cmds_behind fs n b.cmds ts) h.1 (cmds_good b.cmds ts h.0 g)
+  block_good : (b : PassiveBlock) (ts : List Term) → FineBlock fs incs b → Good ts → Good (block_behind fs incs b ts)
+  block_good b ts h g = edges_good b.next (cmds_behind fs incs b.cmds ts) h.1 (cmds_good b.cmds ts h.0 g)
 
-  pub are_flattened : (bs : List PassiveBlock) → FineBlocks fs incs bs → AreFlattened fs incs bs (terms_of fs n bs) (flat_of fs n bs)
+  pub are_flattened : (bs : List PassiveBlock) → FineBlocks fs incs bs → AreFlattened fs incs bs (terms_of fs incs bs) (flat_of fs incs bs)
   are_flattened bs h =
-      let made = list_flat PassiveBlock (FlatBlock n) (FineBlock fs incs) Good (block_behind fs n) (block_numbered fs n) (block_keeps n) block_grows block_flat block_good bs [] h in
-      let good = list_good PassiveBlock (FlatBlock n) (FineBlock fs incs) Good (block_behind fs n) (block_numbered fs n) (block_keeps n) block_grows block_flat block_good bs [] h (no_terms fs incs, λ a u t e k. let bad : ⊥ = cc in bad) in
+      let made = list_flat PassiveBlock (FlatBlock n) (FineBlock fs incs) Good (block_behind fs incs) (block_numbered fs incs) (block_keeps n) block_grows block_flat block_good bs [] h in
+      let good = list_good PassiveBlock (FlatBlock n) (FineBlock fs incs) Good (block_behind fs incs) (block_numbered fs incs) (block_keeps n) block_grows block_flat block_good bs [] h (no_terms fs incs, λ a u e. absurd (let bad : ⊥ = cc in bad)) in
       record {
         terms = good.0;
         indexed = good.1;
-        blocks = all_blocks fs incs (terms_of fs n bs) good.0 bs (flat_of fs n bs) h made;
+        blocks = all_blocks fs incs (terms_of fs incs bs) good.0 bs (flat_of fs incs bs) h made;
       }

@@ -1,5 +1,6 @@
--- Blocks made flat: the applications of their commands come into one table of terms, in the order in which the commands stand.
-use Rattle.std.specs.Prelude.{ℕ, List, [], ◌∷◌}
+-- Blocks made flat: the terms of their commands come into one table of terms, in the order in which the commands stand.
+use Rattle.std.specs.Prelude.{List, [], ◌∷◌}
+use Rattle.bg_ast.specs.Values.{Ty}
 use Rattle.bg_ast.specs.Syntax.{Fun}
 use Rattle.bg_passive.specs.Passive.{PassiveCmd, Claims, Supposes, Edge, PassiveBlock}
 use Rattle.bg_terms.specs.Terms.{Term}
@@ -14,15 +15,15 @@ abbrev pub list_numbered : {A : Type 0} → (A → List Term → List Term) → 
 list_numbered f g [] ts = []
 list_numbered f g (x ∷ xs) ts = g x ts ∷ list_numbered f g xs (f x ts)
 
--- where the terms stand behind n incarnations, and functions are these
-module _ (fs : List Fun) (n : ℕ) where
+-- where the terms stand behind incarnations of these types, and functions are these
+module _ (fs : List Fun) (incs : List Ty) where
   abbrev pub cmd_behind : PassiveCmd → List Term → List Term
-  cmd_behind (Claims s b e) ts = behind fs n e ts
-  cmd_behind (Supposes b e) ts = behind fs n e ts
+  cmd_behind (Claims s b e) ts = behind fs incs e ts
+  cmd_behind (Supposes b e) ts = behind fs incs e ts
 
   abbrev pub cmd_numbered : PassiveCmd → List Term → PassiveCmd
-  cmd_numbered (Claims s b e) ts = Claims s b (numbered fs n e ts)
-  cmd_numbered (Supposes b e) ts = Supposes b (numbered fs n e ts)
+  cmd_numbered (Claims s b e) ts = Claims s b (numbered fs incs e ts)
+  cmd_numbered (Supposes b e) ts = Supposes b (numbered fs incs e ts)
 
   abbrev pub cmds_behind : List PassiveCmd → List Term → List Term
   cmds_behind ks ts = list_behind cmd_behind ks ts

@@ -1,6 +1,6 @@
--- Blocks without applications and `old`.
+-- Blocks without applications, selects, updates and `old`.
 use Rattle.std.specs.Prelude.{List}
-use Rattle.bg_ast.specs.Syntax.{Ex, Not, Negative, Binary, Apply, Old}
+use Rattle.bg_ast.specs.Syntax.{Ex, Not, Negative, Binary, Apply, Select, Update, Old}
 use Rattle.bg_passive.specs.Passive.{PassiveCmd, Claims, Supposes, Edge, PassiveBlock}
 use Rattle.bg_flatten.specs.Makes.{Each}
 
@@ -9,6 +9,8 @@ IsPlain (Not e) = IsPlain e
 IsPlain (Negative e) = IsPlain e
 IsPlain (Binary op a b) = IsPlain a × IsPlain b
 IsPlain (Apply f es) = ⊥
+IsPlain (Select m es) = ⊥
+IsPlain (Update m es e) = ⊥
 IsPlain (Old e) = ⊥
 IsPlain _ = Unit {0}
 

@@ -3,3 +3,8 @@ pub mod Pairs
 pub mod Heads
 pub mod Stating
 pub mod Fronts
+pub mod PartsBehind
+pub mod There
+pub mod Reading
+pub mod Spread
+pub mod Saying

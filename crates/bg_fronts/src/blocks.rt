@@ -1,5 +1,5 @@
 //! Flat blocks behind instances.
-ghost use Rattle.std.specs.Prelude.{◌≡◌, ◌++◌, List, map, IfOk};
+ghost use Rattle.std.specs.Prelude.{◌≡◌, ◌++◌, [], List, map, IfOk};
 ghost use Rattle.bg_ast.specs.Syntax.{Fun};
 ghost use Rattle.bg_incarnate.specs.Views.{cmds_of, passive_block_of};
 ghost use Rattle.bg_flat.specs.Blocks.{in_front};
@@ -12,7 +12,7 @@ use crate::stated::supposing;
 use bg_flatten::laws::plain_blocks_stay;
 use bg_flatten::{Flat, flattened};
 use bg_incarnate::{PassiveBlock, PassiveCmd};
-use bg_term_table::{Instance, Term};
+use bg_term_table::{Around, Instance, Term};
 use std::alloc::{AllocError, Global};
 use std::mem::replace;
 
@@ -25,7 +25,18 @@ fn with_front(mut front: Vec<PassiveCmd>, block: PassiveBlock) -> Result<Passive
     Ok(PassiveBlock { cmds: front, next })
 }
 
-/// Flat blocks, which hold no application and no `old`, behind what instances say of terms that stand behind so many incarnations. All of
+/// No incarnation and no function.
+fn nothing() -> Around<'static>
+    ensures incarnations { result.incarnations.now ≡ [] }
+    ensures results { result.results.now ≡ [] }
+{
+    Around {
+        incarnations: &[],
+        results: &[],
+    }
+}
+
+/// Flat blocks, which hold no application, select, update and `old`, behind what instances say of terms that stand behind so many incarnations. All of
 /// it is copied.
 ///
 /// Only want of memory is an error; 2^32 incarnations and terms count as such.
@@ -39,10 +50,11 @@ pub fn behind(
     ensures { IfOk result (λ made. (fs : List Fun) → PlainBlocks (map passive_block_of flats.now) → map passive_block_of made.items ≡ in_front (stated count (terms_in fs terms.now) (instances_of instances.now)) (map passive_block_of flats.now)) }
 {
     plain_blocks_stay();
+    let around = nothing();
     let Flat {
         terms: _,
         mut blocks,
-    } = flattened(alloc, count, flats)?;
+    } = flattened(alloc, around, flats)?;
     if blocks.is_empty() {
         return Ok(blocks);
     }

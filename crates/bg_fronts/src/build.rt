@@ -1,12 +1,12 @@
 //! Small expressions.
 ghost use Rattle.std.specs.Prelude.{◌≡◌, IfOk};
-ghost use Rattle.bg_ast.specs.Syntax.{Binary, And, Implies, Equal, Read, Local};
+ghost use Rattle.bg_ast.specs.Syntax.{Binary, And, Fact, Implies, Equal, Not, Read, Local};
 ghost use Rattle.bg_term_table.specs.Views.{meaning};
 ghost use Rattle.bg_fronts.specs.Two.{two};
 
 use bg_ast::resolved::{Expr, Link, Variable};
 use bg_base::Pos;
-use bg_text::InfixSign;
+use bg_text::{InfixSign, PrefixSign, TreePrefix};
 use std::alloc::{AllocError, Global};
 
 /// Where what no text says stands.
@@ -52,4 +52,23 @@ pub fn implied(alloc: Global, a: Expr, b: Expr) -> Result<Expr, AllocError>
     ensures { IfOk result (λ x. meaning x ≡ Binary Implies (meaning a) (meaning b)) }
 {
     chain(alloc, a, InfixSign::Implies, b)
+}
+
+/// The denial.
+pub fn negated(alloc: Global, a: Expr) -> Result<Expr, AllocError>
+    ensures { IfOk result (λ x. meaning x ≡ Not (meaning a)) }
+{
+    let mut signs = Vec::new(alloc);
+    signs.push(TreePrefix {
+        pos: NOWHERE,
+        sign: PrefixSign::Not,
+    })?;
+    Ok(Expr::Prefix(signs, Box::new(alloc, a)?))
+}
+
+/// What is so, or isn't.
+pub fn fact(b: bool) -> Expr
+    ensures { meaning result ≡ Fact b }
+{
+    Expr::Truth(NOWHERE, b)
 }

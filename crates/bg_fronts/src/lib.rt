@@ -3,6 +3,11 @@
 
 mod blocks;
 mod build;
+mod lines;
+mod parts;
+mod selects;
+mod shape;
 mod stated;
 
 pub use blocks::behind;
+pub use lines::supposing_lines;

@@ -5,18 +5,17 @@ ghost use Rattle.bg_terms.specs.Instances.{equal, all_equal, congruent, instance
 ghost use Rattle.bg_incarnate.specs.Views.{cmds_of};
 ghost use Rattle.bg_flat.specs.Blocks.{supposed};
 ghost use Rattle.bg_flat.specs.Fronts.{stated};
-ghost use Rattle.bg_terms.specs.Terms.{head_eq};
-ghost use Rattle.bg_term_table.specs.Views.{meaning, meanings, listed, head_of, term_of, terms_in};
+ghost use Rattle.bg_term_table.specs.Views.{meaning, meanings, listed, term_of, terms_in};
 ghost use Rattle.bg_term_table.specs.Instances.{instance_of, instances_of};
 
 use crate::build::{NOWHERE, both, equal, implied, reads};
 use bg_ast::resolved::Expr;
 use bg_incarnate::PassiveCmd;
-use bg_term_table::{Head, Instance, Term, copy};
+use bg_term_table::{Instance, Term, copy, is_one_head};
 use std::alloc::{AllocError, Global};
 
 /// What says that both are equal.
-fn equal_pair(alloc: Global, x: &Expr, y: &Expr) -> Result<Expr, AllocError>
+pub fn equal_pair(alloc: Global, x: &Expr, y: &Expr) -> Result<Expr, AllocError>
     ensures { IfOk result (λ z. meaning z ≡ equal (meaning x.now) (meaning y.now)) }
 {
     let a = copy(alloc, x)?;
@@ -25,7 +24,7 @@ fn equal_pair(alloc: Global, x: &Expr, y: &Expr) -> Result<Expr, AllocError>
 }
 
 /// The lesser one.
-fn lesser(m: usize, n: usize) -> usize
+pub fn lesser(m: usize, n: usize) -> usize
     ensures first { result ≤ m }
     ensures second { result ≤ n }
     ensures one { (result ≡ m) ⊎ (result ≡ n) }
@@ -34,7 +33,7 @@ fn lesser(m: usize, n: usize) -> usize
 }
 
 /// What says that all are equal, one by one.
-fn pairs_equal(alloc: Global, xs: &[Expr], ys: &[Expr]) -> Result<Expr, AllocError>
+pub fn pairs_equal(alloc: Global, xs: &[Expr], ys: &[Expr]) -> Result<Expr, AllocError>
     ensures { IfOk result (λ z. meaning z ≡ all_equal (listed (meanings xs.now)) (listed (meanings ys.now))) }
 {
     let mut k = lesser(xs.len(), ys.len());
@@ -48,7 +47,7 @@ fn pairs_equal(alloc: Global, xs: &[Expr], ys: &[Expr]) -> Result<Expr, AllocErr
 }
 
 /// The number of a term behind so many incarnations; 2^32 count as want of memory.
-fn number_of(count: u32, term: u32) -> Result<u32, AllocError>
+pub fn number_of(count: u32, term: u32) -> Result<u32, AllocError>
     ensures { IfOk result (λ j. j ≡ count + term) }
 {
     match count.checked_add(term) {
@@ -57,18 +56,7 @@ fn number_of(count: u32, term: u32) -> Result<u32, AllocError>
     }
 }
 
-/// Whether two heads are one.
-fn is_one_head(h: Head, k: Head) -> bool
-    ensures { result ≡ head_eq (head_of h) (head_of k) }
-{
-    match h {
-        Head::Function(f) => match k {
-            Head::Function(g) => f == g,
-        },
-    }
-}
-
-/// What says that equal arguments of two terms give equal terms, where one function is applied.
+/// What says that equal arguments of two terms give equal terms, where they have one head.
 fn congruence(
     alloc: Global,
     count: u32,
@@ -79,7 +67,7 @@ fn congruence(
 ) -> Result<Expr, AllocError>
     ensures { IfOk result (λ z. (fs : List Fun) → meaning z ≡ congruent count a b (Some (term_of fs s.now)) (Some (term_of fs t.now))) }
 {
-    if !is_one_head(s.head, t.head) {
+    if !is_one_head(&s.head, &t.head) {
         return Ok(Expr::Truth(NOWHERE, true));
     }
     let premise = pairs_equal(alloc, &s.args, &t.args)?;
@@ -92,7 +80,13 @@ fn congruence(
 }
 
 /// The same of terms with these numbers; of a term that isn't there, nothing is said.
-fn numbered(alloc: Global, count: u32, terms: &[Term], a: u32, b: u32) -> Result<Expr, AllocError>
+pub fn numbered(
+    alloc: Global,
+    count: u32,
+    terms: &[Term],
+    a: u32,
+    b: u32,
+) -> Result<Expr, AllocError>
     ensures { IfOk result (λ z. (fs : List Fun) → meaning z ≡ congruent count a b (slice_get (terms_in fs terms.now) a) (slice_get (terms_in fs terms.now) b)) }
 {
     let Some(s) = terms.get(a as usize) else {

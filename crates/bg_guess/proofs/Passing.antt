@@ -1,4 +1,4 @@
--- A program over truth values and whole numbers stays one.
+-- A program over truth values, whole numbers and elements of user types stays one.
 use Rattle.std.proofs.Common.{◌≡◌, ℕ, suc, ◌+◌, Bool, true, ◌&&◌, List, [], ◌∷◌, ◌++◌, map, length, Option, Some, None, refl, arith, inl, inr}
 use Rattle.std.proofs.lemmas.Bool.Decides.{nat_tests}
 use Rattle.std.specs.Prelude.{All, Contains, slice_get, slice_index_or, get_or}
@@ -25,7 +25,7 @@ use Rattle.bg_guess.proofs.ResolvedWhole.{resolved}
 abbrev pub Declared : ℕ → s.Clause → Type 0
 Declared n k = is_declared n k.candidate ≡ true
 
--- what a clause says is over truth values and whole numbers
+-- what a clause says is over truth values, whole numbers and elements
 abbrev Plain : s.Clause → Type 0
 Plain k = is_scalar true k.says ≡ true
 

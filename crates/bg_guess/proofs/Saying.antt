@@ -10,7 +10,6 @@ use Rattle.bg_ast.specs.Syntax as s
 use Rattle.bg_ast.specs.Resolved as r
 use Rattle.bg_ast.specs.Meaning.{ex_of, decl_of, named_of, meaning_of}
 use Rattle.bg_ast.specs.Views.{var_of}
-use Rattle.bg_fits.specs.Holdings.{holding_of, holdings_of}
 use Rattle.bg_sense.specs.Types.{types_of}
 use Rattle.bg_sense.specs.Typing.{Sig, VarHasType, sig_in}
 use Rattle.bg_sense.specs.Resolved.{Rise}
@@ -42,20 +41,20 @@ without_old p l none =
     claims_all (λ c. HasNoOld (ex_of (says p c))) (λ v. Unit {0}) (λ x. ⊥) (λ v i. (tt, tt)) (λ v w i j. (tt, tt)) (λ x i. absurd i) l (λ k d lt. tt) (rw (none) (All-nil (λ (x : ℕ). ⊥)))
 
 -- the places of whole numbers are those of type int
-pub places_all : (P : ℕ → Type 0) (k : ℕ) (ds : List s.Decl) → ((j : ℕ) → slice_get (types_of ds) j ≡ Some IntTy → P (k + j)) → All P (places_of_numbers k (holdings_of ds))
+pub places_all : (P : ℕ → Type 0) (k : ℕ) (ds : List s.Decl) → ((j : ℕ) → slice_get (types_of ds) j ≡ Some IntTy → P (k + j)) → All P (places_of_numbers k (types_of ds))
 places_all P k [] h = All-nil P
 places_all P k (d ∷ ds) h =
     by d.ty refl (places_all P (suc k) ds (λ j e. let same : k + suc j ≡ suc k + j = omega arith in subst P same (h (suc j) e)))
   where
-    by : (t : Ty) → d.ty ≡ t → All P (places_of_numbers (suc k) (holdings_of ds)) → All P (places_of_numbers k (holdings_of (d ∷ ds)))
+    by : (t : Ty) → d.ty ≡ t → All P (places_of_numbers (suc k) (types_of ds)) → All P (places_of_numbers k (types_of (d ∷ ds)))
     by BoolTy e rest = rw (e) rest
-    by IntTy e rest = rw (e) (All-cons P k (places_of_numbers (suc k) (holdings_of ds)) (let same : k + 0 ≡ k = omega arith in subst P same (h 0 (ap Some e))) rest)
+    by IntTy e rest = rw (e) (All-cons P k (places_of_numbers (suc k) (types_of ds)) (let same : k + 0 ≡ k = omega arith in subst P same (h 0 (ap Some e))) rest)
     by (UserTy u) e rest = rw (e) rest
     by (MapTy ks u) e rest = rw (e) rest
 
-pub holdings_append : (ds es : List s.Decl) → holdings_of (ds ++ es) ≡ holdings_of ds ++ holdings_of es
-holdings_append [] es = refl
-holdings_append (d ∷ ds) es = ap (λ hs. holding_of d.ty ∷ hs) (holdings_append ds es)
+pub types_append : (ds es : List s.Decl) → types_of (ds ++ es) ≡ types_of ds ++ types_of es
+types_append [] es = refl
+types_append (d ∷ ds) es = ap (λ hs. d.ty ∷ hs) (types_append ds es)
 
 pub end_append : {A : Type 0} (xs : List A) → xs ++ [] ≡ xs
 end_append [] = refl
@@ -84,9 +83,9 @@ speaks p sight modified =
     let g = sig_in (meaning_of p) (ps ++ (rs ++ ls)) in
     let one = places_all (λ x. IsNumber g (variable.Global x)) 0 (map f p.globals) (λ j e. let same : 0 + j ≡ j = omega arith in subst (λ x. IsNumber g (variable.Global x)) (sym same) e) in
     let two = places_all (λ x. IsNumber g (variable.Local x)) 0 (ps ++ (rs ++ ls)) (λ j e. let same : 0 + j ≡ j = omega arith in subst (λ x. IsNumber g (variable.Local x)) (sym same) e) in
-    let held = holdings_append ps (rs ++ ls) ∙ ap (λ hs. holdings_of ps ++ hs) (holdings_append rs ls) in (
-      All-append (IsNumber g) (map variable.Global (filter seen (number_globals p.types p.globals))) (map variable.Local (places_of_numbers 0 (holdings_of ps ++ (holdings_of rs ++ holdings_of ls))))
+    let held = types_append ps (rs ++ ls) ∙ ap (λ hs. types_of ps ++ hs) (types_append rs ls) in (
+      All-append (IsNumber g) (map variable.Global (filter seen (number_globals p.types p.globals))) (map variable.Local (places_of_numbers 0 (types_of ps ++ (types_of rs ++ types_of ls))))
           (All-map (IsNumber g) variable.Global (filter seen (number_globals p.types p.globals)) (All-filter seen (λ x. IsNumber g (variable.Global x)) (number_globals p.types p.globals) one))
-          (All-map (IsNumber g) variable.Local (places_of_numbers 0 (holdings_of ps ++ (holdings_of rs ++ holdings_of ls))) (subst (λ hs. All (λ x. IsNumber g (variable.Local x)) (places_of_numbers 0 hs)) held two)),
+          (All-map (IsNumber g) variable.Local (places_of_numbers 0 (types_of ps ++ (types_of rs ++ types_of ls))) (subst (λ hs. All (λ x. IsNumber g (variable.Local x)) (places_of_numbers 0 hs)) held two)),
       All-filter seen (IsGlobal g) sight.modifies (All-weaker (λ x. x < length (meaning_of p).globals) (IsGlobal g) (λ x lt. typed_there (meaning_of p).globals x lt) sight.modifies modified),
     )

@@ -1,14 +1,13 @@
 -- Of which variables the guesses of a list speak.
-use Rattle.std.specs.Prelude.{ℕ, suc, Bool, false, not, ◌||◌, List, [], ◌∷◌, ◌++◌, map, filter, Option, Some, None, slice_get}
+use Rattle.std.specs.Prelude.{ℕ, suc, Bool, if◌then◌else◌, false, not, ◌||◌, List, [], ◌∷◌, ◌++◌, map, filter, Option, Some, None, slice_get}
 use Rattle.std.specs.List.{list_any}
 use Rattle.std.specs.Str.{bytes_eq}
 use Rattle.bg_ast.specs.declared.resolved.Variable.TheVariants as variable
+use Rattle.bg_ast.specs.Values.{Ty, is_int}
 use Rattle.bg_ast.specs.Resolved as r
 use Rattle.bg_ast.specs.Views.{declared_of, type_name_of}
 use Rattle.bg_ast.specs.Meaning.{named_of, decl_of}
-use Rattle.bg_fits.specs.declared.types.Holding.{Holding}
-use Rattle.bg_fits.specs.declared.types.Holding.TheVariants.{Truths, Numbers, Elements, Others}
-use Rattle.bg_fits.specs.Holdings.{holdings_of}
+use Rattle.bg_sense.specs.Types.{types_of}
 use Rattle.bg_guess.specs.Claims.{Subjects}
 use Rattle.bg_guess.specs.declared.frame.Frame as frame
 use Rattle.bg_guess.specs.declared.frame.Sight as sight
@@ -52,25 +51,22 @@ is_seen_as f (Some d) = not (is_hidden f d.name.text)
 abbrev pub is_seen : List r.Declared → Frame → ℕ → Bool
 is_seen globals f g = is_seen_as f (slice_get globals g)
 
--- what variables hold, by what their types stand for
-abbrev pub held : List r.TypeName → List r.Declared → List Holding
-held types ds = holdings_of (map (decl_of (named_of types)) ds)
+-- the types of variables, with synonyms unfolded
+abbrev pub types_by : List r.TypeName → List r.Declared → List Ty
+types_by types ds = types_of (map (decl_of (named_of types)) ds)
 
 -- the same of all variables of a frame
-abbrev pub held_in : List r.TypeName → Frame → List Holding
-held_in types f = held types f.params ++ (held types f.results ++ held types f.locals)
+abbrev pub types_in : List r.TypeName → Frame → List Ty
+types_in types f = types_by types f.params ++ (types_by types f.results ++ types_by types f.locals)
 
 -- the places of whole numbers, from k on
-abbrev pub places_of_numbers : ℕ → List Holding → List ℕ
+abbrev pub places_of_numbers : ℕ → List Ty → List ℕ
 places_of_numbers k [] = []
-places_of_numbers k (Numbers ∷ hs) = k ∷ places_of_numbers (suc k) hs
-places_of_numbers k (Truths ∷ hs) = places_of_numbers (suc k) hs
-places_of_numbers k (Elements u ∷ hs) = places_of_numbers (suc k) hs
-places_of_numbers k (Others ∷ hs) = places_of_numbers (suc k) hs
+places_of_numbers k (t ∷ ts) = if is_int t then k ∷ places_of_numbers (suc k) ts else places_of_numbers (suc k) ts
 
 -- the globals of type int
 abbrev pub number_globals : List r.TypeName → List r.Declared → List ℕ
-number_globals types globals = places_of_numbers 0 (held types globals)
+number_globals types globals = places_of_numbers 0 (types_by types globals)
 
 -- what all lists share: the types and globals of a program, and which globals are of type int
 pub record Base : Type 0 where
@@ -88,6 +84,6 @@ subjects g s =
     record {
       numbers =
           map variable.Global (filter (is_seen g.globals s.names) g.numbers)
-          ++ map variable.Local (places_of_numbers 0 (held_in g.types s.types));
+          ++ map variable.Local (places_of_numbers 0 (types_in g.types s.types));
       kept = filter (is_seen g.globals s.names) s.modifies;
     }

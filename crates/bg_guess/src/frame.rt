@@ -6,9 +6,9 @@ ghost use Rattle.bg_guess.specs.Claims.{subjects_of};
 ghost use Rattle.bg_guess.specs.Lists as lists;
 
 use crate::claim::Subjects;
-use crate::numbers::number;
+use crate::places::places_of_numbers;
 use bg_ast::resolved::{Declared, TypeName, Variable};
-use bg_fits::{Holding, push_holdings};
+use bg_fits::push_kinds;
 use std::alloc::{AllocError, Global};
 
 /// Parameters, results and locals, as far as they are seen.
@@ -82,31 +82,15 @@ fn push_seen(
     Ok(())
 }
 
-/// Which of these hold whole numbers.
-fn places_of_numbers(alloc: Global, held: &[Holding]) -> Result<Vec<u32>, AllocError>
-    ensures { IfOk result (λ made. made.items ≡ lists.places_of_numbers 0 held.now) }
-{
-    let mut made = Vec::new(alloc);
-    for k in 0..held.len() {
-        match held[k] {
-            Holding::Numbers => made.push(number(k)?)?,
-            Holding::Truths => {}
-            Holding::Elements(_) => {}
-            Holding::Others => {}
-        }
-    }
-    Ok(made)
-}
-
 /// Which variables of the frame are of type `int`.
 fn locals(alloc: Global, types: &[TypeName], f: &Frame<'_>) -> Result<Vec<u32>, AllocError>
-    ensures { IfOk result (λ made. made.items ≡ lists.places_of_numbers 0 (lists.held_in (map type_name_of types.now) (lists.frame_of f.now))) }
+    ensures { IfOk result (λ made. made.items ≡ lists.places_of_numbers 0 (lists.types_in (map type_name_of types.now) (lists.frame_of f.now))) }
 {
-    let mut held = Vec::new(alloc);
-    push_holdings(types, f.params, &mut held)?;
-    push_holdings(types, f.results, &mut held)?;
-    push_holdings(types, f.locals, &mut held)?;
-    places_of_numbers(alloc, &held)
+    let mut kinds = Vec::new(alloc);
+    push_kinds(alloc, types, f.params, &mut kinds)?;
+    push_kinds(alloc, types, f.results, &mut kinds)?;
+    push_kinds(alloc, types, f.locals, &mut kinds)?;
+    places_of_numbers(alloc, &kinds)
 }
 
 /// The globals among these that are seen, and these variables of the frame.
@@ -144,7 +128,7 @@ pub fn number_globals(
 ) -> Result<Vec<u32>, AllocError>
     ensures { IfOk result (λ made. made.items ≡ lists.number_globals (map type_name_of types.now) (map declared_of globals.now)) }
 {
-    let mut held = Vec::new(alloc);
-    push_holdings(types, globals, &mut held)?;
-    places_of_numbers(alloc, &held)
+    let mut kinds = Vec::new(alloc);
+    push_kinds(alloc, types, globals, &mut kinds)?;
+    places_of_numbers(alloc, &kinds)
 }

@@ -20,7 +20,7 @@ pub fn guesses_are_resolved()
     ensures { (p : Program) → IsResolved (meaning_of p) → IsResolved (meaning_of (guessed p)) }
 {}
 
-/// A resolved program over truth values and whole numbers stays one with its guesses.
+/// A resolved program over truth values, whole numbers and elements of user types stays one with its guesses.
 pub fn guesses_are_over_scalars()
     ensures { (p : Program) → IsResolved (meaning_of p) → is_over_scalars true (meaning_of p) ≡ true → is_over_scalars true (meaning_of (guessed p)) ≡ true }
 {}

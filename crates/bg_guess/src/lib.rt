@@ -8,6 +8,7 @@ mod frame;
 pub mod laws;
 mod loops;
 mod numbers;
+mod places;
 mod procedures;
 mod survey;
 mod whole;

@@ -19,6 +19,7 @@ use Rattle.bg_terms.specs.Instances.{Instance}
 use Rattle.bg_term_table.specs.Instances.{instances_of}
 use Rattle.bg_model.specs.Interps.{interp_of}
 use Rattle.bg_scalar.specs.Choices.{choice_of, state_of}
+use Rattle.bg_scalar.specs.Views.{vals_in}
 use Rattle.bg_task.specs.Certified.{HasCertificate}
 use Rattle.bg_houdini.specs.declared.proof.Proof.{Proof}
 use Rattle.bg_houdini.specs.declared.reason.Reason.{Reason}
@@ -71,7 +72,7 @@ task_failing budget p k set (Refuted cex) h =
       is_there = h.is_there;
       so = record {
         interp = interp_of cex;
-        state = state_of cex.globals.items cex.frame.items;
+        state = state_of (vals_in cex.globals.items) (vals_in cex.frame.items);
         choices = map choice_of cex.choices.items;
         run = h.so.0;
       };

@@ -40,7 +40,10 @@ use Rattle.bg_places.proofs.place.Group.TheSendSync as group
 use Rattle.bg_places.proofs.place.Place.TheSendSync as place
 use Rattle.bg_places.specs.contracts.place.Place as place_row
 use Rattle.bg_places.proofs.place.Spot.TheSendSync as spot
-use Rattle.bg_fits.proofs.types.Holding.TheSendSync as holding
+use Rattle.bg_kinds.proofs.kinds.IndexType.TheSendSync as index_type
+use Rattle.bg_kinds.proofs.kinds.Base.TheSendSync as base
+use Rattle.bg_kinds.specs.contracts.kinds.Keys as keys
+use Rattle.bg_kinds.specs.contracts.kinds.ValueType as kind
 use Rattle.bg_linear.proofs.scalar.Sort.TheSendSync as sort
 use Rattle.bg_tree.proofs.outcome.Budget.TheSendSync as budget
 use Rattle.bg_forms.proofs.form.Form.TheLaws.TheKnot as knot_form
@@ -49,7 +52,7 @@ use Rattle.bg_blocks.specs.contracts.block.Cmd as cmd
 use Rattle.bg_blocks.specs.contracts.block.Exit as exit
 use Rattle.bg_blocks.specs.contracts.block.Block as block
 use Rattle.bg_atoms.specs.contracts.product.Atoms as atoms
-use Rattle.bg_term_table.proofs.table.Head.TheSendSync as head
+use Rattle.bg_term_table.specs.contracts.table.Head as head
 use Rattle.bg_term_table.specs.contracts.table.Term as term
 use Rattle.bg_incarnate.specs.contracts.blocks.PassiveCmd as passive_cmd
 use Rattle.bg_incarnate.specs.contracts.blocks.Edge as edge
@@ -132,8 +135,23 @@ block_sync a = search (cmd_sync, exit_field, parts) depth 60 fits 20000
 atoms_field : IsSync (atoms.the_field).row
 atoms_field = search (knot_form.crosses, knot_expr.crosses, parts) depth 60 fits 20000
 
+keys_sync : IsSync keys.the_row
+keys_sync = search (index_type.the_sync, parts) depth 60 fits 20000
+
+keys_field : IsSync (keys.the_field).row
+keys_field = search (index_type.the_sync, parts) depth 60 fits 20000
+
+kind_sync : IsSync kind.the_row
+kind_sync = search (keys_sync, base.the_field_sync, parts) depth 60 fits 20000
+
+kind_field : IsSync (kind.the_field).row
+kind_field = search (keys_sync, base.the_field_sync, parts) depth 60 fits 20000
+
+head_field : IsSync (head.the_field).row
+head_field = search (keys_field, kind_field, parts) depth 60 fits 20000
+
 term_sync : IsSync term.the_row
-term_sync = search (head.the_field_sync, expr_sync, parts) depth 60 fits 20000
+term_sync = search (head_field, expr_sync, parts) depth 60 fits 20000
 
 passive_cmd_sync : IsSync passive_cmd.the_row
 passive_cmd_sync = search (spot.the_field_sync, expr_field, parts) depth 60 fits 20000
@@ -145,7 +163,7 @@ passive_block_sync : IsSync passive_block.the_row
 passive_block_sync = search (passive_cmd_sync, edge_sync, parts) depth 60 fits 20000
 
 pub prepared_sync : (a : NamedLft) → IsSync (prepared.the_row a)
-prepared_sync a = search (block_sync, term_sync, passive_block_sync, holding.the_sync, sort.the_sync, atoms_field, parts) depth 60 fits 20000
+prepared_sync a = search (block_sync, term_sync, passive_block_sync, kind_sync, sort.the_sync, atoms_field, parts) depth 60 fits 20000
 
 pub judging_sync : (a : NamedLft) → IsSync (judging.the_row a)
 judging_sync a = search (resolved_sync, prepared_sync, place.the_sync, budget.the_field_sync, parts) depth 60 fits 20000
@@ -182,8 +200,23 @@ expr_send = search (knot_expr.crosses, leaving) depth 60 fits 20000
 expr_field_send : IsSend (expr.the_field).row
 expr_field_send = search (knot_expr.crosses, leaving) depth 60 fits 20000
 
+keys_send : IsSend keys.the_row
+keys_send = search (index_type.the_send, leaving) depth 60 fits 20000
+
+keys_field_send : IsSend (keys.the_field).row
+keys_field_send = search (index_type.the_send, leaving) depth 60 fits 20000
+
+kind_send : IsSend kind.the_row
+kind_send = search (keys_send, base.the_field_send, leaving) depth 60 fits 20000
+
+kind_field_send : IsSend (kind.the_field).row
+kind_field_send = search (keys_send, base.the_field_send, leaving) depth 60 fits 20000
+
+head_field_send : IsSend (head.the_field).row
+head_field_send = search (keys_field_send, kind_field_send, leaving) depth 60 fits 20000
+
 term_send : IsSend term.the_row
-term_send = search (head.the_field_send, expr_send, leaving) depth 60 fits 20000
+term_send = search (head_field_send, expr_send, leaving) depth 60 fits 20000
 
 passive_cmd_send : IsSend passive_cmd.the_row
 passive_cmd_send = search (spot.the_field_send, expr_field_send, leaving) depth 60 fits 20000
@@ -195,7 +228,7 @@ passive_block_send : IsSend passive_block.the_row
 passive_block_send = search (passive_cmd_send, edge_send, leaving) depth 60 fits 20000
 
 pub prepared_send : (a : NamedLft) → IsSend (prepared.the_row a)
-prepared_send a = search (block_send, term_send, passive_block_send, holding.the_send, sort.the_send, atoms_send, leaving) depth 60 fits 20000
+prepared_send a = search (block_send, term_send, passive_block_send, kind_send, sort.the_send, atoms_send, leaving) depth 60 fits 20000
 
 -- what the closure captures that prepares a piece
 pub preparing_sync : (name : List ℕ) (a b c : NamedLft) → IsSync (TupleAt name ((shr_ref_field a heap.the_row tt).row ∷ (shr_ref_field b resolved.the_row tt).row ∷ (shr_slice_field c (vec_row.the_row variable_row.the_row heap.the_row ghosts) tt).row ∷ []))

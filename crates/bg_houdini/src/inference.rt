@@ -18,10 +18,11 @@ use bg_tree::Budget;
 use std::alloc::{AllocError, Global};
 use std::thread::Threads;
 
-/// The candidates of a typed program over truth values, whole numbers and functions on them without a body that hold together, inferred
-/// with `workers` workers in threads (C. Flanagan and K. R. M. Leino, Houdini, an annotation assistant for ESC/Java, FME 2001): checks of
-/// places with a candidate drop what isn't proved, until what is left proves itself. Then each ordinary place is checked under what is
-/// retained, in at most as many pieces as workers. In a search at most the budget's nodes count, and it keeps at most its rows.
+/// The candidates of a typed program over truth values, whole numbers, elements of user types and functions on them without a body that
+/// hold together, inferred with `workers` workers in threads (C. Flanagan and K. R. M. Leino, Houdini, an annotation assistant for
+/// ESC/Java, FME 2001): checks of places with a candidate drop what isn't proved, until what is left proves itself. Then each ordinary
+/// place is checked under what is retained, in at most as many pieces as workers. In a search at most the budget's nodes count, and it
+/// keeps at most its rows.
 ///
 /// Only want of memory is an error; 2^32 places with a candidate count as such, and so do 2^32 incarnations, atoms or branches of an
 /// implementation.

@@ -13,7 +13,9 @@ mod written;
 
 pub use answers::{Fault, WantedType, owned};
 pub use faults::{Found, Wanted, note, want};
-pub use kinds::{Base, IndexType, Keys, TypeRef, ValueType, key_type, kind_ref, plain};
+pub use kinds::{
+    Base, IndexType, Keys, TypeRef, ValueType, is_same_type, key_type, kind_ref, plain,
+};
 pub use synonyms::{edges_of, is_unfolded, table_of};
 pub use texts::push_type;
 pub use written::judge_type;

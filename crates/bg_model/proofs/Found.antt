@@ -15,8 +15,6 @@ use Rattle.bg_incarnate.specs.Walked.{next_in}
 use Rattle.bg_formed.specs.Formed.{FormBlock}
 use Rattle.bg_formed.specs.Said.{SaidBlocks}
 use Rattle.bg_formed.specs.Used.{refused}
-use Rattle.bg_scalar.specs.declared.scalar.Scalar.{Scalar}
-use Rattle.bg_scalar.specs.Values.{val_of}
 use Rattle.bg_scalar.specs.Choices.{state_of}
 use Rattle.bg_model.specs.Over.{walk_over}
 use Rattle.bg_model.specs.Turns.{fails, turns, taken}
@@ -28,12 +26,12 @@ use Rattle.bg_model.proofs.Aligned.{taken_is}
 -- ---- the state at entry
 
 -- typed values begin with the state
-pub starts_at : (p : Prog) (ds : List Decl) (others : List Ty) (s : State) (vs : List Val) (gs fs : List Scalar) (g f : ℕ) → ValuesFrom p ds others s vs → map val_of gs ≡ map (value_at vs) (count_from 0 g) → map val_of fs ≡ map (value_at vs) (count_from g f) → g ≡ length p.globals → length ds ≡ f → s ≡ state_of gs fs
+pub starts_at : (p : Prog) (ds : List Decl) (others : List Ty) (s : State) (vs : List Val) (gs fs : List Val) (g f : ℕ) → ValuesFrom p ds others s vs → gs ≡ map (value_at vs) (count_from 0 g) → fs ≡ map (value_at vs) (count_from g f) → g ≡ length p.globals → length ds ≡ f → s ≡ state_of gs fs
 starts_at p ds others s vs gs fs g f v eg ef h k =
-    let x : map val_of gs ≡ map (value_at vs) (count_from 0 (length p.globals)) = eg ∙ ap (λ n. map (value_at vs) (count_from 0 n)) h in
-    let y : map val_of fs ≡ map (value_at vs) (count_from (length p.globals) (length ds)) = ef ∙ (ap (λ n. map (value_at vs) (count_from n f)) h ∙ ap (λ n. map (value_at vs) (count_from (length p.globals) n)) (sym k)) in
+    let x : gs ≡ map (value_at vs) (count_from 0 (length p.globals)) = eg ∙ ap (λ n. map (value_at vs) (count_from 0 n)) h in
+    let y : fs ≡ map (value_at vs) (count_from (length p.globals) (length ds)) = ef ∙ (ap (λ n. map (value_at vs) (count_from n f)) h ∙ ap (λ n. map (value_at vs) (count_from (length p.globals) n)) (sym k)) in
     sym v.first
-    ∙ (ap (λ l. state l (map (value_at vs) (count_from (length p.globals) (length ds)))) (sym x) ∙ ap (state (map val_of gs)) (sym y))
+    ∙ (ap (λ l. state l (map (value_at vs) (count_from (length p.globals) (length ds)))) (sym x) ∙ ap (state gs) (sym y))
   where
     state : List Val → List Val → State
     state a b = record { globals = a; frame = b }

@@ -1,6 +1,6 @@
 -- Counterexamples: entry values and choices by which an induction run fails.
 use Rattle.std.specs.Prelude.{◌≡◌, ℕ, Bool, true, false, not, List, Option, Some, None, map, length, slice_get}
-use Rattle.bg_ast.specs.Values.{Val, Ty}
+use Rattle.bg_ast.specs.Values.{Val, Ty, Table}
 use Rattle.bg_ast.specs.Syntax.{Prog, Impl, Proc}
 use Rattle.bg_ast.specs.Execution.{Interp, State, Spot}
 use Rattle.bg_sense.specs.Flow.{Failed}
@@ -15,8 +15,7 @@ use Rattle.bg_formed.specs.Formed.{FormBlock}
 use Rattle.bg_formed.specs.Wells.{form_equations}
 use Rattle.bg_formed.specs.Said.{SaidBlocks}
 use Rattle.bg_formed.specs.Used.{refused}
-use Rattle.bg_scalar.specs.Tables.{TableOf}
-use Rattle.bg_scalar.specs.Views.{tables_in}
+use Rattle.bg_scalar.specs.Views.{tables_in, vals_in}
 use Rattle.bg_scalar.specs.Choices.{choice_of, state_of}
 use Rattle.bg_model.specs.declared.failure.Counterexample.{Counterexample}
 use Rattle.bg_model.specs.Over.{walk_over}
@@ -40,9 +39,9 @@ pub record SetUp (p : Prog) (bs : List Block) (frame : ℕ) (ns : List ℕ) (vs 
 -- functions have these tables; in each set-up the state is that of the counterexample; its choices are the values along the lowest edges
 -- from which some walk fails; and by them the induction run fails at the check, where the blocks of forms say what the passive blocks
 -- say, and no operation that counts for the check leaves the range
-pub record IsCounterexample (p : Prog) (bs : List Block) (frame : ℕ) (ns : List ℕ) (forms : List FormBlock) (set : ℕ → Bool) (t : Spot) (w : ℕ → Bool) (vs : List Val) (ts : List TableOf) (cex : Counterexample) : Type 0 where
+pub record IsCounterexample (p : Prog) (bs : List Block) (frame : ℕ) (ns : List ℕ) (forms : List FormBlock) (set : ℕ → Bool) (t : Spot) (w : ℕ → Bool) (vs : List Val) (ts : List Table) (cex : Counterexample) : Type 0 where
   pub tables : tables_in cex.tables.items ≡ ts
-  pub starts : (k : ℕ) (m : Impl) (q : Proc) (s : State) (others : List Ty) (arrivals : List Arrival) → SetUp p bs frame ns vs k m q s others arrivals → s ≡ state_of cex.globals.items cex.frame.items
+  pub starts : (k : ℕ) (m : Impl) (q : Proc) (s : State) (others : List Ty) (arrivals : List Arrival) → SetUp p bs frame ns vs k m q s others arrivals → s ≡ state_of (vals_in cex.globals.items) (vals_in cex.frame.items)
   pub choices : map choice_of cex.choices.items ≡ taken (walk_over set t w) vs bs forms ns (turns (walk_over set t w) forms) 0
   pub fails : (i : Interp) (k : ℕ) (m : Impl) (q : Proc) (s : State) (others : List Ty) (arrivals : List Arrival) → SetUp p bs frame ns vs k m q s others arrivals → SaidBlocks w (passive_scope p i vs) (passives arrivals bs) forms → refused t forms ≡ None → induction_run p set i k s (map choice_of cex.choices.items) ≡ Failed t
 

@@ -10,7 +10,7 @@ use Rattle.bg_terms.specs.Flat.{IsTerm, IsFlat, AreFlat}
 pub and_both : {a b : Bool} → a ≡ true → b ≡ true → (a && b) ≡ true
 and_both h k = rw (h, k) refl
 
-lt_true : (j n : ℕ) → j < n → nat_lt j n ≡ true
+pub lt_true : (j n : ℕ) → j < n → nat_lt j n ≡ true
 lt_true j n h = lt-ltb j n h
 
 pub inside : {A : Type 0} (xs : List A) (j : ℕ) (x : A) → slice_get xs j ≡ Some x → j < length xs

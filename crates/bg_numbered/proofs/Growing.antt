@@ -1,17 +1,17 @@
--- One application more in a table of terms.
+-- One term more in a table of terms.
 use Rattle.std.proofs.Common.{◌≡◌, ◌⊎◌, ℕ, zero, suc, ◌+◌, true, List, [], ◌∷◌, ◌++◌, length, Option, Some, None, refl, sym, ap, ◌∙◌, subst, arith, inl, inr, ⊎_elim}
 use Rattle.std.specs.Prelude.{slice_get}
 use Rattle.std.proofs.lemmas.List.{append-nil, append_assoc}
 use Rattle.bg_ast.specs.Values.{Ty}
 use Rattle.bg_ast.specs.Syntax.{Ex, Exs, Read, Local, Fun}
 use Rattle.bg_sense.specs.Typed.{AreLinear}
-use Rattle.bg_terms.specs.Terms.{Applies, Term, are_below}
+use Rattle.bg_terms.specs.Terms.{Head, Term, are_below}
 use Rattle.bg_terms.specs.Flat.{IsTerm, IsFlat, AreFlat}
 use Rattle.bg_terms.specs.Typed.{HeadHasType, types_with}
 use Rattle.bg_terms.proofs.Typed.{at_back}
 use Rattle.bg_terms.proofs.Stays.{flat_stays, flats_stay, head_stays}
 use Rattle.bg_numbered.specs.Fair.{FairTerms, Grows}
-use Rattle.bg_numbered.specs.Put.{found_from, applied, with_by, place_by, with_applied, place_applied}
+use Rattle.bg_numbered.specs.Put.{found_from, made, with_by, place_by, with_term, place_term}
 use Rattle.bg_numbered.proofs.Below.{in_order_more}
 use Rattle.bg_numbered.proofs.Found.{found_at}
 
@@ -44,23 +44,23 @@ fair_more fs incs ts t f b l h =
           head_stays fs incs ts (t ∷ []) u.head u.args u.ty (⊎_elim (f.typed a u) (λ same. subst (λ v. HeadHasType fs (types_with incs ts) v.head v.args v.ty) (sym same) h) (last_or ts t a u e));
     }
 
-module _ (fs : List Fun) (f : ℕ) (xs : Exs) (ts : List Term) where
+module _ (fs : List Fun) (h : Head) (xs : Exs) (ts : List Term) where
   abbrev t : Term
-  t = applied fs f xs
+  t = made fs h xs
 
-  pub put_grows : Grows ts (with_applied fs f xs ts)
-  put_grows = on (found_from 0 (Applies f) xs ts)
+  pub put_grows : Grows ts (with_term fs h xs ts)
+  put_grows = on (found_from 0 h xs ts)
     where
       on : (o : Option ℕ) → Grows ts (with_by o t ts)
       on (Some a) = stays ts
       on None = (t ∷ [], refl)
 
-  pub put_term : (n : ℕ) → IsTerm n (with_applied fs f xs ts) (Applies f) xs (Read (Local (n + place_applied f xs ts)))
-  put_term n = on (found_from 0 (Applies f) xs ts) refl
+  pub put_term : (n : ℕ) → IsTerm n (with_term fs h xs ts) h xs (Read (Local (n + place_term h xs ts)))
+  put_term n = on (found_from 0 h xs ts) refl
     where
-      on : (o : Option ℕ) → found_from 0 (Applies f) xs ts ≡ o → IsTerm n (with_by o t ts) (Applies f) xs (Read (Local (n + place_by o ts)))
+      on : (o : Option ℕ) → found_from 0 h xs ts ≡ o → IsTerm n (with_by o t ts) h xs (Read (Local (n + place_by o ts)))
       on (Some a) e =
-          let found = found_at 0 (Applies f) xs ts a e in
+          let found = found_at 0 h xs ts a e in
           record {
             number = found.number;
             term = found.term;
@@ -80,9 +80,9 @@ module _ (fs : List Fun) (f : ℕ) (xs : Exs) (ts : List Term) where
             reads = refl;
           }
 
-  pub put_fair : (incs : List Ty) → FairTerms fs incs ts → are_below (length incs + length ts) xs ≡ true → AreLinear xs → HeadHasType fs (types_with incs ts) (Applies f) xs t.ty → FairTerms fs incs (with_applied fs f xs ts)
-  put_fair incs fair b l h = on (found_from 0 (Applies f) xs ts)
+  pub put_fair : (incs : List Ty) → FairTerms fs incs ts → are_below (length incs + length ts) xs ≡ true → AreLinear xs → HeadHasType fs (types_with incs ts) h xs t.ty → FairTerms fs incs (with_term fs h xs ts)
+  put_fair incs fair b l k = on (found_from 0 h xs ts)
     where
       on : (o : Option ℕ) → FairTerms fs incs (with_by o t ts)
       on (Some a) = fair
-      on None = fair_more fs incs ts t fair b l h
+      on None = fair_more fs incs ts t fair b l k

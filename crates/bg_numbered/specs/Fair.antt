@@ -8,15 +8,15 @@ use Rattle.bg_terms.specs.Terms.{Term, are_in_order}
 use Rattle.bg_terms.specs.Typed.{TermsTyped, sig_with}
 
 abbrev mutual
-  -- what is made flat so far: no constant is read, no map is selected from or updated
+  -- what is made flat: no constant is read
   pub IsHandled : Ex → Type 0
   IsHandled (Constant k) = ⊥
   IsHandled (Not e) = IsHandled e
   IsHandled (Negative e) = IsHandled e
   IsHandled (Binary op a b) = IsHandled a × IsHandled b
   IsHandled (Apply f es) = AreHandled es
-  IsHandled (Select m es) = ⊥
-  IsHandled (Update m es e) = ⊥
+  IsHandled (Select m es) = IsHandled m × AreHandled es
+  IsHandled (Update m es e) = IsHandled m × AreHandled es × IsHandled e
   IsHandled (Old e) = IsHandled e
   IsHandled _ = Unit {0}
 

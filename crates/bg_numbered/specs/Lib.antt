@@ -1,3 +1,5 @@
 pub mod Fair
 pub mod Put
 pub mod Numbered
+pub mod Lines
+pub mod Indexed

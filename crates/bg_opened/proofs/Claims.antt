@@ -412,7 +412,7 @@ module _ (depth : ℕ) (p : Prog) (typed : IsTyped p) (res : IsResolved p) (none
           globals = ap (λ ts. are_of ts (s.globals ++ i.constants)) (global_types depth p) ∙ are_of_both (types_of p.globals) (const_types p.constants) s.globals i.constants f.state.globals f.meets.interp.constants;
           frame = ap (λ ts. are_of ts s.frame) (frame_types depth p t.implementation) ∙ f.state.frame;
         };
-        fails = runs_alike depth p i (tables_of i) (λ k h. refl) typed res none test set t.implementation s choices (claims_hold p i judged (are_of_length (const_types p.constants) i.constants f.meets.interp.constants) ∙ both (are_distinct p.constants i.constants) (all_hold p i p.axioms) f.meets.unique f.meets.axioms) (in_length s f.state.globals) ∙ f.fails;
+        fails = runs_alike depth p i (tables_of i) (λ k h. refl) typed res none test set t.implementation s choices (claims_hold p i (are_of_length (const_types p.constants) i.constants f.meets.interp.constants) ∙ both (are_distinct p.constants i.constants) (all_hold p i p.axioms) f.meets.unique f.meets.axioms) (in_length s f.state.globals) ∙ f.fails;
       }
 
   module _ (set : ℕ → Bool) (t : Place) (j : Interp) (s : State) (choices : List Choice) (f : Fails (opened_program depth p) set t j s choices) where
@@ -446,7 +446,7 @@ module _ (depth : ℕ) (p : Prog) (typed : IsTyped p) (res : IsResolved p) (none
     holds = failing_runs_meet depth p i j agree typed res none test set t.implementation own choices t.spot (in_length own globals_typed) as_joined
 
     both_hold : (are_distinct p.constants i.constants && all_hold p i p.axioms) ≡ true
-    both_hold = sym (claims_hold p i judged (are_of_length (const_types p.constants) i.constants constants_typed)) ∙ holds
+    both_hold = sym (claims_hold p i (are_of_length (const_types p.constants) i.constants constants_typed)) ∙ holds
 
     pub program_fails : Fails p set t i own choices
     program_fails =

@@ -48,7 +48,7 @@ module _ (depth : ℕ) (p : Prog) (h : IsOpenable depth p) where
 
   pub runs : (set : ℕ → Bool) (i : Interp) (k : ℕ) (s : State) (choices : List Choice) → Meets p i → IsState p k s → induction_run o set (tables_of i) k (with_constants i s) choices ≡ induction_run p set i k s choices
   runs set i k s choices m st =
-      runs_alike depth p i (tables_of i) (λ f n. refl) h.typed h.resolved h.recursion plain set k s choices (claims_hold p i (constants_judged p h.judged) (are_of_length (const_types p.constants) i.constants m.interp.constants) ∙ both (are_distinct p.constants i.constants) (all_hold p i p.axioms) m.unique m.axioms) (are_of_length (types_of p.globals) s.globals st.globals ∙ types_length p.globals)
+      runs_alike depth p i (tables_of i) (λ f n. refl) h.typed h.resolved h.recursion plain set k s choices (claims_hold p i (are_of_length (const_types p.constants) i.constants m.interp.constants) ∙ both (are_distinct p.constants i.constants) (all_hold p i p.axioms) m.unique m.axioms) (are_of_length (types_of p.globals) s.globals st.globals ∙ types_length p.globals)
 
   pub opens : (set : ℕ → Bool) (t : Place) (i : Interp) (s : State) (choices : List Choice) → Fails p set t i s choices → Fails o set t (tables_of i) (with_constants i s) choices
   opens set t i s choices f = opened_fails depth p h.typed h.resolved h.recursion plain (constants_judged p h.judged) set t i s choices f

@@ -17,5 +17,5 @@ mod uniques;
 mod whole;
 
 pub use axioms::axiom_program;
-pub use uniques::uniques_of;
+pub use uniques::{Unique, uniques_of};
 pub use whole::open_program;

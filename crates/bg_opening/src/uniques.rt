@@ -1,39 +1,39 @@
 //! Unique constants, and that they differ.
 ghost use Rattle.std.specs.Prelude.{◌≡◌, ℕ, suc, ◌++◌, ◌∷◌, [], if◌then◌else◌, map, IfOk, OnOk};
+ghost use Rattle.bg_ast.specs.Meaning.{named_of, type_in};
 ghost use Rattle.bg_ast.specs.Views as v;
-ghost use Rattle.bg_opened.specs.Unique.{is_alike, uniques, pair_of, pairs_with, pairs, unique_pairs};
+ghost use Rattle.bg_kinds.specs.Views.{ref_in};
+ghost use Rattle.bg_opened.specs.Unique.{uniques, pair_of, pairs_with, pairs, unique_pairs};
 ghost use Rattle.bg_opened.specs.Written as w;
-ghost use Rattle.bg_opening.specs.Constants.{constants_in};
+ghost use Rattle.bg_opening.specs.Constants.{constants_in, unique_of};
 
 use crate::axioms::NOWHERE;
 use bg_ast::resolved::{Constant, Expr, Link, TypeName};
-use bg_fits::{Holding, written_holding};
+use bg_fits::written_kind;
+use bg_kinds::{ValueType, is_same_type};
 use bg_text::InfixSign;
 use std::alloc::{AllocError, Global};
 
-/// Whether both hold truth values, or whole numbers, or elements of one type.
-pub fn are_alike(a: Holding, b: Holding) -> bool
-    ensures { result ≡ is_alike a b }
-{
-    match (a, b) {
-        (Holding::Truths, Holding::Truths) => true,
-        (Holding::Numbers, Holding::Numbers) => true,
-        (Holding::Elements(t), Holding::Elements(u)) => t == u,
-        _ => false,
-    }
+/// A unique constant: its number, and its type.
+#[derive(Drop)]
+pub struct Unique {
+    pub number: u32,
+    pub kind: ValueType,
 }
 
-/// Adds the number of a constant, and what it holds, where it is unique.
+/// Adds the number and the type of a constant, where it is unique.
 fn push_unique(
-    made: &mut Vec<(u32, Holding)>,
+    alloc: Global,
+    made: &mut Vec<Unique>,
+    types: &[TypeName],
     number: u32,
-    is_unique: bool,
-    holding: Holding,
+    c: &Constant,
 ) -> Result<(), AllocError>
-    ensures { OnOk result (made.new.items ≡ made.old.items ++ (if is_unique then (number, holding) ∷ [] else [])) }
+    ensures { OnOk result (map unique_of made.new.items ≡ map unique_of made.old.items ++ (if c.now.is_unique then (number, type_in (named_of (map v.type_name_of types.now)) (v.type_of c.now.ty)) ∷ [] else [])) }
 {
-    if is_unique {
-        made.push((number, holding))?;
+    if c.is_unique {
+        let kind = written_kind(alloc, types, &c.ty)?;
+        made.push(Unique { number, kind })?;
     }
     Ok(())
 }
@@ -48,25 +48,20 @@ fn next(number: u32) -> Result<u32, AllocError>
     Ok(more)
 }
 
-/// The numbers of the unique constants, and what each holds.
+/// The numbers of the unique constants, and the type of each.
 ///
 /// Only want of memory is an error; 2^32 constants count as such.
 pub fn uniques_of(
     alloc: Global,
     types: &[TypeName],
     constants: &[Constant],
-) -> Result<Vec<(u32, Holding)>, AllocError>
-    ensures { IfOk result (λ made. made.items ≡ uniques 0 (constants_in types.now constants.now)) }
+) -> Result<Vec<Unique>, AllocError>
+    ensures { IfOk result (λ made. map unique_of made.items ≡ uniques 0 (constants_in types.now constants.now)) }
 {
     let mut made = Vec::new(alloc);
     let mut number = 0u32;
     for c in constants {
-        push_unique(
-            &mut made,
-            number,
-            c.is_unique,
-            written_holding(types, &c.ty),
-        )?;
+        push_unique(alloc, &mut made, types, number, c)?;
         let after = next(number)?;
         number = after;
     }
@@ -87,43 +82,43 @@ fn apart(alloc: Global, k: u32, j: u32) -> Result<Expr, AllocError>
     Ok(Expr::Chain(first, links))
 }
 
-/// Adds that two constants are different, where they hold the same.
+/// Adds that two constants are different, where they are of one type.
 fn push_pair(
     alloc: Global,
     out: &mut Vec<Expr>,
-    first: (u32, Holding),
-    second: (u32, Holding),
+    first: &Unique,
+    second: &Unique,
 ) -> Result<(), AllocError>
-    ensures { OnOk result (map v.ex_of out.new.items ≡ map v.ex_of out.old.items ++ map w.apart (pair_of first.0 first.1 second)) }
+    ensures { OnOk result (map v.ex_of out.new.items ≡ map v.ex_of out.old.items ++ map w.apart (pair_of first.now.number (ref_in first.now.kind) (unique_of second.now))) }
 {
-    if are_alike(first.1, second.1) {
-        let e = apart(alloc, first.0, second.0)?;
+    if is_same_type(first.kind.as_ref(), second.kind.as_ref()) {
+        let e = apart(alloc, first.number, second.number)?;
         out.push(e)?;
     }
     Ok(())
 }
 
-/// Adds that a constant is different from each of these that holds the same.
+/// Adds that a constant is different from each of these that is of the same type.
 fn push_apart(
     alloc: Global,
     out: &mut Vec<Expr>,
-    first: (u32, Holding),
-    others: &[(u32, Holding)],
+    first: &Unique,
+    others: &[Unique],
 ) -> Result<(), AllocError>
-    ensures { OnOk result (map v.ex_of out.new.items ≡ map v.ex_of out.old.items ++ map w.apart (pairs_with first.0 first.1 others.now)) }
+    ensures { OnOk result (map v.ex_of out.new.items ≡ map v.ex_of out.old.items ++ map w.apart (pairs_with first.now.number (ref_in first.now.kind) (map unique_of others.now))) }
 {
     for other in others {
-        push_pair(alloc, out, first, *other)?;
+        push_pair(alloc, out, first, other)?;
     }
     Ok(())
 }
 
-/// Adds that each is different from each later one that holds the same.
-fn push_pairs(alloc: Global, out: &mut Vec<Expr>, told: &[(u32, Holding)]) -> Result<(), AllocError>
-    ensures { OnOk result (map v.ex_of out.new.items ≡ map v.ex_of out.old.items ++ map w.apart (pairs told.now)) }
+/// Adds that each is different from each later one of the same type.
+fn push_pairs(alloc: Global, out: &mut Vec<Expr>, told: &[Unique]) -> Result<(), AllocError>
+    ensures { OnOk result (map v.ex_of out.new.items ≡ map v.ex_of out.old.items ++ map w.apart (pairs (map unique_of told.now))) }
 {
     for place in 0..told.len() {
-        push_apart(alloc, out, told[place], &told[place + 1..])?;
+        push_apart(alloc, out, &told[place], &told[place + 1..])?;
     }
     Ok(())
 }

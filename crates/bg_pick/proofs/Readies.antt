@@ -116,7 +116,7 @@ child_ready f set i ds m a s n h k =
 
 -- ---- the root
 
-pub root_ready : (f : Formula) (set : ℕ → Bool) (i : Index) → IsIndex f set i → IsReady f set i [] (record { row = 0; place = 0; clause = 0; atom = 0; look = 0; top = 0; from = 0; asked = 0; done = 0 })
+pub root_ready : (f : Formula) (set : ℕ → Bool) (i : Index) → IsIndex f set i → IsReady f set i [] (record { row = 0; place = 0; clause = 0; atom = 0; look = 0; top = 0; from = 0; asked = 0; done = 0; reached = 0; unmet = 0; untrue = 0 })
 root_ready f set i n =
     record {
       mark = record {
@@ -152,7 +152,7 @@ pub split_ready : (f : Formula) (set : ℕ → Bool) (i : Index) (ds : List Deci
 split_ready f set i ds m a ps st ms new n h k r e g =
     rw (e, g) (child_ready f set i ds m a true n h k, (child_ready f set i ds m a false n h k, r))
 
-pub first_ready : (f : Formula) (set : ℕ → Bool) (i : Index) (st : List PathOf) (ms : List Mark) → IsIndex f set i → st ≡ path_of f [] ∷ [] → ms ≡ record { row = 0; place = 0; clause = 0; atom = 0; look = 0; top = 0; from = 0; asked = 0; done = 0 } ∷ [] → AllReady f set i st ms
+pub first_ready : (f : Formula) (set : ℕ → Bool) (i : Index) (st : List PathOf) (ms : List Mark) → IsIndex f set i → st ≡ path_of f [] ∷ [] → ms ≡ record { row = 0; place = 0; clause = 0; atom = 0; look = 0; top = 0; from = 0; asked = 0; done = 0; reached = 0; unmet = 0; untrue = 0 } ∷ [] → AllReady f set i st ms
 first_ready f set i st ms n e g = rw (e, g) (root_ready f set i n, tt)
 
 -- where no mark is left, no path waits

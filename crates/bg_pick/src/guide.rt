@@ -17,7 +17,7 @@ pub struct Guide {
 
 /// The marks where the root is open alone.
 pub fn first_guide(alloc: Global) -> Guide
-    ensures { marks_of result ≡ record { row = 0; place = 0; clause = 0; atom = 0; look = 0; top = 0; from = 0; asked = 0; done = 0 } ∷ [] }
+    ensures { marks_of result ≡ record { row = 0; place = 0; clause = 0; atom = 0; look = 0; top = 0; from = 0; asked = 0; done = 0; reached = 0; unmet = 0; untrue = 0 } ∷ [] }
 {
     Guide {
         mark: Mark {
@@ -30,6 +30,9 @@ pub fn first_guide(alloc: Global) -> Guide
             from: 0,
             asked: 0,
             done: 0,
+            reached: 0,
+            unmet: 0,
+            untrue: 0,
         },
         marks: Vec::new(alloc),
     }

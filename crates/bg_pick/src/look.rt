@@ -11,7 +11,7 @@ use crate::mark::Mark;
 use crate::probe::{Common, Probe, assume, forget, is_met, spread, value_of};
 use crate::problem::Problem;
 use crate::rows::{hints_at, row_at};
-use bg_cert::{Trail, decides};
+use bg_cert::{Decision, Trail, decides};
 use bg_formula::{Atom, Clauses, Literal};
 
 /// How many clauses are looked at for one split.
@@ -267,35 +267,101 @@ fn assumed_in(trail: &Trail, p: &Probe, clause: &[Literal]) -> Option<u32> {
     None
 }
 
-/// An undecided atom of the clause that is reached, isn't met and stands last in the program: clauses stand from the last block back.
-/// So the search goes back from the claim, and splits nothing that it doesn't need.
-fn last_reached(f: &Clauses, trail: &Trail, p: &Probe) -> Option<u32> {
-    for clause in &f.clauses {
-        if is_reached(f, trail, clause) && !is_met(trail, p, clause) {
-            if let Some(a) = undecided_in(trail, clause) {
-                return Some(a);
+/// Whether a clause begins with the denial of the atom.
+fn begins_with(clause: &[Literal], a: usize) -> bool {
+    match clause.get(0) {
+        Some(l) => !l.sign && l.atom as usize == a,
+        None => false,
+    }
+}
+
+/// The first clause that says something of what a truth atom tells. Lists of the index name clauses in their order.
+fn first_of(problem: &Problem<'_>, a: usize) -> Option<usize> {
+    let Some(Atom::Truth(_)) = problem.formula.atoms.get(a) else {
+        return None;
+    };
+    for hint in hints_at(&problem.index.no, a) {
+        if let Hint::Nth(k) = hint {
+            if let Some(clause) = problem.formula.clauses.get(*k) {
+                if begins_with(clause, a) {
+                    return Some(*k);
+                }
             }
         }
     }
     None
 }
 
-/// An undecided atom of the first clause that isn't met, of those from a place on. Where there is none, a candidate outside the set in
-/// the first clause that the path doesn't make true: where it is true, what it guards is decided next, and where it is false, each of
-/// its clauses is true. So each such candidate is decided once, behind all that must be met without it.
-fn first_left(f: &Clauses, trail: &Trail, p: &Probe, from: usize) -> Option<u32> {
-    let mut absent = None;
-    for k in from..f.clauses.len() {
+/// Brings the mark back to the first clause that is reached by a decision which it doesn't know yet.
+fn reach(problem: &Problem<'_>, trail: &Trail, mark: &mut Mark) {
+    let all = trail.decisions.len();
+    for row in mark.done..all {
+        if let Some(Decision::Atom(a, true)) = trail.decisions.get(row) {
+            if let Some(k) = first_of(problem, *a) {
+                mark.reached = mark.reached.min(k);
+            }
+        }
+    }
+    mark.done = all;
+}
+
+/// An undecided atom of the clause that is reached, isn't met and stands last in the program: clauses stand from the last block back.
+/// So the search goes back from the claim, and splits nothing that it doesn't need. The mark keeps the clause: each one before it that
+/// is reached is met, and stays so.
+fn last_reached(problem: &Problem<'_>, trail: &Trail, p: &Probe, mark: &mut Mark) -> Option<u32> {
+    reach(problem, trail, mark);
+    let f = problem.formula;
+    for k in mark.reached..f.clauses.len() {
+        let clause = &f.clauses[k];
+        if is_reached(f, trail, clause) && !is_met(trail, p, clause) {
+            if let Some(a) = undecided_in(trail, clause) {
+                mark.reached = k;
+                return Some(a);
+            }
+        }
+    }
+    mark.reached = f.clauses.len();
+    None
+}
+
+/// An undecided atom of the first clause that isn't met. The mark keeps the clause: each one before it is met, and stays so.
+fn first_unmet(f: &Clauses, trail: &Trail, p: &Probe, mark: &mut Mark) -> Option<u32> {
+    for k in mark.unmet.max(mark.clause)..f.clauses.len() {
         let clause = &f.clauses[k];
         if !is_met(trail, p, clause) {
             if let Some(a) = undecided_in(trail, clause) {
+                mark.unmet = k;
                 return Some(a);
             }
-        } else if absent.is_none() && !has_true(trail, clause) {
-            absent = assumed_in(trail, p, clause);
         }
     }
-    absent
+    mark.unmet = f.clauses.len();
+    None
+}
+
+/// A candidate outside the set in the first clause that the path doesn't make true, where each clause is met: where it is true, what it
+/// guards is decided next, and where it is false, each of its clauses is true. So each such candidate is decided once, behind all that
+/// must be met without it. The mark keeps the clause.
+fn first_absent(f: &Clauses, trail: &Trail, p: &Probe, mark: &mut Mark) -> Option<u32> {
+    for k in mark.untrue.max(mark.clause)..f.clauses.len() {
+        let clause = &f.clauses[k];
+        if !has_true(trail, clause) {
+            if let Some(a) = assumed_in(trail, p, clause) {
+                mark.untrue = k;
+                return Some(a);
+            }
+        }
+    }
+    mark.untrue = f.clauses.len();
+    None
+}
+
+/// An undecided atom of the first clause that isn't met, or else of the first one that is met by a candidate outside the set alone.
+fn first_left(f: &Clauses, trail: &Trail, p: &Probe, mark: &mut Mark) -> Option<u32> {
+    match first_unmet(f, trail, p, mark) {
+        Some(a) => Some(a),
+        None => first_absent(f, trail, p, mark),
+    }
 }
 
 /// The atom, where it is undecided and stands in a clause without a true literal.
@@ -337,15 +403,18 @@ pub fn suggest(problem: &Problem<'_>, trail: &Trail, p: &mut Probe, mark: &mut M
     let mut look = *mark;
     let found = match candidate(problem, trail, p, &mut look) {
         Some(a) => Some(a),
-        None => match last_reached(problem.formula, trail, p) {
+        None => match last_reached(problem, trail, p, &mut look) {
             Some(a) => Some(a),
-            None => first_left(problem.formula, trail, p, mark.clause),
+            None => first_left(problem.formula, trail, p, &mut look),
         },
     };
     mark.look = look.look;
     mark.top = look.top;
     mark.from = look.from;
     mark.done = look.done;
+    mark.reached = look.reached;
+    mark.unmet = look.unmet;
+    mark.untrue = look.untrue;
     match found {
         Some(a) => if_open(problem, trail, a),
         None => None,

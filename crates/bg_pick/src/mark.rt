@@ -19,8 +19,9 @@ use bg_formula::{Clauses, Literal};
 /// A place of a path's rows, before which no clause is a unit; the clause before which each has a
 /// true literal; and the atom before which each is decided. Of the look ahead that chose the last
 /// split the clause, the number of rows then, and the clause's row. The number of decisions whose
-/// rows were looked at. And the number of decisions before which each clause that one touched has a
-/// true literal.
+/// rows were looked at. And for the choice of a clause the number of decisions of which it is known what
+/// they reach; and the clauses before which each that is reached is met, each is met, and each has a
+/// true literal or no candidate outside the set that could give it one.
 #[derive(Clone, Copy)]
 pub struct Mark {
     pub row: usize,
@@ -32,6 +33,9 @@ pub struct Mark {
     pub from: usize,
     pub asked: usize,
     pub done: usize,
+    pub reached: usize,
+    pub unmet: usize,
+    pub untrue: usize,
 }
 
 /// The first of the hints that names a false clause.

@@ -3,3 +3,4 @@ pub mod Marks
 pub mod Near
 pub mod Nearest
 pub mod Upto
+pub mod Shelved

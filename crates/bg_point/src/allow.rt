@@ -1,67 +1,35 @@
 //! What the kept rows allow a variable.
 ghost use Rattle.std.specs.Prelude.{◌≡◌, ◌<◌, ℕ, true, false, length, map, MatchResult, Some, is_ok};
-ghost use Rattle.bg_rows.specs.Entries.{mentions};
 ghost use Rattle.bg_rows.specs.Rows.{RowOf, row_of};
 ghost use Rattle.bg_rows.specs.Steps.{row_at};
 ghost use Rattle.bg_elim.specs.Kept.{none_before};
+ghost use Rattle.bg_point.specs.Shelves.{IsShelved, place_in};
 ghost use Rattle.bg_point.specs.Points.{value_of, bounds_above, bounds_below, binds, refused_at, limit};
 ghost use Rattle.bg_point.specs.Spans.{IsSpan, IsLesser, IsGreater, IsWidened, IsRefused};
 
 use crate::limit::limit;
+use crate::shelves::Shelves;
 use crate::span::{Mark, Span};
 use crate::spot::Spot;
 use bg_base::OutOfRange;
-use bg_rows::{Entry, Row, coefficient};
+use bg_rows::{Row, coefficient};
 
-/// Whether a variable stands in the entries.
-fn mentions(entries: &[Entry], x: u32) -> bool
-    ensures { result ≡ mentions x entries.now }
-{
-    for t in entries {
-        if t.variable == x {
-            return true;
-        }
-    }
-    false
-}
-
-/// Whether the variable is in the order, and no variable before it in the row.
-fn none_before(order: &[u32], x: u32, row: &Row) -> bool
-    ensures { result ≡ none_before order.now x (row_of row.now) }
-{
-    for y in order {
-        if x == *y {
-            return true;
-        }
-        if mentions(&row.entries, *y) {
-            return false;
-        }
-    }
-    false
-}
-
-/// Whether the row bounds the variable from above, with no variable before it.
+/// Whether the row, in which no variable stands before this one, bounds it from above.
 fn is_above(order: &[u32], x: u32, row: &Row) -> bool
+    requires { none_before order.now x (row_of row.now) ≡ true }
     ensures { result ≡ bounds_above order.now x (row_of row.now) }
 {
     let c = coefficient(&row.entries, x);
-    if c > 0 {
-        none_before(order, x, row)
-    } else {
-        false
-    }
+    c > 0
 }
 
-/// Whether the row bounds the variable from below, with no variable before it.
+/// Whether the row, in which no variable stands before this one, bounds it from below.
 fn is_below(order: &[u32], x: u32, row: &Row) -> bool
+    requires { none_before order.now x (row_of row.now) ≡ true }
     ensures { result ≡ bounds_below order.now x (row_of row.now) }
 {
     let c = coefficient(&row.entries, x);
-    if c < 0 {
-        none_before(order, x, row)
-    } else {
-        false
-    }
+    c < 0
 }
 
 /// The lesser of two limits from above.
@@ -96,7 +64,7 @@ fn greater(low: Option<Mark>, mark: Mark) -> Option<Mark>
     }
 }
 
-/// The span that one more row leaves.
+/// The span that one more row leaves, in which no variable stands before this one.
 fn widen(
     order: &[u32],
     spots: &[Spot],
@@ -105,6 +73,7 @@ fn widen(
     row: &Row,
     span: Span,
 ) -> Result<Span, OutOfRange>
+    requires { none_before order.now x (row_of row.now) ≡ true }
     ensures { MatchResult result (λ made. IsWidened order.now (value_of spots.now) x (row_of row.now) n span made) (λ e. refused_at (value_of spots.now) order.now x e (Some (row_of row.now))) }
 {
     if is_above(order, x, row) {
@@ -120,25 +89,32 @@ fn widen(
     Ok(span)
 }
 
-/// What the rows allow the variable; or the number of the first row of which an operation leaves
-/// the range.
+/// What the rows allow the variable at a place of the order; or the number of the first row of which
+/// an operation leaves the range. Only the rows on the variable's shelf bound it.
 pub fn span_of(
     order: &[u32],
+    shelves: &Shelves,
     spots: &[Spot],
+    p: usize,
     x: u32,
     rows: &[Row],
 ) -> Result<Span, (usize, OutOfRange)>
+    requires shelved { IsShelved order.now (map row_of rows.now) shelves.now }
+    requires here { place_in order.now x ≡ p }
+    requires there { p < length order.now }
     ensures { MatchResult result (λ span. IsSpan order.now (map row_of rows.now) (value_of spots.now) x (length rows.now) span) (λ e. IsRefused order.now (map row_of rows.now) (value_of spots.now) x e.0 e.1) }
 {
     let mut span = Span {
         low: None,
         up: None,
     };
-    for n in 0..rows.len() {
+    let mut n = shelves.heads[p];
+    while n < rows.len() {
         match widen(order, spots, x, n, &rows[n], span) {
             Ok(made) => span = made,
             Err(e) => return Err((n, e)),
         }
+        n = shelves.nexts[n];
     }
     Ok(span)
 }

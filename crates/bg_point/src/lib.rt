@@ -6,6 +6,7 @@ mod choose;
 mod find;
 pub mod laws;
 mod limit;
+mod shelves;
 mod span;
 mod spot;
 

@@ -1,5 +1,5 @@
 //! Laws of leaves, which are proved of the definitions alone.
-ghost use Rattle.std.specs.Prelude.{◌≡◌, ℕ, ◌<◌, Bool, true, false, List, [], map, slice_get, length, IsTrue};
+ghost use Rattle.std.specs.Prelude.{◌≡◌, ℕ, ◌<◌, ◌++◌, Bool, true, false, List, [], map, Some, slice_get, length, IsTrue};
 ghost use Rattle.bg_ast.specs.Values.{Val, Ty};
 ghost use Rattle.bg_ast.specs.Syntax.{Ex, Fun, Prog};
 ghost use Rattle.bg_ast.specs.Execution.{Interp, Spot};
@@ -9,9 +9,9 @@ ghost use Rattle.bg_sense.specs.Tables.{are_tables};
 ghost use Rattle.bg_passive.specs.Passive.{PassiveBlock};
 ghost use Rattle.bg_passive.specs.Incarnations.{passive_scope};
 ghost use Rattle.bg_passive.specs.Equations.{is_well, equations};
-ghost use Rattle.bg_terms.specs.Terms.{Term, IsModel, over};
+ghost use Rattle.bg_terms.specs.Terms.{Term, Updates, IsModel, over};
 ghost use Rattle.bg_terms.specs.Alike.{StandFor, scalar_ty};
-ghost use Rattle.bg_terms.specs.Closed.{IsFinished};
+ghost use Rattle.bg_terms.specs.Closed.{IsFinished, is_differs};
 ghost use Rattle.bg_terms.specs.Flat.{HaveNoBodies};
 ghost use Rattle.bg_terms.specs.Tables.{IsReadOff};
 ghost use Rattle.bg_terms.specs.Typed.{TermsTyped, types_with};
@@ -71,4 +71,26 @@ pub fn built_leaves_fail()
     bg_flat::laws::denied_flat_blocks_fail();
     scalars_stand_for_values();
     built_leaves_are_models()
+}
+
+/// At a finished leaf terms, of which none is a part of an index and each map that is updated has an index, are worth, in the values that
+/// are built, what the interpretation makes of them that is read off these; other terms may stand behind them.
+pub fn finished_leaves_are_models()
+    ensures { (fs : List Fun) (i : Interp) (incs : List Ty) (ts us : List Term) (s w : List Val) →
+        TermsTyped fs incs (ts ++ us) → ((a : ℕ) (u : Term) → slice_get ts a ≡ Some u → is_differs u.head ≡ false) →
+        ((a : ℕ) (u : Term) (t : Ty) → slice_get ts a ≡ Some u → u.head ≡ Updates [] t → ⊥) →
+        are_of (map scalar_ty (types_with incs (ts ++ us))) s ≡ true → AreBuilt (length incs) (ts ++ us) (types_with incs (ts ++ us)) s w →
+        IsFinished s (length incs) (ts ++ us) (types_with incs (ts ++ us)) → IsReadOff i (silent fs) w (length incs) (ts ++ us) →
+        IsModel i w (length incs) ts }
+{
+    bg_terms::laws::finished_leaves_give_models()
+}
+
+/// A congruence of typed terms is true of values where it is of scalars that stand for them.
+pub fn congruences_stay()
+    ensures { (fs : List Fun) (incs : List Ty) (ts : List Term) (s w : List Val) → TermsTyped fs incs ts → StandFor (types_with incs ts) w s →
+        AreCongruent s (length incs) ts → AreCongruent w (length incs) ts }
+{
+    bg_terms::laws::scalars_say_the_same();
+    bg_terms::laws::instances_are_typed()
 }

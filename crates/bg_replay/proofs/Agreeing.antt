@@ -1,35 +1,29 @@
--- Commands over scalars do what they do.
-use Rattle.std.proofs.Common.{◌≡◌, ℕ, zero, suc, Bool, true, false, List, [], ◌∷◌, map, Some, None, refl, ap, sym, ◌∙◌}
+-- Commands whose operations stay within the range do what they do.
+use Rattle.std.proofs.Common.{◌≡◌, ℕ, zero, suc, Bool, true, false, List, [], ◌∷◌, Some, None, refl, ap, ◌∙◌}
 use Rattle.std.specs.Prelude.{if◌then◌else◌, slice_get}
-use Rattle.std.proofs.lemmas.List.{map-set}
-use Rattle.bg_ast.specs.Values.{Val, Ty, IntTy, BoolTy, UserTy, MapTy, is_of, truth_of}
+use Rattle.bg_ast.specs.Values.{Val, Num, Truth, Element, Default, Entry, Ty, is_of, truth_of}
 use Rattle.bg_ast.specs.Syntax.{Var, Global, Local, Decl, Prog}
 use Rattle.bg_ast.specs.Execution as e
-use Rattle.bg_fits.specs.Holdings.{holding_of, holdings_of}
+use Rattle.bg_ast.specs.Execution.{Choice, Branch, Chosen}
 use Rattle.bg_sense.specs.Eval.{Scope, ev, functions_of}
 use Rattle.bg_sense.specs.Flow as f
-use Rattle.bg_sense.specs.Flow.{World, Answer, Ended, Blocked, Failed, BadChoice, Flow, Next, and_then}
+use Rattle.bg_sense.specs.Flow.{World, Blocked, Failed, BadChoice, Flow, Next, and_then}
+use Rattle.bg_sense.specs.Types.{types_of}
 use Rattle.bg_sense.specs.Context.{Cut, Ctx}
 use Rattle.bg_sense.specs.Clauses.{ensure, suppose, is_kept}
 use Rattle.bg_sense.specs.Variables as v
 use Rattle.bg_sense.specs.Choices.{choose, choose_from, forget_all}
 use Rattle.bg_flow.specs.Core.{Demand, Saying, check_that, check_these, suppose_this, suppose_these}
-use Rattle.bg_scalar.specs.Worths.{Seen, worth}
-use Rattle.bg_scalar.specs.Values.{val_of, MeanTables, scope_in}
-use Rattle.bg_scalar.specs.Choices.{choice_of}
-use Rattle.bg_scalar.specs.declared.choice.Choice.{Choice}
-use Rattle.bg_scalar.specs.declared.choice.Choice.TheVariants as choice
-use Rattle.bg_scalar.specs.declared.scalar.Scalar.{Scalar}
-use Rattle.bg_scalar.specs.declared.scalar.Scalar.TheVariants.{Truth, Number, Element}
-use Rattle.bg_scalar.specs.declared.scalar.Worth.{Worth}
-use Rattle.bg_scalar.specs.declared.scalar.Worth.TheVariants as worths
+use Rattle.bg_scalar.specs.Worths as worths
+use Rattle.bg_scalar.specs.Worths.{Seen, WorthOf, worth}
+use Rattle.bg_scalar.specs.Values.{MeanTables, scope_in}
 use Rattle.bg_scalar.proofs.Agreeing as scalar
-use Rattle.bg_replay.specs.Holds.{holds, holds_scalars, held, held_at}
+use Rattle.bg_replay.specs.Holds.{type_at, variable_type}
 use Rattle.bg_replay.specs.Moments.{Moment, Around, Out, Goes, Over, Outside, Unknown, and_so, world_of}
 use Rattle.bg_replay.specs.Said.{Said, Fine, Stops, Leaves, Unsaid, then_said, on_said, or_stops, check_one, checks, suppose_one, supposes}
-use Rattle.bg_replay.specs.Acts.{taken, behind_one, moved, choose_by, choose_for, put, put_each, forgotten}
+use Rattle.bg_replay.specs.Acts.{taken, behind_one, choose_by, choose_for, put, put_each, forgotten}
 
--- how a part leaves off over scalars is how it leaves off, where that is known
+-- how a part leaves off is how it leaves off in the execution, where that is known
 abbrev pub Agrees : Out → Flow → Type 0
 Agrees (Goes m) w = w ≡ Next (world_of m)
 Agrees (Over a) w = w ≡ f.Over a
@@ -52,76 +46,58 @@ said_then (Stops x) t w h m a k = rw a refl
 said_then (Leaves o) t w h m a k = tt
 said_then Unsaid t w h m a k = tt
 
-ensure_is : (o : Worth) (x : Val) (s : e.Spot) (m : Moment) → scalar.Agrees o x → Said_is (or_stops (Failed s) o) (ensure (truth_of x) s (world_of m)) m
+ensure_is : (o : WorthOf) (x : Val) (s : e.Spot) (m : Moment) → scalar.Agrees o x → Said_is (or_stops (Failed s) o) (ensure (truth_of x) s (world_of m)) m
 ensure_is (worths.Is (Truth true)) x s m h = rw h refl
 ensure_is (worths.Is (Truth false)) x s m h = rw h refl
-ensure_is (worths.Is (Number z)) x s m h = tt
+ensure_is (worths.Is (Num z)) x s m h = tt
 ensure_is (worths.Is (Element u z)) x s m h = tt
+ensure_is (worths.Is (Default d)) x s m h = tt
+ensure_is (worths.Is (Entry q u n)) x s m h = tt
 ensure_is (worths.Leaves o) x s m h = tt
-ensure_is worths.NoScalar x s m h = tt
+ensure_is worths.NoValue x s m h = tt
 
-suppose_is : (o : Worth) (x : Val) (m : Moment) → scalar.Agrees o x → Said_is (or_stops Blocked o) (suppose (truth_of x) (world_of m)) m
+suppose_is : (o : WorthOf) (x : Val) (m : Moment) → scalar.Agrees o x → Said_is (or_stops Blocked o) (suppose (truth_of x) (world_of m)) m
 suppose_is (worths.Is (Truth true)) x m h = rw h refl
 suppose_is (worths.Is (Truth false)) x m h = rw h refl
-suppose_is (worths.Is (Number z)) x m h = tt
+suppose_is (worths.Is (Num z)) x m h = tt
 suppose_is (worths.Is (Element u z)) x m h = tt
+suppose_is (worths.Is (Default d)) x m h = tt
+suppose_is (worths.Is (Entry q u n)) x m h = tt
 suppose_is (worths.Leaves o) x m h = tt
-suppose_is worths.NoScalar x m h = tt
+suppose_is worths.NoValue x m h = tt
 
 if_is : (b : Bool) (s : Said) (w : Flow) (m : Moment) → Said_is s w m → Said_is (if b then s else Fine) (if b then w else Next (world_of m)) m
 if_is true s w m h = h
 if_is false s w m h = refl
 
-put_is : (x : Var) (y : Scalar) (m : Moment) → v.put x (val_of y) (world_of m) ≡ world_of (put x y m)
-put_is (Global x) y m = ap (λ (l : List Val). (let w : World = record (world_of m) { globals = l } in w)) (sym (map-set val_of m.globals x y))
-put_is (Local x) y m = ap (λ (l : List Val). (let w : World = record (world_of m) { frame = l } in w)) (sym (map-set val_of m.frame x y))
+put_is : (x : Var) (y : Val) (m : Moment) → v.put x y (world_of m) ≡ world_of (put x y m)
+put_is (Global x) y m = refl
+put_is (Local x) y m = refl
 
-pub put_each_is : (xs : List Var) (ys : List Scalar) (m : Moment) → v.put_all xs (map val_of ys) (world_of m) ≡ world_of (put_each xs ys m)
+pub put_each_is : (xs : List Var) (ys : List Val) (m : Moment) → v.put_all xs ys (world_of m) ≡ world_of (put_each xs ys m)
 put_each_is [] ys m = refl
 put_each_is (x ∷ xs) [] m = refl
-put_each_is (x ∷ xs) (y ∷ ys) m = ap (v.put_all xs (map val_of ys)) (put_is x y m) ∙ put_each_is xs ys (put x y m)
+put_each_is (x ∷ xs) (y ∷ ys) m = ap (v.put_all xs ys) (put_is x y m) ∙ put_each_is xs ys (put x y m)
 
--- a variable holds the scalars of its type
-pub holds_is : (t : Ty) (x : Scalar) → holds (holding_of t) x ≡ is_of t (val_of x)
-holds_is IntTy (Truth b) = refl
-holds_is IntTy (Number z) = refl
-holds_is IntTy (Element n z) = refl
-holds_is BoolTy (Truth b) = refl
-holds_is BoolTy (Number z) = refl
-holds_is BoolTy (Element n z) = refl
-holds_is (UserTy k) (Truth b) = refl
-holds_is (UserTy k) (Number z) = refl
-holds_is (UserTy k) (Element n z) = refl
-holds_is (MapTy ks t) (Truth b) = refl
-holds_is (MapTy ks t) (Number z) = refl
-holds_is (MapTy ks t) (Element n z) = refl
+take_if : (b : Bool) (x : Val) (m : Moment) (g : Val → Moment → Out) (w : Flow) → Agrees (g x m) w → Agrees (choose_by (if b then Some x else None) m g) (if b then w else f.Over BadChoice)
+take_if true x m g w k = k
+take_if false x m g w k = refl
 
-take_if : (a b : Bool) (x : Scalar) (m : Moment) (g : Scalar → Moment → Out) (w : Flow) → a ≡ b → Agrees (g x m) w → Agrees (choose_by (if a then Some x else None) m g) (if b then w else f.Over BadChoice)
-take_if true true x m g w h k = k
-take_if true false x m g w h k = absurd cc
-take_if false true x m g w h k = absurd cc
-take_if false false x m g w h k = refl
-
-choose_from_is : (t : Ty) (cs : List Choice) (m : Moment) (g : Scalar → Moment → Out) (h : Val → World → Flow) → ((y : Scalar) (n : Moment) → Agrees (g y n) (h (val_of y) (world_of n))) → Agrees (choose_by (taken (holding_of t) cs) (record m { choices = behind_one cs }) g) (choose_from (map choice_of cs) t (world_of m) h)
+choose_from_is : (t : Ty) (cs : List Choice) (m : Moment) (g : Val → Moment → Out) (h : Val → World → Flow) → ((y : Val) (n : Moment) → Agrees (g y n) (h y (world_of n))) → Agrees (choose_by (taken t cs) (record m { choices = behind_one cs }) g) (choose_from cs t (world_of m) h)
 choose_from_is t [] m g h k = refl
-choose_from_is t (choice.Branch j ∷ cs) m g h k = refl
-choose_from_is t (choice.Chosen x ∷ cs) m g h k =
+choose_from_is t (Branch j ∷ cs) m g h k = refl
+choose_from_is t (Chosen x ∷ cs) m g h k =
     let n : Moment = record m { choices = cs } in
-    take_if (holds (holding_of t) x) (is_of t (val_of x)) x n g (h (val_of x) (world_of n)) (holds_is t x) (k x n)
+    take_if (is_of t x) x n g (h x (world_of n)) (k x n)
 
-pub known_if : (b : Bool) (o : Out) (w : Flow) → Agrees o w → Agrees (if b then o else Unknown) w
-known_if true o w h = h
-known_if false o w h = tt
-
-choose_is : (t : Ty) (m : Moment) (g : Scalar → Moment → Out) (h : Val → World → Flow) → ((y : Scalar) (n : Moment) → Agrees (g y n) (h (val_of y) (world_of n))) → Agrees (choose_for (holding_of t) m g) (choose t (world_of m) h)
-choose_is t m g h k =
-    known_if (holds_scalars (holding_of t)) (choose_by (taken (holding_of t) m.choices) (moved m) g) (choose t (world_of m) h) (choose_from_is t m.choices m g h k)
+choose_is : (t : Ty) (m : Moment) (g : Val → Moment → Out) (h : Val → World → Flow) → ((y : Val) (n : Moment) → Agrees (g y n) (h y (world_of n))) → Agrees (choose_for t m g) (choose t (world_of m) h)
+choose_is t m g h k = choose_from_is t m.choices m g h k
 
 -- what is declared with this number
-pub held_is : (ds : List Decl) (x : ℕ) → held (holdings_of ds) x ≡ holding_of (v.type_in (slice_get ds x))
-held_is [] x = refl
-held_is (d ∷ ds) zero = refl
-held_is (d ∷ ds) (suc x) = held_is ds x
+pub type_is : (ds : List Decl) (x : ℕ) → type_at (types_of ds) x ≡ v.type_in (slice_get ds x)
+type_is [] x = refl
+type_is (d ∷ ds) zero = refl
+type_is (d ∷ ds) (suc x) = type_is ds x
 
 module _ (p : Prog) (i : e.Interp) (number : ℕ) (ds : List Decl) (a : Around) where
   -- what stays the same during the run
@@ -133,7 +109,7 @@ module _ (p : Prog) (i : e.Interp) (number : ℕ) (ds : List Decl) (a : Around) 
         set = a.set;
         implementation = number;
         variables = ds;
-        before = map val_of a.before;
+        before = a.before;
         loops = Cut;
       }
 
@@ -158,7 +134,7 @@ module _ (p : Prog) (i : e.Interp) (number : ℕ) (ds : List Decl) (a : Around) 
 
   -- variables hold what their types stand for
   abbrev pub Declares : Type 0
-  Declares = (x : Var) → held_at a x ≡ holding_of (v.type_in (v.decl_of ctx x))
+  Declares = (x : Var) → variable_type a x ≡ v.type_in (v.decl_of ctx x)
 
   pub forgets : Declares → (xs : List Var) (m : Moment) → Agrees (forgotten a xs m) (forget_all ctx xs (world_of m))
   forgets h [] m = refl
@@ -168,6 +144,6 @@ module _ (p : Prog) (i : e.Interp) (number : ℕ) (ds : List Decl) (a : Around) 
       (λ y n. rw (put_is x y n) (forgets h xs (put x y n))))
 
   -- a program and declarations of the frame
-  pub declares : a.globals ≡ holdings_of p.globals → a.frame ≡ holdings_of ds → Declares
-  declares g h (Global x) = ap (λ l. held l x) g ∙ held_is p.globals x
-  declares g h (Local x) = ap (λ l. held l x) h ∙ held_is ds x
+  pub declares : a.globals ≡ types_of p.globals → a.frame ≡ types_of ds → Declares
+  declares g h (Global x) = ap (λ l. type_at l x) g ∙ type_is p.globals x
+  declares g h (Local x) = ap (λ l. type_at l x) h ∙ type_is ds x

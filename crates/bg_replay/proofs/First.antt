@@ -1,30 +1,27 @@
--- Where a run over scalars meets an operation that leaves the range, it is the first that does.
-use Rattle.std.proofs.Common.{◌≡◌, ℕ, zero, suc, ℤ, Bool, true, false, List, [], ◌∷◌, ◌++◌, Option, Some, None, refl, sym, ap, ◌∙◌, subst, append_assoc}
-use Rattle.std.specs.Prelude.{◌==◌, if◌then◌else◌, slice_get, ◌+ℤ◌, ◌-ℤ◌, ◌*ℤ◌, neg_ℤ, pos, Ok, Err}
+-- Where a run meets an operation that leaves the range, it is the first that does.
+use Rattle.std.proofs.Common.{◌≡◌, ℕ, zero, suc, ℤ, Bool, true, false, List, [], ◌∷◌, ◌++◌, Option, Some, None, map, refl, sym, ap, ◌∙◌, subst, append_assoc}
+use Rattle.std.specs.Prelude.{◌&&◌, ◌==◌, if◌then◌else◌, slice_get, ◌+ℤ◌, ◌-ℤ◌, ◌*ℤ◌, neg_ℤ, pos, Ok, Err}
+use Rattle.std.specs.Ordering.{int_eq}
 use Rattle.bg_base.specs.Exact.{fits, exactly}
 use Rattle.bg_base.specs.declared.exact.Op as exact
 use Rattle.bg_base.specs.declared.exact.Op.TheVariants as arith
 use Rattle.bg_base.specs.declared.exact.OutOfRange.{OutOfRange}
-use Rattle.bg_ast.specs.Values.{Val, number_of, truth_of}
+use Rattle.bg_ast.specs.Values.{Val, Num, Truth, Element, Default, Entry, Table, number_of, truth_of, val_eq, select, update}
 use Rattle.bg_ast.specs.Syntax as s
-use Rattle.bg_ast.specs.Syntax.{Var, Ex, Exs, NoMore, More, Guard, Star, Test}
-use Rattle.bg_fits.specs.Holdings.{holdings_of}
-use Rattle.bg_sense.specs.Eval.{Scope, ev}
+use Rattle.bg_ast.specs.Syntax.{Var, Ex, Exs, NoMore, More, Star, Test}
+use Rattle.bg_sense.specs.Eval.{Scope, ev, look_up}
 use Rattle.bg_sense.specs.Flow.{Answer, Blocked, Failed}
 use Rattle.bg_sense.specs.Clauses.{is_kept}
+use Rattle.bg_sense.specs.Types.{types_of}
 use Rattle.bg_flow.specs.Core.{Demand, Saying, Plan, Cmd, Check, Suppose, Forget, Put, Perform, Finish}
 use Rattle.bg_flow.specs.Blocks.{Exit, Leap, Either, Block}
-use Rattle.bg_scalar.specs.Worths.{Seen, and_then, exact, takes, on_truths, on_numbers, on_elements, operate, joined, not_on, minus_on, known, at_entry, and_then_all, worth}
-use Rattle.bg_scalar.specs.Tables.{TableOf, told}
+use Rattle.bg_scalar.specs.Worths as w
+use Rattle.bg_scalar.specs.Worths.{Seen, WorthOf, and_then, exact, takes, on_truths, on_numbers, by_equality, is_table, operate, joined, not_on, minus_on, are_parts, selected, updated, known, at_entry, and_then_all, worth}
 use Rattle.bg_scalar.specs.Lists as lists
-use Rattle.bg_scalar.specs.Lists.{Listed, Are, Leave, NoScalars, worths}
-use Rattle.bg_scalar.specs.Values.{val_of, MeanTables, scope_in}
-use Rattle.bg_scalar.specs.declared.scalar.Scalar.{Scalar}
-use Rattle.bg_scalar.specs.declared.scalar.Scalar.TheVariants.{Truth, Number, Element}
-use Rattle.bg_scalar.specs.declared.scalar.Worth.{Worth}
-use Rattle.bg_scalar.specs.declared.scalar.Worth.TheVariants as w
+use Rattle.bg_scalar.specs.Lists.{Listed, Are, Leave, NoValues, worths}
+use Rattle.bg_scalar.specs.Values.{MeanTables, scope_in}
 use Rattle.bg_scalar.proofs.Agreeing.{worth_is}
-use Rattle.bg_replay.specs.Holds.{holds_scalars, hold_scalars, held_at}
+use Rattle.bg_replay.specs.Holds.{variable_type}
 use Rattle.bg_replay.specs.Moments.{Moment, Around, Out, Goes, Over, Outside, Unknown, and_so, seen_at}
 use Rattle.bg_replay.specs.Said.{Said, Fine, Stops, Leaves, Unsaid, then_said, on_said, or_stops, checks, supposes}
 use Rattle.bg_replay.specs.Acts.{taken, moved, choose_by, put, put_each, forgotten, assigned, chosen, skipped, given_back, called_with, acts}
@@ -52,10 +49,10 @@ some_then (o ∷ xs) ys x h = by (fits (result o.op o.a o.b)) refl (some_then xs
 -- ---- expressions
 
 -- all operations are within the range, or this is the first that leaves it
-abbrev Worthy : Worth → List Operation → Type 0
+abbrev Worthy : WorthOf → List Operation → Type 0
 Worthy (w.Is x) os = first_outside os ≡ None
 Worthy (w.Leaves o) os = first_outside os ≡ Some o
-Worthy w.NoScalar os = Unit {0}
+Worthy w.NoValue os = Unit {0}
 
 -- one operation more
 last_one : (op : exact.Op) (a b z : ℤ) (xs : List Operation) → result op a b ≡ z → first_outside xs ≡ None → Worthy (exact (exactly op a b z)) (xs ++ (record { op = op; a = a; b = b } ∷ []))
@@ -100,39 +97,50 @@ numbers_fine s.Plus x y xs h = last_one arith.Plus x y (x +ℤ y) xs refl h
 numbers_fine s.Minus x y xs h = last_one arith.Minus x y (x -ℤ y) xs refl h
 numbers_fine s.Times x y xs h = last_one arith.Times x y (x *ℤ y) xs refl h
 
--- elements of one type, if they are
-elements_fine : (o : s.Op) (same : Bool) (x y : ℤ) (xs : List Operation) → first_outside xs ≡ None → Worthy (if same then on_elements o x y else w.NoScalar) (xs ++ operation o x y)
-elements_fine o false x y xs h = tt
-elements_fine s.And true x y xs h = tt
-elements_fine s.Or true x y xs h = tt
-elements_fine s.Implies true x y xs h = tt
-elements_fine s.Iff true x y xs h = tt
-elements_fine s.Equal true x y xs h = no_more xs h
-elements_fine s.Unequal true x y xs h = no_more xs h
-elements_fine s.Less true x y xs h = tt
-elements_fine s.AtMost true x y xs h = tt
-elements_fine s.Greater true x y xs h = tt
-elements_fine s.AtLeast true x y xs h = tt
-elements_fine s.Plus true x y xs h = tt
-elements_fine s.Minus true x y xs h = tt
-elements_fine s.Times true x y xs h = tt
+-- one that asks whether two values are the same
+same_fine : (o : s.Op) (b : Bool) (x y : ℤ) (xs : List Operation) → first_outside xs ≡ None → Worthy (by_equality o b) (xs ++ operation o x y)
+same_fine s.And b x y xs h = tt
+same_fine s.Or b x y xs h = tt
+same_fine s.Implies b x y xs h = tt
+same_fine s.Iff b x y xs h = tt
+same_fine s.Equal b x y xs h = no_more xs h
+same_fine s.Unequal b x y xs h = no_more xs h
+same_fine s.Less b x y xs h = tt
+same_fine s.AtMost b x y xs h = tt
+same_fine s.Greater b x y xs h = tt
+same_fine s.AtLeast b x y xs h = tt
+same_fine s.Plus b x y xs h = tt
+same_fine s.Minus b x y xs h = tt
+same_fine s.Times b x y xs h = tt
 
-operates : (o : s.Op) (x y : Scalar) (xs : List Operation) → first_outside xs ≡ None → Worthy (operate o x y) (xs ++ operation o (number_of (val_of x)) (number_of (val_of y)))
+if_same : (o : s.Op) (c b : Bool) (x y : ℤ) (xs : List Operation) → first_outside xs ≡ None → Worthy (if c then by_equality o b else w.NoValue) (xs ++ operation o x y)
+if_same o false b x y xs h = tt
+if_same o true b x y xs h = same_fine o b x y xs h
+
+operates : (o : s.Op) (x y : Val) (xs : List Operation) → first_outside xs ≡ None → Worthy (operate o x y) (xs ++ operation o (number_of x) (number_of y))
 operates o (Truth a) (Truth b) xs h = truths_fine o a b _ _ xs h
-operates o (Truth a) (Number y) xs h = tt
+operates o (Truth a) (Num y) xs h = tt
 operates o (Truth a) (Element u y) xs h = tt
-operates o (Number x) (Truth b) xs h = tt
-operates o (Number x) (Number y) xs h = numbers_fine o x y xs h
-operates o (Number x) (Element u y) xs h = tt
+operates o (Truth a) (Default d) xs h = tt
+operates o (Truth a) (Entry k v m) xs h = tt
+operates o (Num x) (Truth b) xs h = tt
+operates o (Num x) (Num y) xs h = numbers_fine o x y xs h
+operates o (Num x) (Element u y) xs h = tt
+operates o (Num x) (Default d) xs h = tt
+operates o (Num x) (Entry k v m) xs h = tt
 operates o (Element t x) (Truth b) xs h = tt
-operates o (Element t x) (Number y) xs h = tt
-operates o (Element t x) (Element u y) xs h = elements_fine o (t == u) x y xs h
+operates o (Element t x) (Num y) xs h = tt
+operates o (Element t x) (Element u y) xs h = if_same o (t == u) (int_eq x y) x y xs h
+operates o (Element t x) (Default d) xs h = tt
+operates o (Element t x) (Entry k v m) xs h = tt
+operates o (Default d) y xs h = if_same o (is_table y) (val_eq (Default d) y) _ _ xs h
+operates o (Entry k v m) y xs h = if_same o (is_table y) (val_eq (Entry k v m) y) _ _ xs h
 
 module _ (fs : ℕ → List Val → Val) (cs : List Val) where
   abbrev sees : Seen → Scope
   sees = scope_in fs cs
 
-  value : (e : Ex) (c : Seen) (x : Scalar) → MeanTables fs c.tables → worth e c ≡ w.Is x → ev e (sees c) ≡ val_of x
+  value : (e : Ex) (c : Seen) (x : Val) → MeanTables fs c.tables → worth e c ≡ w.Is x → ev e (sees c) ≡ x
   value = worth_is fs cs
 
   module _ (o : s.Op) (a b : Ex) (c : Seen) (mean : MeanTables fs c.tables) where
@@ -145,41 +153,45 @@ module _ (fs : ℕ → List Val → Val) (cs : List Val) where
     abbrev last : List Operation
     last = operation o (number_of (ev a (sees c))) (number_of (ev b (sees c)))
 
-    both : (x y : Scalar) → worth a c ≡ w.Is x → worth b c ≡ w.Is y → first_outside A ≡ None → first_outside B ≡ None → Worthy (operate o x y) (A ++ (B ++ last))
+    both : (x y : Val) → worth a c ≡ w.Is x → worth b c ≡ w.Is y → first_outside A ≡ None → first_outside B ≡ None → Worthy (operate o x y) (A ++ (B ++ last))
     both x y ea eb f g =
         subst (λ z. Worthy (operate o x y) (A ++ (B ++ operation o (number_of z) (number_of (ev b (sees c)))))) (sym (value a c x mean ea))
-        (subst (λ z. Worthy (operate o x y) (A ++ (B ++ operation o (number_of (val_of x)) (number_of z)))) (sym (value b c y mean eb))
-        (subst (Worthy (operate o x y)) (append_assoc A B (operation o (number_of (val_of x)) (number_of (val_of y)))) (operates o x y (A ++ B) (none_then A B f ∙ g))))
+        (subst (λ z. Worthy (operate o x y) (A ++ (B ++ operation o (number_of x) (number_of z)))) (sym (value b c y mean eb))
+        (subst (Worthy (operate o x y)) (append_assoc A B (operation o (number_of x) (number_of y))) (operates o x y (A ++ B) (none_then A B f ∙ g))))
 
-    taken_by : (t : Bool) (x : Scalar) (wb : Worth) → worth a c ≡ w.Is x → worth b c ≡ wb → first_outside A ≡ None → Worthy wb B → Worthy (if t then and_then wb (operate o x) else w.NoScalar) (A ++ (B ++ last))
+    taken_by : (t : Bool) (x : Val) (wb : WorthOf) → worth a c ≡ w.Is x → worth b c ≡ wb → first_outside A ≡ None → Worthy wb B → Worthy (if t then and_then wb (operate o x) else w.NoValue) (A ++ (B ++ last))
     taken_by false x wb ea eb f g = tt
     taken_by true x (w.Is y) ea eb f g = both x y ea eb f g
     taken_by true x (w.Leaves z) ea eb f g = none_then A (B ++ last) f ∙ some_then B last z g
-    taken_by true x w.NoScalar ea eb f g = tt
+    taken_by true x w.NoValue ea eb f g = tt
 
-    joins_by : (wa wb : Worth) → worth a c ≡ wa → worth b c ≡ wb → Worthy wa A → Worthy wb B → Worthy (joined o wa wb) (A ++ (B ++ last))
+    joins_by : (wa wb : WorthOf) → worth a c ≡ wa → worth b c ≡ wb → Worthy wa A → Worthy wb B → Worthy (joined o wa wb) (A ++ (B ++ last))
     joins_by (w.Is x) wb ea eb f g = taken_by (takes o x) x wb ea eb f g
     joins_by (w.Leaves z) wb ea eb f g = some_then A (B ++ last) z f
-    joins_by w.NoScalar wb ea eb f g = tt
+    joins_by w.NoValue wb ea eb f g = tt
 
-  denies : (x : Worth) (os : List Operation) → Worthy x os → Worthy (and_then x not_on) os
+  denies : (x : WorthOf) (os : List Operation) → Worthy x os → Worthy (and_then x not_on) os
   denies (w.Is (Truth b)) os h = h
-  denies (w.Is (Number z)) os h = tt
+  denies (w.Is (Num z)) os h = tt
   denies (w.Is (Element u z)) os h = tt
+  denies (w.Is (Default d)) os h = tt
+  denies (w.Is (Entry q u n)) os h = tt
   denies (w.Leaves o) os h = h
-  denies w.NoScalar os h = tt
+  denies w.NoValue os h = tt
 
-  negates : (e : Ex) (c : Seen) → MeanTables fs c.tables → (x : Worth) → worth e c ≡ x → Worthy x (operations e (sees c)) → Worthy (and_then x minus_on) (operations (s.Negative e) (sees c))
+  negates : (e : Ex) (c : Seen) → MeanTables fs c.tables → (x : WorthOf) → worth e c ≡ x → Worthy x (operations e (sees c)) → Worthy (and_then x minus_on) (operations (s.Negative e) (sees c))
   negates e c mean (w.Is (Truth b)) k h = tt
-  negates e c mean (w.Is (Number z)) k h =
-      subst (λ y. Worthy (minus_on (Number z)) (operations e (sees c) ++ (record { op = arith.Negate; a = number_of y; b = pos 0 } ∷ []))) (sym (value e c (Number z) mean k))
+  negates e c mean (w.Is (Num z)) k h =
+      subst (λ y. Worthy (minus_on (Num z)) (operations e (sees c) ++ (record { op = arith.Negate; a = number_of y; b = pos 0 } ∷ []))) (sym (value e c (Num z) mean k))
       (last_one arith.Negate z (pos 0) (neg_ℤ z) (operations e (sees c)) refl h)
   negates e c mean (w.Is (Element u z)) k h = tt
+  negates e c mean (w.Is (Default d)) k h = tt
+  negates e c mean (w.Is (Entry q u n)) k h = tt
   negates e c mean (w.Leaves o) k h =
       some_then (operations e (sees c)) (record { op = arith.Negate; a = number_of (ev e (sees c)); b = pos 0 } ∷ []) o h
-  negates e c mean w.NoScalar k h = tt
+  negates e c mean w.NoValue k h = tt
 
-  reads : (x : Option Scalar) → Worthy (known x) []
+  reads : (x : Option Val) → Worthy (known x) []
   reads None = tt
   reads (Some x) = refl
 
@@ -188,19 +200,43 @@ module _ (fs : ℕ → List Val → Val) (cs : List Val) where
   abbrev Listing : Listed → List Operation → Type 0
   Listing (Are xs) os = first_outside os ≡ None
   Listing (Leave o) os = first_outside os ≡ Some o
-  Listing NoScalars os = Unit {0}
+  Listing NoValues os = Unit {0}
 
-  one_more : (x : Worth) (l : Listed) (xs ys : List Operation) → Worthy x xs → Listing l ys → Listing (lists.cons x l) (xs ++ ys)
+  one_more : (x : WorthOf) (l : Listed) (xs ys : List Operation) → Worthy x xs → Listing l ys → Listing (lists.cons x l) (xs ++ ys)
   one_more (w.Is x) (Are zs) xs ys h k = none_then xs ys h ∙ k
   one_more (w.Is x) (Leave o) xs ys h k = none_then xs ys h ∙ k
-  one_more (w.Is x) NoScalars xs ys h k = tt
+  one_more (w.Is x) NoValues xs ys h k = tt
   one_more (w.Leaves o) l xs ys h k = some_then xs ys o h
-  one_more w.NoScalar l xs ys h k = tt
+  one_more w.NoValue l xs ys h k = tt
 
-  applied : (f : ℕ) (ts : List TableOf) (l : Listed) (os : List Operation) → Listing l os → Worthy (and_then_all l (λ xs. w.Is (told ts f xs))) os
+  applied : (f : ℕ) (ts : List Table) (l : Listed) (os : List Operation) → Listing l os → Worthy (and_then_all l (λ xs. w.Is (look_up (slice_get ts f) xs))) os
   applied f ts (Are xs) os h = h
   applied f ts (Leave o) os h = h
-  applied f ts NoScalars os h = tt
+  applied f ts NoValues os h = tt
+
+  -- ---- selects and updates
+
+  if_worthy : (b : Bool) (v : Val) (os : List Operation) → first_outside os ≡ None → Worthy (if b then w.Is v else w.NoValue) os
+  if_worthy true v os h = h
+  if_worthy false v os h = tt
+
+  selects : (a : WorthOf) (l : Listed) (xs ys : List Operation) → Worthy a xs → Listing l ys → Worthy (selected a l) (xs ++ ys)
+  selects (w.Is x) (Are qs) xs ys h k =
+      if_worthy (is_table x && are_parts qs) (select x (map number_of qs)) (xs ++ ys) (none_then xs ys h ∙ k)
+  selects (w.Is x) (Leave o) xs ys h k = none_then xs ys h ∙ k
+  selects (w.Is x) NoValues xs ys h k = tt
+  selects (w.Leaves o) l xs ys h k = some_then xs ys o h
+  selects w.NoValue l xs ys h k = tt
+
+  updates : (a : WorthOf) (l : Listed) (b : WorthOf) (xs ys zs : List Operation) → Worthy a xs → Listing l ys → Worthy b zs → Worthy (updated a l b) (xs ++ (ys ++ zs))
+  updates (w.Is x) (Are qs) (w.Is v) xs ys zs h k i =
+      if_worthy (is_table x && are_parts qs) (update x (map number_of qs) v) (xs ++ (ys ++ zs)) (none_then xs (ys ++ zs) h ∙ (none_then ys zs k ∙ i))
+  updates (w.Is x) (Are qs) (w.Leaves o) xs ys zs h k i = none_then xs (ys ++ zs) h ∙ (none_then ys zs k ∙ i)
+  updates (w.Is x) (Are qs) w.NoValue xs ys zs h k i = tt
+  updates (w.Is x) (Leave o) b xs ys zs h k i = none_then xs (ys ++ zs) h ∙ some_then ys zs o k
+  updates (w.Is x) NoValues b xs ys zs h k i = tt
+  updates (w.Leaves o) l b xs ys zs h k i = some_then xs (ys ++ zs) o h
+  updates w.NoValue l b xs ys zs h k i = tt
 
   mutual
     first_of_ex : (e : Ex) (c : Seen) → MeanTables fs c.tables → Worthy (worth e c) (operations e (sees c))
@@ -216,8 +252,10 @@ module _ (fs : ℕ → List Val → Val) (cs : List Val) where
     first_of_ex (s.Constant k) c mean = tt
     first_of_ex (s.Apply f es) c mean =
         applied f c.tables (worths es c) (operations_of es (sees c)) (first_of_exs es c mean)
-    first_of_ex (s.Select m es) c mean = tt
-    first_of_ex (s.Update m es e) c mean = tt
+    first_of_ex (s.Select m es) c mean =
+        selects (worth m c) (worths es c) (operations m (sees c)) (operations_of es (sees c)) (first_of_ex m c mean) (first_of_exs es c mean)
+    first_of_ex (s.Update m es e) c mean =
+        updates (worth m c) (worths es c) (worth e c) (operations m (sees c)) (operations_of es (sees c)) (operations e (sees c)) (first_of_ex m c mean) (first_of_exs es c mean) (first_of_ex e c mean)
 
     first_of_exs : (es : Exs) (c : Seen) → MeanTables fs c.tables → Listing (worths es c) (operations_of es (sees c))
     first_of_exs NoMore c mean = refl
@@ -242,15 +280,17 @@ module _ (fs : ℕ → List Val → Val) (cs : List Val) where
   one_clause : (a : Answer) (e : Ex) (c : Seen) → MeanTables fs c.tables → (x : Said) (os : List Operation) → Saying_so x os → Saying_so (then_said (or_stops a (worth e c)) x) (operations e (sees c) ++ (if truth_of (ev e (sees c)) then os else []))
   one_clause a e c mean x os h = by (worth e c) refl (first_of_ex e c mean)
     where
-      by : (y : Worth) → worth e c ≡ y → Worthy y (operations e (sees c)) → Saying_so (then_said (or_stops a y) x) (operations e (sees c) ++ (if truth_of (ev e (sees c)) then os else []))
+      by : (y : WorthOf) → worth e c ≡ y → Worthy y (operations e (sees c)) → Saying_so (then_said (or_stops a y) x) (operations e (sees c) ++ (if truth_of (ev e (sees c)) then os else []))
       by (w.Is (Truth true)) k f =
           subst (λ z. Saying_so x (operations e (sees c) ++ (if truth_of z then os else []))) (sym (value e c (Truth true) mean k)) (behind_it x (operations e (sees c)) os h f)
       by (w.Is (Truth false)) k f =
           subst (λ z. first_outside (operations e (sees c) ++ (if truth_of z then os else [])) ≡ None) (sym (value e c (Truth false) mean k)) (no_more (operations e (sees c)) f)
-      by (w.Is (Number z)) k f = tt
+      by (w.Is (Num z)) k f = tt
       by (w.Is (Element u z)) k f = tt
+      by (w.Is (Default d)) k f = tt
+      by (w.Is (Entry q u n)) k f = tt
       by (w.Leaves o) k f = some_then (operations e (sees c)) (if truth_of (ev e (sees c)) then os else []) o f
-      by w.NoScalar k f = tt
+      by w.NoValue k f = tt
 
   first_of_checks : (set : ℕ → Bool) (c : Seen) → MeanTables fs c.tables → (ds : List Demand) → Saying_so (checks set c ds) (of_checks set (sees c) ds)
   first_of_checks set c mean [] = refl
@@ -294,23 +334,19 @@ module _ (fs : ℕ → List Val → Val) (cs : List Val) where
   so_leaving (Outside o) xs k f h g = some_then xs [] o h
   so_leaving Unknown xs k f h g = tt
 
-  chooses : (o : Option Scalar) (m : Moment) (k : Scalar → Moment → Out) → ((x : Scalar) (n : Moment) → Leaving (k x n) []) → Leaving (choose_by o m k) []
+  chooses : (o : Option Val) (m : Moment) (k : Val → Moment → Out) → ((x : Val) (n : Moment) → Leaving (k x n) []) → Leaving (choose_by o m k) []
   chooses None m k h = refl
   chooses (Some x) m k h = h x m
-
-  choosing : (z : Bool) (o : Option Scalar) (m : Moment) (k : Scalar → Moment → Out) → ((x : Scalar) (n : Moment) → Leaving (k x n) []) → Leaving (if z then choose_by o m k else Unknown) []
-  choosing true o m k h = chooses o m k h
-  choosing false o m k h = tt
 
   forgets : (a : Around) (xs : List Var) (m : Moment) → Leaving (forgotten a xs m) []
   forgets a [] m = refl
   forgets a (x ∷ xs) m =
-      choosing (holds_scalars (held_at a x)) (taken (held_at a x) m.choices) (moved m) (λ y n. forgotten a xs (put x y n)) (λ y n. forgets a xs (put x y n))
+      chooses (taken (variable_type a x) m.choices) (moved m) (λ y n. forgotten a xs (put x y n)) (λ y n. forgets a xs (put x y n))
 
   assigns : (l : Listed) (xs : List Var) (m : Moment) (os : List Operation) → Listing l os → Leaving (assigned l xs m) os
   assigns (Are ys) xs m os h = h
   assigns (Leave o) xs m os h = h
-  assigns NoScalars xs m os h = tt
+  assigns NoValues xs m os h = tt
 
   -- what goes on without an operation
   so_plain : (x : Out) (os : List Operation) (k : Moment → Out) → Leaving x os → ((m : Moment) → Leaving (k m) []) → Leaving (and_so x k) os
@@ -325,25 +361,21 @@ module _ (fs : ℕ → List Val → Val) (cs : List Val) where
   so_plain (Outside o) os k h g = h
   so_plain Unknown os k h g = tt
 
-  gives : (a : Around) → MeanTables fs a.tables → (k : Plan) (was args : List Scalar) (o : Option (List Scalar)) (m : Moment) → Leaving (given_back o a was args k.gives k.takes m) (of_results sees a k was args o m)
+  gives : (a : Around) → MeanTables fs a.tables → (k : Plan) (was args : List Val) (o : Option (List Val)) (m : Moment) → Leaving (given_back o a was args k.gives k.takes m) (of_results sees a k was args o m)
   gives a mean k was args None m = refl
   gives a mean k was args (Some xs) m =
       let inside : Seen = record { tables = a.tables; globals = (skipped xs m).globals; before = was; frame = args ++ xs } in
       so_plain (on_said (supposes a.set inside k.gives) (skipped xs m)) (of_supposes a.set (sees inside) k.gives) (λ n. Goes (put_each k.takes xs n)) (on_leaving (supposes a.set inside k.gives) (skipped xs m) (of_supposes a.set (sees inside) k.gives) (first_of_supposes a.set inside mean k.gives)) (λ n. refl)
 
-  calls : (a : Around) → MeanTables fs a.tables → (k : Plan) (l : Listed) (m : Moment) (os : List Operation) → Listing l os → Leaving (called_with l a k.needs k.modifies (holdings_of k.results) k.gives k.takes m) (os ++ of_call sees a k l m)
+  calls : (a : Around) → MeanTables fs a.tables → (k : Plan) (l : Listed) (m : Moment) (os : List Operation) → Listing l os → Leaving (called_with l a k.needs k.modifies (types_of k.results) k.gives k.takes m) (os ++ of_call sees a k l m)
   calls a mean k (Are args) m os h =
       let inside : Seen = record { tables = a.tables; globals = m.globals; before = m.globals; frame = args } in
-      let rest : Moment → Out = λ n. and_so (forgotten a k.modifies n) (λ u. given_back (chosen (holdings_of k.results) u.choices) a n.globals args k.gives k.takes u) in
-      let more : Moment → List Operation = λ n. behind (forgotten a k.modifies n) (λ u. of_results sees a k n.globals args (chosen (holdings_of k.results) u.choices) u) in
+      let rest : Moment → Out = λ n. and_so (forgotten a k.modifies n) (λ u. given_back (chosen (types_of k.results) u.choices) a n.globals args k.gives k.takes u) in
+      let more : Moment → List Operation = λ n. behind (forgotten a k.modifies n) (λ u. of_results sees a k n.globals args (chosen (types_of k.results) u.choices) u) in
       behind_none (and_so (on_said (checks a.set inside k.needs) m) rest) os (of_checks a.set (sees inside) k.needs ++ behind (on_said (checks a.set inside k.needs) m) more) h
-      (so_leaving (on_said (checks a.set inside k.needs) m) (of_checks a.set (sees inside) k.needs) rest more (on_leaving (checks a.set inside k.needs) m (of_checks a.set (sees inside) k.needs) (first_of_checks a.set inside mean k.needs)) (λ n. so_leaving (forgotten a k.modifies n) [] (λ u. given_back (chosen (holdings_of k.results) u.choices) a n.globals args k.gives k.takes u) (λ u. of_results sees a k n.globals args (chosen (holdings_of k.results) u.choices) u) (forgets a k.modifies n) (λ u. gives a mean k n.globals args (chosen (holdings_of k.results) u.choices) u)))
+      (so_leaving (on_said (checks a.set inside k.needs) m) (of_checks a.set (sees inside) k.needs) rest more (on_leaving (checks a.set inside k.needs) m (of_checks a.set (sees inside) k.needs) (first_of_checks a.set inside mean k.needs)) (λ n. so_leaving (forgotten a k.modifies n) [] (λ u. given_back (chosen (types_of k.results) u.choices) a n.globals args k.gives k.takes u) (λ u. of_results sees a k n.globals args (chosen (types_of k.results) u.choices) u) (forgets a k.modifies n) (λ u. gives a mean k n.globals args (chosen (types_of k.results) u.choices) u)))
   calls a mean k (Leave o) m os h = some_then os [] o h
-  calls a mean k NoScalars m os h = tt
-
-  performs : (z : Bool) (x : Out) (os : List Operation) → Leaving x os → Leaving (if z then x else Unknown) os
-  performs true x os h = h
-  performs false x os h = tt
+  calls a mean k NoValues m os h = tt
 
   first_of_act : (a : Around) → MeanTables fs a.tables → (k : Cmd) (m : Moment) → Leaving (acts a k m) (of_act sees a k m)
   first_of_act a mean (Check ds) m =
@@ -354,7 +386,7 @@ module _ (fs : ℕ → List Val → Val) (cs : List Val) where
   first_of_act a mean (Put xs es) m =
       assigns (worths es (seen_at a m)) xs m (operations_of es (sees (seen_at a m))) (first_of_exs es (seen_at a m) mean)
   first_of_act a mean (Perform k) m =
-      performs (hold_scalars (holdings_of k.results)) _ _ (calls a mean k (worths k.args (seen_at a m)) m (operations_of k.args (sees (seen_at a m))) (first_of_exs k.args (seen_at a m) mean))
+      calls a mean k (worths k.args (seen_at a m)) m (operations_of k.args (sees (seen_at a m))) (first_of_exs k.args (seen_at a m) mean)
   first_of_act a mean Finish m = refl
 
   first_of_acts : (a : Around) → MeanTables fs a.tables → (ks : List Cmd) (m : Moment) → Leaving (acts_each a ks m) (of_acts sees a ks m)
@@ -378,13 +410,15 @@ module _ (fs : ℕ → List Val → Val) (cs : List Val) where
   branches None ks m = refl
   branches (Some j) ks m = goes (slice_get ks j) m
 
-  tests : (x : Worth) (on off : ℕ) (m : Moment) (os : List Operation) → Worthy x os → Leading (test_to x on off m) os
+  tests : (x : WorthOf) (on off : ℕ) (m : Moment) (os : List Operation) → Worthy x os → Leading (test_to x on off m) os
   tests (w.Is (Truth true)) on off m os h = h
   tests (w.Is (Truth false)) on off m os h = h
-  tests (w.Is (Number z)) on off m os h = tt
+  tests (w.Is (Num z)) on off m os h = tt
   tests (w.Is (Element u z)) on off m os h = tt
+  tests (w.Is (Default d)) on off m os h = tt
+  tests (w.Is (Entry q u n)) on off m os h = tt
   tests (w.Leaves o) on off m os h = h
-  tests w.NoScalar on off m os h = tt
+  tests w.NoValue on off m os h = tt
 
   first_of_exit : (a : Around) → MeanTables fs a.tables → (x : Exit) (m : Moment) → Leading (leaves a x m) (of_exit sees a x m)
   first_of_exit a mean (Leap []) m = refl

@@ -1,5 +1,5 @@
 pub mod Puts
-pub mod Holdings
+pub mod FrameTypes
 pub mod Written
 pub mod Plans
 pub mod Runs
@@ -13,3 +13,4 @@ pub mod Tracks
 pub mod Replays
 pub mod More
 pub mod First
+pub mod Bases

@@ -1,20 +1,16 @@
--- A run over scalars that doesn't lack a choice is the same with more choices behind.
+-- A run that doesn't lack a choice is the same with more choices behind.
 use Rattle.std.proofs.Common.{◌≡◌, ℕ, zero, suc, ◌⊎◌, inl, inr, Bool, true, false, if◌then◌else◌, List, [], ◌∷◌, ◌++◌, length, drop, Option, Some, None, slice_get, refl, sym, ap, ◌∙◌, subst}
 use Rattle.bg_ast.specs.Syntax.{Var, Global, Local, Star, Test}
-use Rattle.bg_fits.specs.Holdings.{holdings_of}
-use Rattle.bg_fits.specs.declared.types.Holding.{Holding}
 use Rattle.bg_sense.specs.Flow.{BadChoice}
+use Rattle.bg_sense.specs.Types.{types_of}
+use Rattle.bg_ast.specs.Values.{Val, Num, Truth, Element, Default, Entry, Ty, is_of}
+use Rattle.bg_ast.specs.Execution.{Choice, Branch, Chosen}
 use Rattle.bg_flow.specs.Core.{Demand, Saying, Cmd, Check, Suppose, Forget, Put, Perform, Finish}
 use Rattle.bg_flow.specs.Blocks.{Exit, Leap, Either, Block}
-use Rattle.bg_scalar.specs.Lists.{Listed, Are, Leave, NoScalars, worths}
-use Rattle.bg_scalar.specs.Worths.{worth}
-use Rattle.bg_scalar.specs.declared.choice.Choice.{Choice}
-use Rattle.bg_scalar.specs.declared.choice.Choice.TheVariants as choice
-use Rattle.bg_scalar.specs.declared.scalar.Scalar.{Scalar}
-use Rattle.bg_scalar.specs.declared.scalar.Scalar.TheVariants.{Truth, Number, Element}
-use Rattle.bg_scalar.specs.declared.scalar.Worth.{Worth}
-use Rattle.bg_scalar.specs.declared.scalar.Worth.TheVariants as w
-use Rattle.bg_replay.specs.Holds.{holds, holds_scalars, hold_scalars, held_at}
+use Rattle.bg_scalar.specs.Lists.{Listed, Are, Leave, NoValues, worths}
+use Rattle.bg_scalar.specs.Worths as w
+use Rattle.bg_scalar.specs.Worths.{WorthOf, worth}
+use Rattle.bg_replay.specs.Holds.{variable_type}
 use Rattle.bg_replay.specs.Moments.{Moment, Around, Out, Goes, Over, Outside, Unknown, and_so, seen_at}
 use Rattle.bg_replay.specs.Said.{Said, Fine, Stops, Leaves, Unsaid, on_said, checks, supposes}
 use Rattle.bg_replay.specs.Acts.{taken, behind_one, choose_by, put, put_each, forgotten, assigned, cons_o, chosen, skipped, given_back, called_with, acts}
@@ -47,31 +43,29 @@ module _ (extra : List Choice) where
   said_longer (Leaves o) m = inr refl
   said_longer Unsaid m = inr refl
 
-  put_more : (x : Var) (y : Scalar) (m : Moment) → put x y (more m) ≡ more (put x y m)
+  put_more : (x : Var) (y : Val) (m : Moment) → put x y (more m) ≡ more (put x y m)
   put_more (Global x) y m = refl
   put_more (Local x) y m = refl
 
-  put_each_more : (xs : List Var) (ys : List Scalar) (m : Moment) → put_each xs ys (more m) ≡ more (put_each xs ys m)
+  put_each_more : (xs : List Var) (ys : List Val) (m : Moment) → put_each xs ys (more m) ≡ more (put_each xs ys m)
   put_each_more [] ys m = refl
   put_each_more (x ∷ xs) [] m = refl
   put_each_more (x ∷ xs) (y ∷ ys) m = ap (put_each xs ys) (put_more x y m) ∙ put_each_more xs ys (put x y m)
 
-  chosen_one : (b : Bool) (x : Scalar) (cs : List Choice) (m : Moment) (k l : Scalar → Moment → Out) → ((y : Scalar) (n : Moment) → Longer (k y n) (l y (more n))) → Longer (choose_by (if b then Some x else None) (record m { choices = cs }) k) (choose_by (if b then Some x else None) (record m { choices = cs ++ extra }) l)
+  chosen_one : (b : Bool) (x : Val) (cs : List Choice) (m : Moment) (k l : Val → Moment → Out) → ((y : Val) (n : Moment) → Longer (k y n) (l y (more n))) → Longer (choose_by (if b then Some x else None) (record m { choices = cs }) k) (choose_by (if b then Some x else None) (record m { choices = cs ++ extra }) l)
   chosen_one true x cs m k l h = h x (record m { choices = cs })
   chosen_one false x cs m k l h = inr refl
 
-  choose_longer : (b : Bool) (h : Holding) (cs : List Choice) (m : Moment) (k l : Scalar → Moment → Out) → ((y : Scalar) (n : Moment) → Longer (k y n) (l y (more n))) → Longer (if b then choose_by (taken h cs) (record m { choices = behind_one cs }) k else Unknown) (if b then choose_by (taken h (cs ++ extra)) (record m { choices = behind_one (cs ++ extra) }) l else Unknown)
-  choose_longer false h cs m k l f = inr refl
-  choose_longer true h [] m k l f = inl refl
-  choose_longer true h (choice.Branch j ∷ cs) m k l f = inr refl
-  choose_longer true h (choice.Chosen x ∷ cs) m k l f = chosen_one (holds h x) x cs m k l f
+  choose_longer : (h : Ty) (cs : List Choice) (m : Moment) (k l : Val → Moment → Out) → ((y : Val) (n : Moment) → Longer (k y n) (l y (more n))) → Longer (choose_by (taken h cs) (record m { choices = behind_one cs }) k) (choose_by (taken h (cs ++ extra)) (record m { choices = behind_one (cs ++ extra) }) l)
+  choose_longer h [] m k l f = inl refl
+  choose_longer h (Branch j ∷ cs) m k l f = inr refl
+  choose_longer h (Chosen x ∷ cs) m k l f = chosen_one (is_of h x) x cs m k l f
 
   forgotten_longer : (a : Around) (xs : List Var) (m : Moment) → Longer (forgotten a xs m) (forgotten a xs (more m))
   forgotten_longer a [] m = inr refl
   forgotten_longer a (x ∷ xs) m =
       choose_longer
-      (holds_scalars (held_at a x))
-      (held_at a x)
+      (variable_type a x)
       m.choices
       m
       (λ y n. forgotten a xs (put x y n))
@@ -81,42 +75,42 @@ module _ (extra : List Choice) where
   assigned_longer : (ys : Listed) (xs : List Var) (m : Moment) → Longer (assigned ys xs m) (assigned ys xs (more m))
   assigned_longer (Are ys) xs m = inr (ap Goes (put_each_more xs ys m))
   assigned_longer (Leave o) xs m = inr refl
-  assigned_longer NoScalars xs m = inr refl
+  assigned_longer NoValues xs m = inr refl
 
   -- ---- results of a call
 
   -- so many choices are there
-  record Chooses (hs : List Holding) (cs : List Choice) (xs : List Scalar) : Type 0 where
+  record Chooses (hs : List Ty) (cs : List Choice) (xs : List Val) : Type 0 where
     same : chosen hs (cs ++ extra) ≡ Some xs
     behind : drop (length xs) (cs ++ extra) ≡ drop (length xs) cs ++ extra
 
-  one_more : (b : Bool) (x : Scalar) (o : Option (List Scalar)) (xs : List Scalar) → cons_o (if b then Some x else None) o ≡ Some xs → (b ≡ true) × ((ys : List Scalar) × (o ≡ Some ys) × (x ∷ ys ≡ xs))
+  one_more : (b : Bool) (x : Val) (o : Option (List Val)) (xs : List Val) → cons_o (if b then Some x else None) o ≡ Some xs → (b ≡ true) × ((ys : List Val) × (o ≡ Some ys) × (x ∷ ys ≡ xs))
   one_more true x None xs e = absurd (let bad : ⊥ = cc in bad)
   one_more true x (Some ys) xs e = (refl, (ys, refl, (let same : x ∷ ys ≡ xs = cc in same)))
   one_more false x o xs e = absurd (let bad : ⊥ = cc in bad)
 
-  chosen_more : (hs : List Holding) (cs : List Choice) (xs : List Scalar) → chosen hs cs ≡ Some xs → Chooses hs cs xs
+  chosen_more : (hs : List Ty) (cs : List Choice) (xs : List Val) → chosen hs cs ≡ Some xs → Chooses hs cs xs
   chosen_more [] cs xs e =
       let none : [] ≡ xs = cc in
       record { same = e; behind = subst (λ ys. drop (length ys) (cs ++ extra) ≡ drop (length ys) cs ++ extra) none refl }
   chosen_more (h ∷ hs) [] xs e = absurd (let bad : ⊥ = cc in bad)
-  chosen_more (h ∷ hs) (choice.Branch j ∷ cs) xs e = absurd (let bad : ⊥ = cc in bad)
-  chosen_more (h ∷ hs) (choice.Chosen x ∷ cs) xs e =
-      let p = one_more (holds h x) x (chosen hs cs) xs e in
+  chosen_more (h ∷ hs) (Branch j ∷ cs) xs e = absurd (let bad : ⊥ = cc in bad)
+  chosen_more (h ∷ hs) (Chosen x ∷ cs) xs e =
+      let p = one_more (is_of h x) x (chosen hs cs) xs e in
       let rest = chosen_more hs cs p.1.0 p.1.1 in
       record {
-        same = ap (λ (b : Bool). cons_o (if b then Some x else None) (chosen hs (cs ++ extra))) p.0 ∙ (ap (cons_o (Some x)) rest.same ∙ ap (λ (l : List Scalar). Some l) p.1.2);
-        behind = subst (λ ys. drop (length ys) ((choice.Chosen x ∷ cs) ++ extra) ≡ drop (length ys) (choice.Chosen x ∷ cs) ++ extra) p.1.2 rest.behind;
+        same = ap (λ (b : Bool). cons_o (if b then Some x else None) (chosen hs (cs ++ extra))) p.0 ∙ (ap (cons_o (Some x)) rest.same ∙ ap (λ (l : List Val). Some l) p.1.2);
+        behind = subst (λ ys. drop (length ys) ((Chosen x ∷ cs) ++ extra) ≡ drop (length ys) (Chosen x ∷ cs) ++ extra) p.1.2 rest.behind;
       }
 
-  given_longer : (o : Option (List Scalar)) (hs : List Holding) (a : Around) (was args : List Scalar) (gives : List Saying) (takes : List Var) (m : Moment) → chosen hs m.choices ≡ o → Longer (given_back o a was args gives takes m) (given_back (chosen hs (m.choices ++ extra)) a was args gives takes (more m))
+  given_longer : (o : Option (List Val)) (hs : List Ty) (a : Around) (was args : List Val) (gives : List Saying) (takes : List Var) (m : Moment) → chosen hs m.choices ≡ o → Longer (given_back o a was args gives takes m) (given_back (chosen hs (m.choices ++ extra)) a was args gives takes (more m))
   given_longer None hs a was args gives takes m e = inl refl
   given_longer (Some xs) hs a was args gives takes m e =
       let c = chosen_more hs m.choices xs e in
       let moments : skipped xs (more m) ≡ more (skipped xs m) = ap (λ (cs : List Choice). record m { choices = cs }) c.behind in
       let says = λ (t : Moment). on_said (supposes a.set (record { tables = a.tables; globals = t.globals; before = was; frame = args ++ xs }) gives) t in
       subst
-      (λ (z : Option (List Scalar)). Longer (given_back (Some xs) a was args gives takes m) (given_back z a was args gives takes (more m)))
+      (λ (z : Option (List Val)). Longer (given_back (Some xs) a was args gives takes m) (given_back z a was args gives takes (more m)))
       (sym c.same)
       (subst
       (λ (t : Moment). Longer (given_back (Some xs) a was args gives takes m) (and_so (on_said (supposes a.set (record { tables = a.tables; globals = t.globals; before = was; frame = args ++ xs }) gives) t) (λ s. Goes (put_each takes xs s))))
@@ -129,9 +123,9 @@ module _ (extra : List Choice) where
       (said_longer (supposes a.set (record { tables = a.tables; globals = m.globals; before = was; frame = args ++ xs }) gives) (skipped xs m))
       (λ s. inr (ap Goes (put_each_more takes xs s)))))
 
-  called_with_longer : (ys : Listed) (a : Around) (needs : List Demand) (modifies : List Var) (hs : List Holding) (gives : List Saying) (takes : List Var) (m : Moment) → Longer (called_with ys a needs modifies hs gives takes m) (called_with ys a needs modifies hs gives takes (more m))
+  called_with_longer : (ys : Listed) (a : Around) (needs : List Demand) (modifies : List Var) (hs : List Ty) (gives : List Saying) (takes : List Var) (m : Moment) → Longer (called_with ys a needs modifies hs gives takes m) (called_with ys a needs modifies hs gives takes (more m))
   called_with_longer (Leave o) a needs modifies hs gives takes m = inr refl
-  called_with_longer NoScalars a needs modifies hs gives takes m = inr refl
+  called_with_longer NoValues a needs modifies hs gives takes m = inr refl
   called_with_longer (Are args) a needs modifies hs gives takes m =
       and_longer
       _
@@ -147,21 +141,13 @@ module _ (extra : List Choice) where
       (forgotten_longer a modifies n)
       (λ u. given_longer (chosen hs u.choices) hs a n.globals args gives takes u refl))
 
-  if_longer : (b : Bool) (x y : Out) → Longer x y → Longer (if b then x else Unknown) (if b then y else Unknown)
-  if_longer true x y h = h
-  if_longer false x y h = inr refl
-
   acts_longer : (a : Around) (k : Cmd) (m : Moment) → Longer (acts a k m) (acts a k (more m))
   acts_longer a (Check ds) m = said_longer (checks a.set (seen_at a m) ds) m
   acts_longer a (Suppose ds) m = said_longer (supposes a.set (seen_at a m) ds) m
   acts_longer a (Forget xs) m = forgotten_longer a xs m
   acts_longer a (Put xs es) m = assigned_longer (worths es (seen_at a m)) xs m
   acts_longer a (Perform k) m =
-      if_longer
-      (hold_scalars (holdings_of k.results))
-      (called_with (worths k.args (seen_at a m)) a k.needs k.modifies (holdings_of k.results) k.gives k.takes m)
-      (called_with (worths k.args (seen_at a m)) a k.needs k.modifies (holdings_of k.results) k.gives k.takes (more m))
-      (called_with_longer (worths k.args (seen_at a m)) a k.needs k.modifies (holdings_of k.results) k.gives k.takes m)
+      called_with_longer (worths k.args (seen_at a m)) a k.needs k.modifies (types_of k.results) k.gives k.takes m
   acts_longer a Finish m = inr refl
 
   each_longer : (a : Around) (ks : List Cmd) (m : Moment) → Longer (acts_each a ks m) (acts_each a ks (more m))
@@ -185,16 +171,18 @@ module _ (extra : List Choice) where
 
   branch_further : (cs : List Choice) (ks : List ℕ) (m : Moment) → Further (branch_to (branched cs) ks (record m { choices = behind_one cs })) (branch_to (branched (cs ++ extra)) ks (record m { choices = behind_one (cs ++ extra) }))
   branch_further [] ks m = inl refl
-  branch_further (choice.Branch j ∷ cs) ks m = go_further (slice_get ks j) (record m { choices = cs })
-  branch_further (choice.Chosen x ∷ cs) ks m = inr refl
+  branch_further (Branch j ∷ cs) ks m = go_further (slice_get ks j) (record m { choices = cs })
+  branch_further (Chosen x ∷ cs) ks m = inr refl
 
-  test_further : (x : Worth) (on off : ℕ) (m : Moment) → Further (test_to x on off m) (test_to x on off (more m))
+  test_further : (x : WorthOf) (on off : ℕ) (m : Moment) → Further (test_to x on off m) (test_to x on off (more m))
   test_further (w.Is (Truth true)) on off m = inr refl
   test_further (w.Is (Truth false)) on off m = inr refl
-  test_further (w.Is (Number z)) on off m = inr refl
+  test_further (w.Is (Num z)) on off m = inr refl
   test_further (w.Is (Element u z)) on off m = inr refl
+  test_further (w.Is (Default d)) on off m = inr refl
+  test_further (w.Is (Entry q u n)) on off m = inr refl
   test_further (w.Leaves o) on off m = inr refl
-  test_further w.NoScalar on off m = inr refl
+  test_further w.NoValue on off m = inr refl
 
   leaves_further : (a : Around) (x : Exit) (m : Moment) → Further (leaves a x m) (leaves a x (more m))
   leaves_further a (Leap []) m = inr refl

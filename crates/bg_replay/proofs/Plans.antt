@@ -13,15 +13,11 @@ use Rattle.bg_ast.specs.declared.resolved.Procedure.{Procedure}
 use Rattle.bg_ast.specs.declared.resolved.Variable.{Variable}
 use Rattle.bg_sense.specs.Flow.{Blocked}
 use Rattle.bg_sense.specs.Variables.{wheres_of, wheres_at, wheres_in, modified}
+use Rattle.bg_ast.specs.Values.{Val, Num, Truth, Element, Default, Entry, Ty}
 use Rattle.bg_flow.specs.Core.{Demand, Saying, Plan, Perform, demands, sayings, plain, each_one, plan_of, still}
 use Rattle.bg_blocks.specs.Views.{clauses_in, procedure_in}
-use Rattle.bg_scalar.specs.Worths.{Seen, worth}
-use Rattle.bg_fits.specs.declared.types.Holding.{Holding}
+use Rattle.bg_scalar.specs.Worths.{Seen, WorthOf, Is, Leaves, NoValue, worth}
 use Rattle.bg_scalar.specs.Lists.{Are}
-use Rattle.bg_scalar.specs.declared.scalar.Scalar.{Scalar}
-use Rattle.bg_scalar.specs.declared.scalar.Scalar.TheVariants.{Truth, Number, Element}
-use Rattle.bg_scalar.specs.declared.scalar.Worth.{Worth}
-use Rattle.bg_scalar.specs.declared.scalar.Worth.TheVariants.{Is, Leaves, NoScalar}
 use Rattle.bg_replay.specs.Holds.{results_in}
 use Rattle.bg_replay.specs.Moments.{Moment, Around, Out, and_so}
 use Rattle.bg_replay.specs.Said.{Said, or_stops, then_said, Fine, checks, supposes, on_said}
@@ -39,13 +35,15 @@ so_over ends.BadChoice n g = refl
 so_over (ends.OutOfRange o) n g = refl
 so_over ends.NoScalars n g = refl
 
-then_fine : (a : Worth) → then_said (or_stops Blocked a) Fine ≡ or_stops Blocked a
+then_fine : (a : WorthOf) → then_said (or_stops Blocked a) Fine ≡ or_stops Blocked a
 then_fine (Is (Truth true)) = refl
 then_fine (Is (Truth false)) = refl
-then_fine (Is (Number z)) = refl
+then_fine (Is (Num z)) = refl
 then_fine (Is (Element u z)) = refl
+then_fine (Is (Default d)) = refl
+then_fine (Is (Entry q u n)) = refl
 then_fine (Leaves o) = refl
-then_fine NoScalar = refl
+then_fine NoValue = refl
 
 -- one assumption
 pub assumes_one : (set : ℕ → Bool) (w : Seen) (e : s.Ex) → supposes set w (plain (e ∷ []) []) ≡ or_stops Blocked (worth e w)
@@ -80,10 +78,17 @@ plan_called p k q xs a n =
     ap (λ (l : List Saying). called a plan.args plan.needs (map var_of xs) (results_in p (map declared_of q.results.items)) l plan.takes n) (sym gives)
 
 -- a call whose clauses hold and whose globals are forgotten goes on with its results
-pub call_goes : (a : Around) (args was : List Scalar) (needs : List Demand) (modifies : List Var) (results : List Holding) (gives : List Saying) (takes : List Var) (n u : Moment) (checked forgot : Said) → checked ≡ checks a.set (record { tables = a.tables; globals = n.globals; before = n.globals; frame = args }) needs → checked ≡ Fine → on_said forgot u ≡ forgotten a modifies n → forgot ≡ Fine → was ≡ n.globals → given_back (chosen results u.choices) a was args gives takes u ≡ called_with (Are args) a needs modifies results gives takes n
+pub call_goes : (a : Around) (args was : List Val) (needs : List Demand) (modifies : List Var) (results : List Ty) (gives : List Saying) (takes : List Var) (n u : Moment) (checked forgot : Said) → checked ≡ checks a.set (record { tables = a.tables; globals = n.globals; before = n.globals; frame = args }) needs → checked ≡ Fine → on_said forgot u ≡ forgotten a modifies n → forgot ≡ Fine → was ≡ n.globals → given_back (chosen results u.choices) a was args gives takes u ≡ called_with (Are args) a needs modifies results gives takes n
 call_goes a args was needs modifies results gives takes n u checked forgot c cf f ff w =
     let back : Moment → Moment → Out = λ t v. given_back (chosen results v.choices) a t.globals args gives takes v in
     let on : Moment → Out = λ t. and_so (forgotten a modifies t) (back t) in
     ap (λ gs. given_back (chosen results u.choices) a gs args gives takes u) w
     ∙ (ap (λ x. and_so (on_said x u) (back n)) (sym ff)
     ∙ (ap (λ o. and_so o (back n)) f ∙ ap (λ x. and_so (on_said x n) on) (sym cf ∙ c)))
+
+-- a call one of whose clauses doesn't hold is over
+pub call_stops : (a : Around) (args : List Val) (needs : List Demand) (modifies : List Var) (results : List Ty) (gives : List Saying) (takes : List Var) (n : Moment) (e : Ending) (checked : Said) → checked ≡ checks a.set (record { tables = a.tables; globals = n.globals; before = n.globals; frame = args }) needs → checked ≡ said_by e → on_said (said_by e) n ≡ called_with (Are args) a needs modifies results gives takes n
+call_stops a args needs modifies results gives takes n e checked c is =
+    let back : Moment → Moment → Out = λ t v. given_back (chosen results v.choices) a t.globals args gives takes v in
+    let on : Moment → Out = λ t. and_so (forgotten a modifies t) (back t) in
+    sym (so_over e n on) ∙ ap (λ x. and_so (on_said x n) on) (sym is ∙ c)

@@ -3,7 +3,7 @@ use Rattle.std.proofs.Common.{◌≡◌, ℕ, zero, suc, Bool, List, [], ◌∷�
 use Rattle.std.specs.Prelude.{slice_get}
 use Rattle.bg_ast.specs.Resolved as r
 use Rattle.bg_ast.specs.Meaning as m
-use Rattle.bg_ast.specs.Execution.{Interp}
+use Rattle.bg_ast.specs.Execution.{Interp, Choice}
 use Rattle.bg_ast.specs.Views.{impl_of, proc_of}
 use Rattle.bg_ast.specs.declared.resolved.Implementation.{Implementation}
 use Rattle.bg_ast.specs.declared.resolved.Procedure.{Procedure}
@@ -11,19 +11,16 @@ use Rattle.bg_sense.specs.Eval.{body_of, functions_of}
 use Rattle.bg_sense.specs.Flow.{Answer}
 use Rattle.bg_sense.specs.Context.{Cut}
 use Rattle.bg_sense.specs.Run.{context, start, induction_run}
+use Rattle.bg_sense.specs.Types.{types_of}
+use Rattle.bg_ast.specs.Values.{Val, Table, Ty}
 use Rattle.bg_flow.specs.Blocks.{blocks_run}
 use Rattle.bg_flow.specs.Blocks as flow
 use Rattle.bg_flow.proofs.BlockRuns.{blocks_same}
-use Rattle.bg_fits.specs.Holdings.{holdings_of}
-use Rattle.bg_fits.specs.declared.types.Holding.{Holding}
 use Rattle.bg_blocks.specs.Views.{block_of}
 use Rattle.bg_blocks.specs.Whole.{AreBlocks}
 use Rattle.bg_blocks.specs.declared.block.Block.{Block}
-use Rattle.bg_scalar.specs.Tables.{TableOf}
-use Rattle.bg_scalar.specs.Values.{tables_of, MeanTables}
-use Rattle.bg_scalar.specs.Choices.{choice_of, state_of}
-use Rattle.bg_scalar.specs.declared.choice.Choice.{Choice}
-use Rattle.bg_scalar.specs.declared.scalar.Scalar.{Scalar}
+use Rattle.bg_scalar.specs.Values.{MeanTables}
+use Rattle.bg_scalar.specs.Choices.{state_of}
 use Rattle.bg_scalar.proofs.Tabled.{mean_tables}
 use Rattle.bg_replay.specs.Said.{Said, Fine, Stops, Leaves, Unsaid}
 use Rattle.bg_replay.specs.Ways.{runs}
@@ -40,8 +37,8 @@ run_answer (Stops z) y x h e = let same : z ≡ x = cc in h ∙ same
 run_answer (Leaves o) y x h e = absurd cc
 run_answer Unsaid y x h e = absurd cc
 
--- the ending of the run over scalars is the answer of the execution, where it is one
-right_is : (p : r.Program) (i : Interp) (number : ℕ) (im : r.Impl) (q : r.Proc) (set : List Bool) (bs : List Block) (ts : List TableOf) (gs fs : List Scalar) (cs : List Choice) (ending : Ending) → MeanTables (functions_of (m.meaning_of p) i) ts → said_by ending ≡ runs (around_in p im q set ts gs) 0 (map (block_of p) bs) (moment_in gs fs cs) → IsRight ending (blocks_run (context Cut (m.meaning_of p) (set_of set) i number (m.impl_of (m.named_of p.types) im) (m.proc_of (m.named_of p.types) q) (state_of gs fs)) (map (block_of p) bs) (start (state_of gs fs) (map choice_of cs) 0))
+-- the ending of the run is the answer of the execution, where it is one
+right_is : (p : r.Program) (i : Interp) (number : ℕ) (im : r.Impl) (q : r.Proc) (set : List Bool) (bs : List Block) (ts : List Table) (gs fs : List Val) (cs : List Choice) (ending : Ending) → MeanTables (functions_of (m.meaning_of p) i) ts → said_by ending ≡ runs (around_in p im q set ts gs) 0 (map (block_of p) bs) (moment_in gs fs cs) → IsRight ending (blocks_run (context Cut (m.meaning_of p) (set_of set) i number (m.impl_of (m.named_of p.types) im) (m.proc_of (m.named_of p.types) q) (state_of gs fs)) (map (block_of p) bs) (start (state_of gs fs) cs 0))
 right_is p i number im q set bs ts gs fs cs ending mean e x s =
     let a = around_in p im q set ts gs in
     let w = moment_in gs fs cs in
@@ -54,15 +51,15 @@ item_map f (y ∷ xs) zero x h = let same : y ≡ x = cc in ap (λ z. Some (f z)
 item_map f (y ∷ xs) (suc k) x h = item_map f xs k x h
 
 -- the blocks that are made of an implementation run as it does
-pub induction_is : (p : r.Program) (set : List Bool) (i : Interp) (number : ℕ) (im : r.Impl) (q : r.Proc) (bs : List Block) (ts : List TableOf) (gs fs : List Scalar) (cs : List Choice) (ending : Ending) → ((f : ℕ) → body_of (slice_get (m.meaning_of p).functions f) ≡ None) → i.tables ≡ tables_of ts → slice_get p.implementations number ≡ Some im → slice_get p.procedures im.procedure ≡ Some q → AreBlocks p number im q bs → IsReplay p bs set number im q ts gs fs cs ending → IsRight ending (induction_run (m.meaning_of p) (set_of set) i number (state_of gs fs) (map choice_of cs))
+pub induction_is : (p : r.Program) (set : List Bool) (i : Interp) (number : ℕ) (im : r.Impl) (q : r.Proc) (bs : List Block) (ts : List Table) (gs fs : List Val) (cs : List Choice) (ending : Ending) → ((f : ℕ) → body_of (slice_get (m.meaning_of p).functions f) ≡ None) → i.tables ≡ ts → slice_get p.implementations number ≡ Some im → slice_get p.procedures im.procedure ≡ Some q → AreBlocks p number im q bs → IsReplay p bs set number im q ts gs fs cs ending → IsRight ending (induction_run (m.meaning_of p) (set_of set) i number (state_of gs fs) cs)
 induction_is p set i number im q bs ts gs fs cs ending bare has hm hq made right x s =
     let named = m.named_of p.types in
     let c = context Cut (m.meaning_of p) (set_of set) i number (m.impl_of named im) (m.proc_of named q) (state_of gs fs) in
-    sym (blocks_same (m.meaning_of p) (set_of set) i number (m.impl_of named im) (m.proc_of named q) (state_of gs fs) (map choice_of cs) (item_map (m.impl_of named) p.implementations number im hm) (item_map (m.proc_of named) p.procedures im.procedure q hq))
-    ∙ (sym (ap (λ (l : List flow.Block). blocks_run c l (start (state_of gs fs) (map choice_of cs) 0)) made) ∙ right.right i (mean_tables (m.meaning_of p) i ts bare has) x s)
+    sym (blocks_same (m.meaning_of p) (set_of set) i number (m.impl_of named im) (m.proc_of named q) (state_of gs fs) cs (item_map (m.impl_of named) p.implementations number im hm) (item_map (m.proc_of named) p.procedures im.procedure q hq))
+    ∙ (sym (ap (λ (l : List flow.Block). blocks_run c l (start (state_of gs fs) cs 0)) made) ∙ right.right i (subst (MeanTables (functions_of (m.meaning_of p) i)) has (mean_tables (m.meaning_of p) i bare)) x s)
 
--- a replay whose ending is that of the run over scalars, with the code's values and holdings
-pub replays : (p : r.Program) (im : r.Impl) (q : r.Proc) (set : List Bool) (bs : List Block) (ts : List TableOf) (gs gs' fs fs' : List Scalar) (gh fh : List Holding) (cs : List Choice) (ending : Ending) → gs' ≡ gs → fs' ≡ fs → gh ≡ holdings_of (m.meaning_of p).globals → fh ≡ holdings_of (frame_in p im q) → said_by ending ≡ runs (record { set = set_of set; tables = ts; before = gs; globals = gh; frame = fh }) 0 (map (block_of p) bs) (moment_in gs' fs' cs) → (number : ℕ) → IsReplay p bs set number im q ts gs fs cs ending
+-- a replay whose ending is that of the run, with the code's values and types
+pub replays : (p : r.Program) (im : r.Impl) (q : r.Proc) (set : List Bool) (bs : List Block) (ts : List Table) (gs gs' fs fs' : List Val) (gh fh : List Ty) (cs : List Choice) (ending : Ending) → gs' ≡ gs → fs' ≡ fs → gh ≡ types_of (m.meaning_of p).globals → fh ≡ types_of (frame_in p im q) → said_by ending ≡ runs (record { set = set_of set; tables = ts; before = gs; globals = gh; frame = fh }) 0 (map (block_of p) bs) (moment_in gs' fs' cs) → (number : ℕ) → IsReplay p bs set number im q ts gs fs cs ending
 replays p im q set bs ts gs gs' fs fs' gh fh cs ending eg ef hg hf e number =
     let is : said_by ending ≡ runs (around_in p im q set ts gs) 0 (map (block_of p) bs) (moment_in gs fs cs) =
     e ∙ rw (eg, ef, hg, hf) refl in

@@ -1,24 +1,20 @@
--- Runs of blocks over scalars are their runs.
-use Rattle.std.proofs.Common.{◌≡◌, ℕ, zero, suc, Bool, true, false, List, [], ◌∷◌, length, map, Option, Some, None, refl}
+-- Runs of blocks are their executions.
+use Rattle.std.proofs.Common.{◌≡◌, ℕ, zero, suc, Bool, true, false, List, [], ◌∷◌, length, Option, Some, None, refl}
 use Rattle.std.specs.Prelude.{if◌then◌else◌, ◌==◌, slice_get, nat_lt, unwrap_or}
-use Rattle.bg_ast.specs.Values.{Val, truth_of}
+use Rattle.bg_ast.specs.Values.{Val, Num, Truth, Element, Default, Entry, truth_of}
 use Rattle.bg_ast.specs.Syntax.{Guard, Star, Test, Decl, Prog}
 use Rattle.bg_ast.specs.Execution as e
+use Rattle.bg_ast.specs.Execution.{Choice, Branch, Chosen}
 use Rattle.bg_sense.specs.Eval.{ev, functions_of}
 use Rattle.bg_sense.specs.Flow as f
-use Rattle.bg_sense.specs.Flow.{World, Answer, Ended, BadChoice, Flow, Next, Jumps, Behind, and_then}
+use Rattle.bg_sense.specs.Flow.{Answer, BadChoice, Flow, Jumps, Behind, and_then}
 use Rattle.bg_sense.specs.Context.{Ctx, scope}
 use Rattle.bg_sense.specs.Choices.{branch_from, decide}
 use Rattle.bg_flow.specs.Core.{act_all}
 use Rattle.bg_flow.specs.Blocks.{Block, Exit, Leap, Either, Table, at_table, enter, index, leave, table}
-use Rattle.bg_scalar.specs.Worths.{worth}
-use Rattle.bg_scalar.specs.Choices.{choice_of}
+use Rattle.bg_scalar.specs.Worths as worths
+use Rattle.bg_scalar.specs.Worths.{WorthOf, worth}
 use Rattle.bg_scalar.specs.Values.{MeanTables}
-use Rattle.bg_scalar.specs.declared.choice.Choice.{Choice}
-use Rattle.bg_scalar.specs.declared.choice.Choice.TheVariants as choice
-use Rattle.bg_scalar.specs.declared.scalar.Scalar.TheVariants.{Truth, Number, Element}
-use Rattle.bg_scalar.specs.declared.scalar.Worth.{Worth}
-use Rattle.bg_scalar.specs.declared.scalar.Worth.TheVariants as worths
 use Rattle.bg_scalar.proofs.Agreeing as scalar
 use Rattle.bg_replay.specs.Moments.{Moment, Around, Out, Goes, Over, Outside, Unknown, world_of, seen_at}
 use Rattle.bg_replay.specs.Said.{Said, Fine, Stops, Leaves, Unsaid}
@@ -28,7 +24,7 @@ use Rattle.bg_replay.proofs.Less.{is_some, some_at}
 use Rattle.bg_replay.proofs.Agreeing.{Agrees, ctx, Declares}
 use Rattle.bg_replay.proofs.Calling.{all_acts_agree}
 
--- where a block leads over scalars is where it leads, in front of these blocks
+-- where a block leads is where it leads in the execution, in front of these blocks
 abbrev EnterIs : Table → Way → Flow → Type 0
 EnterIs t (On k m) w = enter t index w ≡ at_table t k (world_of m)
 EnterIs t (Off x) w = enter t index w ≡ x
@@ -49,11 +45,11 @@ module _ (t : Table) where
   here_or (Some k) true d m h = refl
   here_or (Some k) false d m h = absurd cc
 
-  branches : (cs : List Choice) (k : ℕ) (ks : List ℕ) (m : Moment) → EnterIs t (branch_to (branched cs) (k ∷ ks) (record m { choices = behind_one cs })) (branch_from (map choice_of cs) (suc (length ks)) (world_of m) (λ j u. Jumps (Behind (unwrap_or (slice_get (k ∷ ks) j) k)) u))
+  branches : (cs : List Choice) (k : ℕ) (ks : List ℕ) (m : Moment) → EnterIs t (branch_to (branched cs) (k ∷ ks) (record m { choices = behind_one cs })) (branch_from cs (suc (length ks)) (world_of m) (λ j u. Jumps (Behind (unwrap_or (slice_get (k ∷ ks) j) k)) u))
   branches [] k ks m = refl
-  branches (choice.Branch j ∷ cs) k ks m =
+  branches (Branch j ∷ cs) k ks m =
       here_or (slice_get (k ∷ ks) j) (nat_lt j (suc (length ks))) k (record m { choices = cs }) (some_at (k ∷ ks) j)
-  branches (choice.Chosen x ∷ cs) k ks m = refl
+  branches (Chosen x ∷ cs) k ks m = refl
 
   side_or : (j : ℕ) (b : Bool) (on off : ℕ) (m : Moment) → is_some (slice_get (on ∷ off ∷ []) j) ≡ b → EnterIs t (go_to (slice_get (on ∷ off ∷ []) j) m) (if b then (if j == 0 then Jumps (Behind on) (world_of m) else Jumps (Behind off) (world_of m)) else f.Over BadChoice)
   side_or zero true on off m h = refl
@@ -63,19 +59,21 @@ module _ (t : Table) where
   side_or (suc (suc j)) true on off m h = absurd cc
   side_or (suc (suc j)) false on off m h = refl
 
-  sides : (cs : List Choice) (on off : ℕ) (m : Moment) → EnterIs t (branch_to (branched cs) (on ∷ off ∷ []) (record m { choices = behind_one cs })) (branch_from (map choice_of cs) 2 (world_of m) (λ k u. if k == 0 then Jumps (Behind on) u else Jumps (Behind off) u))
+  sides : (cs : List Choice) (on off : ℕ) (m : Moment) → EnterIs t (branch_to (branched cs) (on ∷ off ∷ []) (record m { choices = behind_one cs })) (branch_from cs 2 (world_of m) (λ k u. if k == 0 then Jumps (Behind on) u else Jumps (Behind off) u))
   sides [] on off m = refl
-  sides (choice.Branch j ∷ cs) on off m =
+  sides (Branch j ∷ cs) on off m =
       side_or j (nat_lt j 2) on off (record m { choices = cs }) (some_at (on ∷ off ∷ []) j)
-  sides (choice.Chosen x ∷ cs) on off m = refl
+  sides (Chosen x ∷ cs) on off m = refl
 
-  tests : (o : Worth) (x : Val) (on off : ℕ) (m : Moment) → scalar.Agrees o x → EnterIs t (test_to o on off m) (if truth_of x then Jumps (Behind on) (world_of m) else Jumps (Behind off) (world_of m))
+  tests : (o : WorthOf) (x : Val) (on off : ℕ) (m : Moment) → scalar.Agrees o x → EnterIs t (test_to o on off m) (if truth_of x then Jumps (Behind on) (world_of m) else Jumps (Behind off) (world_of m))
   tests (worths.Is (Truth true)) x on off m h = rw h refl
   tests (worths.Is (Truth false)) x on off m h = rw h refl
-  tests (worths.Is (Number z)) x on off m h = tt
+  tests (worths.Is (Num z)) x on off m h = tt
   tests (worths.Is (Element u z)) x on off m h = tt
+  tests (worths.Is (Default d)) x on off m h = tt
+  tests (worths.Is (Entry q u n)) x on off m h = tt
   tests (worths.Leaves o) x on off m h = tt
-  tests worths.NoScalar x on off m h = tt
+  tests worths.NoValue x on off m h = tt
 
 module _ (p : Prog) (i : e.Interp) (number : ℕ) (ds : List Decl) (a : Around) (mean : MeanTables (functions_of p i) a.tables) where
   abbrev c : Ctx

@@ -1,9 +1,9 @@
--- Runs of typed blocks over scalars meet nothing else: commands, ways and blocks.
-use Rattle.std.proofs.Common.{◌≡◌, ℕ, zero, suc, Bool, true, false, List, [], ◌∷◌, ◌++◌, map, Option, Some, None, refl, ap, sym, ◌∙◌, subst}
+-- Runs of typed blocks meet nothing of another type than it should be: commands, ways and blocks.
+use Rattle.std.proofs.Common.{◌≡◌, ℕ, zero, suc, true, false, List, [], ◌∷◌, ◌++◌, map, Option, Some, None, refl, ap, sym, ◌∙◌, subst}
 use Rattle.std.specs.Prelude.{if◌then◌else◌, ◌&&◌, slice_get}
-use Rattle.bg_ast.specs.Values.{Ty, BoolTy, is_of}
+use Rattle.bg_ast.specs.Values.{Val, Num, Truth, Element, Default, Entry, Ty, BoolTy, is_of}
+use Rattle.bg_ast.specs.Execution.{Choice}
 use Rattle.bg_ast.specs.Syntax.{Var, Global, Local, Star, Test, Decl, Prog}
-use Rattle.bg_fits.specs.Holdings.{holding_of, holdings_of}
 use Rattle.bg_sense.specs.Types.{are_of, types_of}
 use Rattle.bg_sense.specs.Typing.{Sig}
 use Rattle.bg_sense.proofs.Bools.{and_left, and_right}
@@ -11,27 +11,23 @@ use Rattle.bg_flow.specs.Core.{Saying, Plan, Cmd, Check, Suppose, Forget, Put, P
 use Rattle.bg_flow.specs.Blocks.{Exit, Leap, Either, Block}
 use Rattle.bg_passive.specs.Incarnations.{ty_of}
 use Rattle.bg_block_types.specs.TypedFlow.{sig_with, sig_here, SayingsAreTyped, PlanIsTyped, CmdIsTyped, CmdsAreTyped, ExitIsTyped, CodeIsTyped}
-use Rattle.bg_scalar.specs.Worths.{Seen, worth}
-use Rattle.bg_scalar.specs.Lists.{Listed, Are, Leave, NoScalars, worths}
-use Rattle.bg_scalar.specs.Typed.{are_scalar, Sees, HasWorth, HaveWorths}
-use Rattle.bg_scalar.specs.Values.{val_of}
-use Rattle.bg_scalar.specs.declared.choice.Choice.{Choice}
-use Rattle.bg_scalar.specs.declared.scalar.Scalar.{Scalar}
-use Rattle.bg_scalar.specs.declared.scalar.Scalar.TheVariants.{Truth, Number, Element}
-use Rattle.bg_scalar.specs.declared.scalar.Worth.{Worth}
-use Rattle.bg_scalar.specs.declared.scalar.Worth.TheVariants as is_worth
+use Rattle.bg_scalar.specs.Worths as is_worth
+use Rattle.bg_scalar.specs.Worths.{Seen, WorthOf, worth}
+use Rattle.bg_scalar.specs.Lists.{Listed, Are, Leave, NoValues, worths}
+use Rattle.bg_scalar.specs.Typed.{are_valued, Sees, HasWorth, HaveWorths}
+use Rattle.bg_scalar.proofs.Tabled.{said_typed}
 use Rattle.bg_scalar.proofs.Typing.{has_worth, have_worths}
-use Rattle.bg_replay.specs.Holds.{holds_scalars, hold_scalars, held, held_at}
+use Rattle.bg_replay.specs.Holds.{type_at, variable_type}
 use Rattle.bg_replay.specs.Moments.{Moment, Around, Out, Goes, Over, Outside, Unknown, and_so, seen_at}
 use Rattle.bg_replay.specs.Said.{Said, Fine, Stops, Leaves, Unsaid, on_said, checks, supposes}
 use Rattle.bg_replay.specs.Acts.{taken, moved, choose_by, put, put_each, forgotten, assigned, chosen, skipped, given_back, called_with, acts}
 use Rattle.bg_replay.specs.Ways.{Way, On, Off, Beyond, Nowhere, branched, go_to, branch_to, test_to, leaves, acts_each, enters, ran, runs}
 use Rattle.bg_replay.specs.Over.{over_demands, over_sayings, over_cmd, over_exit, over_cmds, over_blocks}
 use Rattle.bg_replay.specs.Endings.{Tells, TypedMoment, TypedAround}
-use Rattle.bg_replay.proofs.Agreeing.{held_is}
+use Rattle.bg_replay.proofs.Agreeing.{type_is}
 use Rattle.bg_replay.proofs.Calling.{both_true}
 use Rattle.bg_replay.proofs.Known.{checks_tell, supposes_tell}
-use Rattle.bg_replay.proofs.Typed.{typed_set, typed_join, scalars_held, taken_typed, chosen_typed}
+use Rattle.bg_replay.proofs.Typed.{typed_set, typed_join, taken_typed, chosen_typed}
 
 module _ (p : Prog) (ds : List Decl) (a : Around) where
   abbrev Typed : Moment → Type 0
@@ -55,81 +51,71 @@ module _ (p : Prog) (ds : List Decl) (a : Around) where
   known_on (Leaves o) m h w = tt
   known_on Unsaid m h w = absurd h
 
-  typed_put : (x : Var) (y : Scalar) (m : Moment) → is_of (ty_of p ds x) (val_of y) ≡ true → Typed m → Typed (put x y m)
+  typed_put : (x : Var) (y : Val) (m : Moment) → is_of (ty_of p ds x) y ≡ true → Typed m → Typed (put x y m)
   typed_put (Global x) y m t w = record { globals = typed_set p.globals m.globals x y w.globals t; frame = w.frame }
   typed_put (Local x) y m t w = record { globals = w.globals; frame = typed_set ds m.frame x y w.frame t }
 
-  typed_each : (xs : List Var) (ys : List Scalar) (m : Moment) → are_of (map (ty_of p ds) xs) (map val_of ys) ≡ true → Typed m → Typed (put_each xs ys m)
+  typed_each : (xs : List Var) (ys : List Val) (m : Moment) → are_of (map (ty_of p ds) xs) ys ≡ true → Typed m → Typed (put_each xs ys m)
   typed_each [] ys m t w = w
   typed_each (x ∷ xs) [] m t w = w
   typed_each (x ∷ xs) (y ∷ ys) m t w =
-      typed_each xs ys (put x y m) (and_right (is_of (ty_of p ds x) (val_of y)) (are_of (map (ty_of p ds) xs) (map val_of ys)) t)
-      (typed_put x y m (and_left (is_of (ty_of p ds x) (val_of y)) (are_of (map (ty_of p ds) xs) (map val_of ys)) t) w)
+      typed_each xs ys (put x y m) (and_right (is_of (ty_of p ds x) y) (are_of (map (ty_of p ds) xs) ys) t)
+      (typed_put x y m (and_left (is_of (ty_of p ds x) y) (are_of (map (ty_of p ds) xs) ys) t) w)
 
-  known_choice : (o : Option Scalar) (m : Moment) (g : Scalar → Moment → Out) → ((y : Scalar) → o ≡ Some y → Known (g y m)) → Known (choose_by o m g)
+  known_choice : (o : Option Val) (m : Moment) (g : Val → Moment → Out) → ((y : Val) → o ≡ Some y → Known (g y m)) → Known (choose_by o m g)
   known_choice None m g k = tt
   known_choice (Some y) m g k = k y refl
 
   typed_moved : (m : Moment) → Typed m → Typed (moved m)
   typed_moved m w = record { globals = w.globals; frame = w.frame }
 
-  known_if : (b : Bool) (o : Out) → b ≡ true → Known o → Known (if b then o else Unknown)
-  known_if true o h k = k
-  known_if false o h k = absurd cc
-
-  -- a typed variable holds scalars
-  var_holds : (x : Var) (m : Moment) → Typed m → holds_scalars (holding_of (ty_of p ds x)) ≡ true
-  var_holds (Global x) m w = scalars_held p.globals m.globals x w.globals
-  var_holds (Local x) m w = scalars_held ds m.frame x w.frame
-
   module _ (b : TypedAround p ds a) where
-    held_there : (x : Var) → held_at a x ≡ holding_of (ty_of p ds x)
-    held_there (Global x) = ap (λ l. held l x) b.globals ∙ held_is p.globals x
-    held_there (Local x) = ap (λ l. held l x) b.frame ∙ held_is ds x
+    type_there : (x : Var) → variable_type a x ≡ ty_of p ds x
+    type_there (Global x) = ap (λ l. type_at l x) b.globals ∙ type_is p.globals x
+    type_there (Local x) = ap (λ l. type_at l x) b.frame ∙ type_is ds x
 
     known_forgotten : (xs : List Var) (m : Moment) → Typed m → Known (forgotten a xs m)
     known_forgotten [] m w = w
     known_forgotten (x ∷ xs) m w =
-        rw (held_there x)
-        (known_if (holds_scalars (holding_of (ty_of p ds x))) (choose_by (taken (holding_of (ty_of p ds x)) m.choices) (moved m) (λ y n. forgotten a xs (put x y n))) (var_holds x m w)
-        (known_choice (taken (holding_of (ty_of p ds x)) m.choices) (moved m) (λ y n. forgotten a xs (put x y n))
-        (λ y e. known_forgotten xs (put x y (moved m)) (typed_put x y (moved m) (taken_typed (ty_of p ds x) m.choices y e) (typed_moved m w)))))
+        rw (type_there x)
+        (known_choice (taken (ty_of p ds x) m.choices) (moved m) (λ y n. forgotten a xs (put x y n))
+        (λ y e. known_forgotten xs (put x y (moved m)) (typed_put x y (moved m) (taken_typed (ty_of p ds x) m.choices y e) (typed_moved m w))))
 
     -- what the specification of a call sees
     abbrev there : List Ty → Sig
     there ts = sig_with p (types_of p.globals) ts
 
-    known_given : (params : List Ty) (results : List Decl) (cs : List Choice) (o : Option (List Scalar)) (was args : List Scalar) (gives : List Saying) (takes : List Var) (m : Moment) → ((ys : List Scalar) → o ≡ Some ys → are_of (types_of results) (map val_of ys) ≡ true) → are_of (types_of p.globals) (map val_of was) ≡ true → are_of params (map val_of args) ≡ true → SayingsAreTyped (there (params ++ types_of results)) gives → over_sayings gives ≡ true → map (ty_of p ds) takes ≡ types_of results → Typed m → Known (given_back o a was args gives takes m)
+    known_given : (params : List Ty) (results : List Decl) (cs : List Choice) (o : Option (List Val)) (was args : List Val) (gives : List Saying) (takes : List Var) (m : Moment) → ((ys : List Val) → o ≡ Some ys → are_of (types_of results) ys ≡ true) → are_of (types_of p.globals) was ≡ true → are_of params args ≡ true → SayingsAreTyped (there (params ++ types_of results)) gives → over_sayings gives ≡ true → map (ty_of p ds) takes ≡ types_of results → Typed m → Known (given_back o a was args gives takes m)
     known_given params results cs None was args gives takes m l hw ha t h e w = tt
     known_given params results cs (Some ys) was args gives takes m l hw ha t h e w =
         let u = skipped ys m in
         let s : Seen = record { tables = a.tables; globals = u.globals; before = was; frame = args ++ ys } in
         let typed : Typed u = record { globals = w.globals; frame = w.frame } in
         let sees : Sees (there (params ++ types_of results)) s =
-        record { tables = b.tables; globals = w.globals; before = hw; frame = typed_join params (types_of results) args ys ha (l ys refl) } in
+        record { tables = said_typed p.functions a.tables b.tables; globals = w.globals; before = hw; frame = typed_join params (types_of results) args ys ha (l ys refl) } in
         known_then (on_said (supposes a.set s gives) u) (λ n. Goes (put_each takes ys n))
         (known_on (supposes a.set s gives) u (supposes_tell a.set (there (params ++ types_of results)) s gives sees t h) typed)
-        (λ n k. typed_each takes ys n (subst (λ ts. are_of ts (map val_of ys) ≡ true) (sym e) (l ys refl)) k)
+        (λ n k. typed_each takes ys n (subst (λ ts. are_of ts ys ≡ true) (sym e) (l ys refl)) k)
 
-    known_call : (o : Listed) (k : Plan) (m : Moment) → HaveWorths (types_of k.params) o → PlanIsTyped p ds k → over_demands k.needs ≡ true → over_sayings k.gives ≡ true → Typed m → Known (called_with o a k.needs k.modifies (holdings_of k.results) k.gives k.takes m)
+    known_call : (o : Listed) (k : Plan) (m : Moment) → HaveWorths (types_of k.params) o → PlanIsTyped p ds k → over_demands k.needs ≡ true → over_sayings k.gives ≡ true → Typed m → Known (called_with o a k.needs k.modifies (types_of k.results) k.gives k.takes m)
     known_call (Leave o) k m h t hn hg w = tt
-    known_call NoScalars k m h t hn hg w = absurd h
+    known_call NoValues k m h t hn hg w = absurd h
     known_call (Are xs) k m h t hn hg w =
         let s : Seen = record { tables = a.tables; globals = m.globals; before = m.globals; frame = xs } in
-        let sees : Sees (there (types_of k.params)) s = record { tables = b.tables; globals = w.globals; before = w.globals; frame = h } in
-        known_then (on_said (checks a.set s k.needs) m) (λ n. and_so (forgotten a k.modifies n) (λ u. given_back (chosen (holdings_of k.results) u.choices) a n.globals xs k.gives k.takes u))
+        let sees : Sees (there (types_of k.params)) s = record { tables = said_typed p.functions a.tables b.tables; globals = w.globals; before = w.globals; frame = h } in
+        known_then (on_said (checks a.set s k.needs) m) (λ n. and_so (forgotten a k.modifies n) (λ u. given_back (chosen (types_of k.results) u.choices) a n.globals xs k.gives k.takes u))
         (known_on (checks a.set s k.needs) m (checks_tell a.set (there (types_of k.params)) s k.needs sees t.1.0 hn) w)
-        (λ n wn. known_then (forgotten a k.modifies n) (λ u. given_back (chosen (holdings_of k.results) u.choices) a n.globals xs k.gives k.takes u)
+        (λ n wn. known_then (forgotten a k.modifies n) (λ u. given_back (chosen (types_of k.results) u.choices) a n.globals xs k.gives k.takes u)
         (known_forgotten k.modifies n wn)
-        (λ u wu. known_given (types_of k.params) k.results u.choices (chosen (holdings_of k.results) u.choices) n.globals xs k.gives k.takes u (chosen_typed k.results u.choices) wn.globals h t.1.1.0 hg t.1.1.1 wu))
+        (λ u wu. known_given (types_of k.params) k.results u.choices (chosen (types_of k.results) u.choices) n.globals xs k.gives k.takes u (chosen_typed k.results u.choices) wn.globals h t.1.1.0 hg t.1.1.1 wu))
 
     known_assigned : (o : Listed) (xs : List Var) (m : Moment) → HaveWorths (map (ty_of p ds) xs) o → Typed m → Known (assigned o xs m)
     known_assigned (Are ys) xs m h w = typed_each xs ys m h w
     known_assigned (Leave o) xs m h w = tt
-    known_assigned NoScalars xs m h w = absurd h
+    known_assigned NoValues xs m h w = absurd h
 
     sees_here : (m : Moment) → Typed m → Sees (sig_here p ds) (seen_at a m)
-    sees_here m w = record { tables = b.tables; globals = w.globals; before = b.before; frame = w.frame }
+    sees_here m w = record { tables = said_typed p.functions a.tables b.tables; globals = w.globals; before = b.before; frame = w.frame }
 
     known_act : (k : Cmd) (m : Moment) → CmdIsTyped p ds k → over_cmd k ≡ true → Typed m → Known (acts a k m)
     known_act (Check qs) m t h w =
@@ -140,11 +126,9 @@ module _ (p : Prog) (ds : List Decl) (a : Around) where
     known_act (Put xs es) m t h w =
         known_assigned (worths es (seen_at a m)) xs m (have_worths es (seen_at a m) (sig_here p ds) (map (ty_of p ds) xs) h t.0 (sees_here m w)) w
     known_act (Perform k) m t h w =
-        let h0 = both_true (hold_scalars (holdings_of k.results)) (are_scalar k.args && (over_demands k.needs && over_sayings k.gives)) h in
-        let h1 = both_true (are_scalar k.args) (over_demands k.needs && over_sayings k.gives) h0.1 in
+        let h1 = both_true (are_valued k.args) (over_demands k.needs && over_sayings k.gives) h in
         let h2 = both_true (over_demands k.needs) (over_sayings k.gives) h1.1 in
-        known_if (hold_scalars (holdings_of k.results)) (called_with (worths k.args (seen_at a m)) a k.needs k.modifies (holdings_of k.results) k.gives k.takes m) h0.0
-        (known_call (worths k.args (seen_at a m)) k m (have_worths k.args (seen_at a m) (sig_here p ds) (types_of k.params) h1.0 t.0.0 (sees_here m w)) t h2.0 h2.1 w)
+        known_call (worths k.args (seen_at a m)) k m (have_worths k.args (seen_at a m) (sig_here p ds) (types_of k.params) h1.0 t.0.0 (sees_here m w)) t h2.0 h2.1 w
     known_act Finish m t h w = tt
 
     known_acts : (ks : List Cmd) (m : Moment) → CmdsAreTyped p ds ks → over_cmds ks ≡ true → Typed m → Known (acts_each a ks m)
@@ -168,13 +152,15 @@ module _ (p : Prog) (ds : List Decl) (a : Around) where
     known_branch None ks m w = tt
     known_branch (Some j) ks m w = known_to (slice_get ks j) m w
 
-    known_test : (o : Worth) (on off : ℕ) (m : Moment) → HasWorth BoolTy o → Typed m → KnownWay (test_to o on off m)
+    known_test : (o : WorthOf) (on off : ℕ) (m : Moment) → HasWorth BoolTy o → Typed m → KnownWay (test_to o on off m)
     known_test (is_worth.Is (Truth true)) on off m h w = w
     known_test (is_worth.Is (Truth false)) on off m h w = w
-    known_test (is_worth.Is (Number z)) on off m h w = absurd (let bad : ⊥ = cc in bad)
+    known_test (is_worth.Is (Num z)) on off m h w = absurd (let bad : ⊥ = cc in bad)
     known_test (is_worth.Is (Element u z)) on off m h w = absurd (let bad : ⊥ = cc in bad)
+    known_test (is_worth.Is (Default d)) on off m h w = absurd (let bad : ⊥ = cc in bad)
+    known_test (is_worth.Is (Entry q u n)) on off m h w = absurd (let bad : ⊥ = cc in bad)
     known_test (is_worth.Leaves o) on off m h w = tt
-    known_test is_worth.NoScalar on off m h w = absurd h
+    known_test is_worth.NoValue on off m h w = absurd h
 
     known_leaves : (x : Exit) (m : Moment) → ExitIsTyped p ds x → over_exit x ≡ true → Typed m → KnownWay (leaves a x m)
     known_leaves (Leap []) m t h w = w

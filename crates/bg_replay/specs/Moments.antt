@@ -1,31 +1,27 @@
--- Moments of a run over scalars, and how its parts leave off.
-use Rattle.std.specs.Prelude.{ℕ, Bool, List, map}
+-- Moments of a run, and how its parts leave off.
+use Rattle.std.specs.Prelude.{ℕ, Bool, List}
 use Rattle.bg_base.specs.declared.exact.OutOfRange.{OutOfRange}
-use Rattle.bg_fits.specs.declared.types.Holding.{Holding}
+use Rattle.bg_ast.specs.Values.{Ty, Val, Table}
+use Rattle.bg_ast.specs.Execution.{Choice}
 use Rattle.bg_sense.specs.Flow.{World, Answer}
-use Rattle.bg_scalar.specs.Tables.{TableOf}
 use Rattle.bg_scalar.specs.Worths.{Seen}
-use Rattle.bg_scalar.specs.Values.{val_of}
-use Rattle.bg_scalar.specs.Choices.{choice_of}
-use Rattle.bg_scalar.specs.declared.choice.Choice.{Choice}
-use Rattle.bg_scalar.specs.declared.scalar.Scalar.{Scalar}
 
 -- the values of the variables, and the choices that are left
 pub record Moment : Type 0 where
-  pub globals : List Scalar
-  pub frame : List Scalar
+  pub globals : List Val
+  pub frame : List Val
   pub choices : List Choice
 
--- what stays the same during a run: the candidates that are there, the tables of functions, the globals at entry, and what globals and
--- variables of the frame hold
+-- what stays the same during a run: the candidates that are there, the tables of functions, the globals at entry, and the types of
+-- globals and of variables of the frame
 pub record Around : Type 0 where
   pub set : ℕ → Bool
-  pub tables : List TableOf
-  pub before : List Scalar
-  pub globals : List Holding
-  pub frame : List Holding
+  pub tables : List Table
+  pub before : List Val
+  pub globals : List Ty
+  pub frame : List Ty
 
--- how a part of a run leaves off: it goes on, it is over, it met an operation that leaves the range, or what is no scalar
+-- how a part of a run leaves off: it goes on, it is over, it met an operation that leaves the range, or something of another type than it should be
 pub data Out : Type 0 where
   Goes : Moment → Out
   Over : Answer → Out
@@ -41,7 +37,7 @@ and_so Unknown go_on = Unknown
 -- a moment of an execution
 abbrev pub world_of : Moment → World
 world_of m =
-    record { globals = map val_of m.globals; frame = map val_of m.frame; choices = map choice_of m.choices; left = 0 }
+    record { globals = m.globals; frame = m.frame; choices = m.choices; left = 0 }
 
 -- what is seen at this moment
 abbrev pub seen_at : Around → Moment → Seen

@@ -4,16 +4,15 @@ use Rattle.bg_base.specs.Exact.{fits}
 use Rattle.bg_base.specs.declared.exact.Op as exact
 use Rattle.bg_base.specs.declared.exact.Op.TheVariants as arith
 use Rattle.bg_base.specs.declared.exact.OutOfRange.{OutOfRange}
-use Rattle.bg_ast.specs.Values.{number_of, truth_of}
-use Rattle.bg_ast.specs.Syntax.{Op, Plus, Minus, Times, Ex, Not, Negative, Binary, Old, Apply, Exs, NoMore, More, Test}
-use Rattle.bg_fits.specs.Holdings.{holdings_of}
+use Rattle.bg_ast.specs.Values.{Val, number_of, truth_of}
+use Rattle.bg_ast.specs.Syntax.{Op, Plus, Minus, Times, Ex, Not, Negative, Binary, Old, Apply, Select, Update, Exs, NoMore, More, Test}
 use Rattle.bg_sense.specs.Eval.{Scope, ev}
+use Rattle.bg_sense.specs.Types.{types_of}
 use Rattle.bg_sense.specs.Clauses.{is_kept}
 use Rattle.bg_flow.specs.Core.{Demand, Saying, Plan, Cmd, Check, Suppose, Forget, Put, Perform, Finish}
 use Rattle.bg_flow.specs.Blocks.{Exit, Either, Block}
 use Rattle.bg_scalar.specs.Worths.{Seen}
 use Rattle.bg_scalar.specs.Lists.{Listed, Are, worths}
-use Rattle.bg_scalar.specs.declared.scalar.Scalar.{Scalar}
 use Rattle.bg_replay.specs.Moments.{Moment, Around, Out, Goes, seen_at}
 use Rattle.bg_replay.specs.Said.{on_said, checks}
 use Rattle.bg_replay.specs.Acts.{forgotten, chosen, skipped, acts}
@@ -42,7 +41,8 @@ operation Times x y = record { op = arith.Times; a = x; b = y } ∷ []
 operation _ x y = []
 
 abbrev mutual
-  -- an operator's operands come first, from left to right, and so do the arguments of a function, which makes none itself
+  -- an operator's operands come first, from left to right, and so do the arguments of a function, which makes none itself, and the parts
+  -- of a select or an update
   pub operations : Ex → Scope → List Operation
   operations (Not e) c = operations e c
   operations (Negative e) c =
@@ -51,6 +51,8 @@ abbrev mutual
       operations a c ++ (operations b c ++ operation o (number_of (ev a c)) (number_of (ev b c)))
   operations (Old e) c = operations e (record c { globals = c.before })
   operations (Apply f es) c = operations_of es c
+  operations (Select m es) c = operations m c ++ operations_of es c
+  operations (Update m es e) c = operations m c ++ (operations_of es c ++ operations e c)
   operations _ c = []
 
   pub operations_of : Exs → Scope → List Operation
@@ -83,7 +85,7 @@ behind_way (On k m) go_on = go_on k m
 behind_way _ go_on = []
 
 module _ (sees : Seen → Scope) where
-  abbrev pub of_results : Around → Plan → List Scalar → List Scalar → Option (List Scalar) → Moment → List Operation
+  abbrev pub of_results : Around → Plan → List Val → List Val → Option (List Val) → Moment → List Operation
   of_results a k was args None m = []
   of_results a k was args (Some xs) m =
       of_supposes a.set (sees (record { tables = a.tables; globals = (skipped xs m).globals; before = was; frame = args ++ xs })) k.gives
@@ -93,7 +95,7 @@ module _ (sees : Seen → Scope) where
       let inside : Seen = record { tables = a.tables; globals = m.globals; before = m.globals; frame = args } in
       of_checks a.set (sees inside) k.needs
       ++ behind (on_said (checks a.set inside k.needs) m) (λ n.
-      behind (forgotten a k.modifies n) (λ u. of_results a k n.globals args (chosen (holdings_of k.results) u.choices) u))
+      behind (forgotten a k.modifies n) (λ u. of_results a k n.globals args (chosen (types_of k.results) u.choices) u))
   of_call a k _ m = []
 
   abbrev pub of_act : Around → Cmd → Moment → List Operation

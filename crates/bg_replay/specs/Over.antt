@@ -1,36 +1,33 @@
--- Blocks over scalars: each expression is one of scalars, and each result of a call is a scalar.
+-- Blocks whose expressions have no constants, which were replaced.
 use Rattle.std.specs.Prelude.{Bool, true, ◌&&◌, List, [], ◌∷◌}
 use Rattle.bg_ast.specs.Syntax.{Star, Test}
-use Rattle.bg_fits.specs.Holdings.{holdings_of}
 use Rattle.bg_flow.specs.Core.{Demand, Saying, Plan, Cmd, Check, Suppose, Forget, Put, Perform, Finish}
 use Rattle.bg_flow.specs.Blocks.{Exit, Leap, Either, Block}
-use Rattle.bg_scalar.specs.Typed.{is_scalar, are_scalar}
-use Rattle.bg_replay.specs.Holds.{hold_scalars}
+use Rattle.bg_scalar.specs.Typed.{is_valued, are_valued}
 
 abbrev pub over_demands : List Demand → Bool
 over_demands [] = true
-over_demands (d ∷ ds) = is_scalar d.says && over_demands ds
+over_demands (d ∷ ds) = is_valued d.says && over_demands ds
 
 abbrev pub over_sayings : List Saying → Bool
 over_sayings [] = true
-over_sayings (d ∷ ds) = is_scalar d.says && over_sayings ds
+over_sayings (d ∷ ds) = is_valued d.says && over_sayings ds
 
 abbrev pub over_plan : Plan → Bool
-over_plan k =
-    hold_scalars (holdings_of k.results) && (are_scalar k.args && (over_demands k.needs && over_sayings k.gives))
+over_plan k = are_valued k.args && (over_demands k.needs && over_sayings k.gives)
 
 abbrev pub over_cmd : Cmd → Bool
 over_cmd (Check ds) = over_demands ds
 over_cmd (Suppose ds) = over_sayings ds
 over_cmd (Forget xs) = true
-over_cmd (Put xs es) = are_scalar es
+over_cmd (Put xs es) = are_valued es
 over_cmd (Perform k) = over_plan k
 over_cmd Finish = true
 
 abbrev pub over_exit : Exit → Bool
 over_exit (Leap ks) = true
 over_exit (Either Star on off) = true
-over_exit (Either (Test e) on off) = is_scalar e
+over_exit (Either (Test e) on off) = is_valued e
 
 abbrev pub over_cmds : List Cmd → Bool
 over_cmds [] = true

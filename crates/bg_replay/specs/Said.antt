@@ -1,16 +1,15 @@
--- What clauses over scalars say.
+-- What clauses say.
 use Rattle.std.specs.Prelude.{ℕ, Bool, true, false, if◌then◌else◌, List, [], ◌∷◌}
 use Rattle.bg_base.specs.declared.exact.OutOfRange.{OutOfRange}
 use Rattle.bg_sense.specs.Flow.{Answer, Blocked, Failed}
 use Rattle.bg_sense.specs.Clauses.{is_kept}
 use Rattle.bg_flow.specs.Core.{Demand, Saying}
-use Rattle.bg_scalar.specs.Worths.{Seen, worth}
-use Rattle.bg_scalar.specs.declared.scalar.Scalar.TheVariants.{Truth, Number, Element}
-use Rattle.bg_scalar.specs.declared.scalar.Worth.{Worth}
-use Rattle.bg_scalar.specs.declared.scalar.Worth.TheVariants as worths
+use Rattle.bg_ast.specs.Values.{Val, Truth}
+use Rattle.bg_scalar.specs.Worths as worths
+use Rattle.bg_scalar.specs.Worths.{Seen, WorthOf, worth}
 use Rattle.bg_replay.specs.Moments.{Moment, Out, Goes, Over, Outside, Unknown}
 
--- the run goes on, or it is over, or an operation leaves the range, or something is no scalar
+-- the run goes on, or it is over, or an operation leaves the range, or something has another type than it should
 pub data Said : Type 0 where
   Fine : Said
   Stops : Answer → Said
@@ -31,13 +30,15 @@ on_said (Leaves o) m = Outside o
 on_said Unsaid m = Unknown
 
 -- what is true is fine
-abbrev pub or_stops : Answer → Worth → Said
-or_stops a (worths.Is (Truth true)) = Fine
-or_stops a (worths.Is (Truth false)) = Stops a
-or_stops a (worths.Is (Number z)) = Unsaid
-or_stops a (worths.Is (Element t z)) = Unsaid
+abbrev pub true_or : Answer → Val → Said
+true_or a (Truth true) = Fine
+true_or a (Truth false) = Stops a
+true_or a _ = Unsaid
+
+abbrev pub or_stops : Answer → WorthOf → Said
+or_stops a (worths.Is x) = true_or a x
 or_stops a (worths.Leaves o) = Leaves o
-or_stops a worths.NoScalar = Unsaid
+or_stops a worths.NoValue = Unsaid
 
 abbrev pub check_one : (ℕ → Bool) → Seen → Demand → Said
 check_one set s d = if is_kept set d.candidate then or_stops (Failed d.spot) (worth d.says s) else Fine

@@ -1,9 +1,13 @@
 -- How the code's values are read.
-use Rattle.std.specs.Prelude.{ℕ, Bool, false, List, Option, Some, None, Vec, slice_get, unwrap_or}
+use Rattle.std.specs.Prelude.{ℕ, Bool, false, List, map, Option, Some, None, Vec, slice_get, unwrap_or}
 use Rattle.std.specs.declared.alloc.Global.{Global}
+use Rattle.bg_kinds.specs.Views.{ref_in}
 use Rattle.bg_places.specs.Views.{spot_of}
 use Rattle.bg_sense.specs.Flow.{Ended, Blocked, Failed, BadChoice}
-use Rattle.bg_scalar.specs.Views.{tables_in}
+use Rattle.bg_ast.specs.Values.{Val}
+use Rattle.bg_scalar.specs.Values.{val_of}
+use Rattle.bg_scalar.specs.Choices.{choice_of}
+use Rattle.bg_scalar.specs.Views.{tables_in, vals_in}
 use Rattle.bg_scalar.specs.declared.scalar.Scalar.{Scalar}
 use Rattle.bg_replay.specs.Moments.{Moment, Around}
 use Rattle.bg_replay.specs.Said.{Said, Fine, Stops, Leaves, Unsaid}
@@ -18,7 +22,8 @@ use Rattle.bg_replay.specs.declared.ending.Way as code_way
 use Rattle.bg_replay.specs.declared.ending.Way.TheVariants as way
 
 abbrev pub moment_of : code.Moment → Moment
-moment_of m = record { globals = m.globals.items; frame = m.frame.items; choices = m.left.now }
+moment_of m =
+    record { globals = vals_in m.globals.items; frame = vals_in m.frame.items; choices = map choice_of m.left.now }
 
 -- the candidates that are there; one without an entry isn't
 abbrev pub set_of : List Bool → ℕ → Bool
@@ -29,9 +34,9 @@ around_of a =
     record {
       set = set_of a.set.now;
       tables = tables_in a.tables.now;
-      before = a.before.now;
-      globals = a.globals.now;
-      frame = a.frame.now;
+      before = vals_in a.before.now;
+      globals = map ref_in a.globals.now;
+      frame = map ref_in a.frame.now;
     }
 
 abbrev pub said_by : Ending → Said
@@ -56,6 +61,10 @@ abbrev pub way_of : code_way.Way → Moment → Way
 way_of (way.To k) m = On k m
 way_of (way.Over e) m = off_way (said_by e)
 
-abbrev pub items_of : Option (Vec Scalar Global) → Option (List Scalar)
+abbrev pub value_in : Option Scalar → Option Val
+value_in None = None
+value_in (Some x) = Some (val_of x)
+
+abbrev pub items_of : Option (Vec Scalar Global) → Option (List Val)
 items_of None = None
-items_of (Some xs) = Some xs.items
+items_of (Some xs) = Some (vals_in xs.items)

@@ -1,21 +1,19 @@
--- Where blocks lead over scalars, and their runs.
+-- Where blocks lead, and their runs.
 use Rattle.std.specs.Prelude.{ℕ, zero, suc, true, false, List, [], ◌∷◌, Option, Some, None, slice_get}
 use Rattle.bg_base.specs.declared.exact.OutOfRange.{OutOfRange}
+use Rattle.bg_ast.specs.Values.{Val, Truth}
 use Rattle.bg_ast.specs.Syntax.{Guard, Star, Test}
+use Rattle.bg_ast.specs.Execution.{Choice, Branch, Chosen}
 use Rattle.bg_sense.specs.Flow.{Answer, Ended, BadChoice}
 use Rattle.bg_flow.specs.Core.{Cmd}
 use Rattle.bg_flow.specs.Blocks.{Exit, Leap, Either, Block}
-use Rattle.bg_scalar.specs.Worths.{worth}
-use Rattle.bg_scalar.specs.declared.choice.Choice.{Choice}
-use Rattle.bg_scalar.specs.declared.choice.Choice.TheVariants as choice
-use Rattle.bg_scalar.specs.declared.scalar.Scalar.TheVariants.{Truth, Number, Element}
-use Rattle.bg_scalar.specs.declared.scalar.Worth.{Worth}
-use Rattle.bg_scalar.specs.declared.scalar.Worth.TheVariants as worths
+use Rattle.bg_scalar.specs.Worths as worths
+use Rattle.bg_scalar.specs.Worths.{WorthOf, worth}
 use Rattle.bg_replay.specs.Moments.{Moment, Around, Out, Goes, Over, Outside, Unknown, and_so, seen_at}
 use Rattle.bg_replay.specs.Said.{Said, Stops, Leaves, Unsaid}
 use Rattle.bg_replay.specs.Acts.{moved, acts}
 
--- a block is entered at a moment, or the run is over, or an operation leaves the range, or something is no scalar
+-- a block is entered at a moment, or the run is over, or an operation leaves the range, or something has another type than it should
 pub data Way : Type 0 where
   On : ℕ → Moment → Way
   Off : Answer → Way
@@ -25,8 +23,8 @@ pub data Way : Type 0 where
 -- the branch that is chosen next
 abbrev pub branched : List Choice → Option ℕ
 branched [] = None
-branched (choice.Branch k ∷ cs) = Some k
-branched (choice.Chosen x ∷ cs) = None
+branched (Branch k ∷ cs) = Some k
+branched (Chosen x ∷ cs) = None
 
 abbrev pub go_to : Option ℕ → Moment → Way
 go_to None m = Off BadChoice
@@ -36,13 +34,15 @@ abbrev pub branch_to : Option ℕ → List ℕ → Moment → Way
 branch_to None ks m = Off BadChoice
 branch_to (Some j) ks m = go_to (slice_get ks j) m
 
-abbrev pub test_to : Worth → ℕ → ℕ → Moment → Way
-test_to (worths.Is (Truth true)) on off m = On on m
-test_to (worths.Is (Truth false)) on off m = On off m
-test_to (worths.Is (Number z)) on off m = Nowhere
-test_to (worths.Is (Element t z)) on off m = Nowhere
+abbrev pub side_by : Val → ℕ → ℕ → Moment → Way
+side_by (Truth true) on off m = On on m
+side_by (Truth false) on off m = On off m
+side_by _ on off m = Nowhere
+
+abbrev pub test_to : WorthOf → ℕ → ℕ → Moment → Way
+test_to (worths.Is x) on off m = side_by x on off m
 test_to (worths.Leaves o) on off m = Beyond o
-test_to worths.NoScalar on off m = Nowhere
+test_to worths.NoValue on off m = Nowhere
 
 abbrev pub decided : Around → Guard → ℕ → ℕ → Moment → Way
 decided a Star on off m = branch_to (branched m.choices) (on ∷ off ∷ []) (moved m)

@@ -9,7 +9,7 @@ ghost use Rattle.bg_flow.specs.Core.{demands, sayings};
 ghost use Rattle.bg_blocks.specs.Views.{clauses_in};
 ghost use Rattle.bg_replay.specs.Said.{checks, supposes, or_stops};
 ghost use Rattle.bg_replay.specs.Kept.{which_of};
-ghost use Rattle.bg_scalar.specs.Views.{seen_of};
+ghost use Rattle.bg_scalar.specs.Views.{seen_of, worth_in};
 ghost use Rattle.bg_replay.specs.Views.{said_of, set_of, around_of};
 
 use crate::ending::{Ending, Step};
@@ -33,7 +33,7 @@ fn is_kept(set: &[bool], candidate: Option<CandId>) -> bool
 
 /// What is checked is true, or the run fails there.
 fn ensured(group: Group, clause: u32, value: Worth) -> Step
-    ensures { said_of result ≡ or_stops (Failed (spot_in group clause)) value }
+    ensures { said_of result ≡ or_stops (Failed (spot_in group clause)) (worth_in value) }
 {
     match value {
         Worth::Leaves(o) => Step::Over(Ending::OutOfRange(o)),
@@ -47,7 +47,7 @@ fn ensured(group: Group, clause: u32, value: Worth) -> Step
 
 /// What is assumed is true, or the run is blocked.
 pub fn assumed(value: Worth) -> Step
-    ensures { said_of result ≡ or_stops Blocked value }
+    ensures { said_of result ≡ or_stops Blocked (worth_in value) }
 {
     match value {
         Worth::Leaves(o) => Step::Over(Ending::OutOfRange(o)),

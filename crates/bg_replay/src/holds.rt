@@ -1,76 +1,56 @@
-//! Which scalars variables hold.
-ghost use Rattle.std.specs.Prelude.{◌≡◌, List, ◌∷◌};
-ghost use Rattle.bg_scalar.specs.declared.choice.Choice as code;
-ghost use Rattle.bg_fits.specs.declared.types.Holding.TheVariants.{Elements};
-ghost use Rattle.bg_replay.specs.Holds.{holds, holds_scalars, hold_scalars, held};
+//! The types of variables, and scalars of a type.
+ghost use Rattle.std.specs.Prelude.{◌≡◌, List, ◌∷◌, map};
+ghost use Rattle.bg_ast.specs.Values.{is_of};
+ghost use Rattle.bg_kinds.specs.Views.{base_of, ref_in, ref_of};
+ghost use Rattle.bg_scalar.specs.Values.{val_of};
+ghost use Rattle.bg_ast.specs.Execution as run;
+ghost use Rattle.bg_scalar.specs.Choices.{choice_of};
+ghost use Rattle.bg_replay.specs.Views.{value_in};
+ghost use Rattle.bg_replay.specs.Holds.{type_at};
 ghost use Rattle.bg_replay.specs.Acts.{taken};
 
-use bg_fits::Holding;
+use bg_fits::base_in;
+use bg_kinds::{Base, TypeRef, ValueType, plain};
 use bg_scalar::{Choice, Scalar};
 
-/// Whether a variable that holds such holds scalars.
-pub fn holds_scalars(holding: Holding) -> bool
-    ensures { result ≡ holds_scalars holding }
+/// The type of the variable with this number; one that isn't declared is a whole number.
+pub fn type_at(kinds: &[ValueType], k: u32) -> TypeRef<'_>
+    ensures { ref_of result ≡ type_at (map ref_in kinds.now) k }
 {
-    match holding {
-        Holding::Truths => true,
-        Holding::Numbers => true,
-        Holding::Elements(_) => true,
-        Holding::Others => false,
+    match kinds.get(k as usize) {
+        Some(t) => t.as_ref(),
+        None => plain(Base::Int),
     }
 }
 
-/// Whether each of these variables holds scalars.
-pub fn hold_scalars(holdings: &[Holding]) -> bool
-    ensures { result ≡ hold_scalars holdings.now }
+/// Whether a value is one of this type, which is no map.
+fn is_in(base: Base, x: Scalar) -> bool
+    ensures { result ≡ is_of (base_of base) (val_of x) }
 {
-    for holding in holdings {
-        if !holds_scalars(*holding) {
-            return false;
-        }
-    }
-    true
-}
-
-/// What the variable with this number holds; one that isn't declared holds whole numbers.
-pub fn held(holdings: &[Holding], k: u32) -> Holding
-    ensures { result ≡ held holdings.now k }
-{
-    holdings
-        .get(k as usize)
-        .copied()
-        .unwrap_or(Holding::Numbers)
-}
-
-/// Whether a value is an element of the user type with this number.
-fn is_element(k: u32, x: Scalar) -> bool
-    ensures { result ≡ holds (Elements k) x }
-{
-    match x {
-        Scalar::Truth(_) => false,
-        Scalar::Number(_) => false,
-        Scalar::Element(t, _) => k == t,
+    match (base, x) {
+        (Base::Bool, Scalar::Truth(_)) => true,
+        (Base::Int, Scalar::Number(_)) => true,
+        (Base::User(k), Scalar::Element(t, _)) => k == t,
+        _ => false,
     }
 }
 
-/// Whether a variable that holds such may have this value.
-fn holds(holding: Holding, x: Scalar) -> bool
-    ensures { result ≡ holds holding x }
+/// Whether a value is one of this type.
+fn is_of(t: TypeRef<'_>, x: Scalar) -> bool
+    ensures { result ≡ is_of (ref_of t.entry) (val_of x) }
 {
-    match holding {
-        Holding::Truths => matches!(x, Scalar::Truth(_)),
-        Holding::Numbers => matches!(x, Scalar::Number(_)),
-        Holding::Elements(k) => is_element(k, x),
-        Holding::Others => false,
+    match base_in(t) {
+        None => false,
+        Some(base) => is_in(base, x),
     }
 }
 
-/// The value of this choice, where a variable that holds such takes it.
-pub fn value_of(holding: Holding, choice: Choice) -> Option<Scalar>
-    ensures { (rest : List code.Choice) → result ≡ taken holding (choice ∷ rest) }
+/// The value of this choice, where it is of this type.
+pub fn value_of(t: TypeRef<'_>, choice: Choice) -> Option<Scalar>
+    ensures { (rest : List run.Choice) → value_in result ≡ taken (ref_of t.entry) (choice_of choice ∷ rest) }
 {
     match choice {
         Choice::Branch(_) => None,
-        Choice::Chosen(x) => { if holds(holding, x) { Some(x) } else { None } }
+        Choice::Chosen(x) => { if is_of(t, x) { Some(x) } else { None } }
     }
 }

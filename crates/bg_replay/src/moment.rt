@@ -2,19 +2,21 @@
 ghost use Rattle.std.specs.Prelude.{◌≡◌, map, slice_set, drop};
 ghost use Rattle.bg_ast.specs.Meaning.{variable_of};
 ghost use Rattle.bg_ast.specs.Views.{var_of, placed_of, target_of};
+ghost use Rattle.bg_kinds.specs.Views.{ref_of};
 ghost use Rattle.bg_blocks.specs.Views.{target_variable};
 ghost use Rattle.bg_replay.specs.Moments.{seen_at};
-ghost use Rattle.bg_scalar.specs.Views.{seen_of};
-ghost use Rattle.bg_replay.specs.Holds.{held_at};
+ghost use Rattle.bg_scalar.specs.Values.{val_of};
+ghost use Rattle.bg_scalar.specs.Views.{seen_of, vals_in};
+ghost use Rattle.bg_replay.specs.Holds.{variable_type};
 ghost use Rattle.bg_replay.specs.Acts.{taken, moved, put, put_each, forgotten};
 ghost use Rattle.bg_replay.specs.Said.{on_said};
 ghost use Rattle.bg_replay.specs.Ways.{branched};
-ghost use Rattle.bg_replay.specs.Views.{moment_of, around_of, said_of};
+ghost use Rattle.bg_replay.specs.Views.{moment_of, around_of, said_of, value_in};
 
 use crate::ending::{Ending, Step};
-use crate::holds::{held, holds_scalars, value_of};
+use crate::holds::{type_at, value_of};
 use bg_ast::resolved::{Placed, Resolved, Target, Variable};
-use bg_fits::Holding;
+use bg_kinds::{TypeRef, ValueType};
 use bg_scalar::{Choice, Scalar, Sight, Table};
 use std::alloc::Global;
 
@@ -26,8 +28,8 @@ pub struct Moment<'c> {
     pub left: &'c [Choice],
 }
 
-/// What stays the same during a run: the candidates that are there, the tables of functions, the globals at entry, and what globals and
-/// variables of the frame hold.
+/// What stays the same during a run: the candidates that are there, the tables of functions, the globals at entry, and the types of
+/// globals and of variables of the frame.
 #[derive(Clone, Copy)]
 pub struct Around<'a> {
     pub alloc: Global,
@@ -35,8 +37,8 @@ pub struct Around<'a> {
     pub set: &'a [bool],
     pub tables: &'a [Table],
     pub before: &'a [Scalar],
-    pub globals: &'a [Holding],
-    pub frame: &'a [Holding],
+    pub globals: &'a [ValueType],
+    pub frame: &'a [ValueType],
 }
 
 /// What expressions see at this moment.
@@ -51,16 +53,16 @@ pub fn seen<'m>(around: Around<'m>, moment: &'m Moment<'_>) -> Sight<'m>
     }
 }
 
-/// The value that is chosen next, where a variable that holds such takes it.
-fn take_value(moment: &mut Moment<'_>, holding: Holding) -> Option<Scalar>
-    ensures value { result ≡ taken holding (moment_of moment.old).choices }
+/// The value that is chosen next, where it is of this type.
+fn take_value(moment: &mut Moment<'_>, t: TypeRef<'_>) -> Option<Scalar>
+    ensures value { value_in result ≡ taken (ref_of t.entry) (moment_of moment.old).choices }
     ensures moved { moment_of moment.new ≡ moved (moment_of moment.old) }
 {
     match moment.left.split_first() {
         None => None,
         Some((first, rest)) => {
             moment.left = rest;
-            value_of(holding, *first)
+            value_of(t, *first)
         }
     }
 }
@@ -89,8 +91,9 @@ pub fn rest_of<T>(values: &[T], n: usize) -> &[T]
     if n <= values.len() { &values[n..] } else { &[] }
 }
 
+#[tactic(auto, using(crate::proofs::Puts::value_set))]
 fn set(values: &mut [Scalar], k: usize, x: Scalar)
-    ensures { values.new ≡ slice_set values.old k x }
+    ensures { vals_in values.new ≡ slice_set (vals_in values.old) k (val_of x) }
 {
     if k < values.len() {
         values[k] = x;
@@ -99,7 +102,7 @@ fn set(values: &mut [Scalar], k: usize, x: Scalar)
 
 /// The variable has this value now.
 pub fn put(moment: &mut Moment<'_>, x: Variable, y: Scalar)
-    ensures { moment_of moment.new ≡ put (var_of x) y (moment_of moment.old) }
+    ensures { moment_of moment.new ≡ put (var_of x) (val_of y) (moment_of moment.old) }
 {
     match x {
         Variable::Global(k) => set(&mut moment.globals, k as usize, y),
@@ -110,7 +113,7 @@ pub fn put(moment: &mut Moment<'_>, x: Variable, y: Scalar)
 /// What takes results has these values, in order.
 #[tactic(auto, using(crate::proofs::Puts::put_past))]
 pub fn put_taken(moment: &mut Moment<'_>, takes: &[Placed], values: &[Scalar])
-    ensures { moment_of moment.new ≡ put_each (map variable_of (map placed_of takes.now)) values.now (moment_of moment.old) }
+    ensures { moment_of moment.new ≡ put_each (map variable_of (map placed_of takes.now)) (vals_in values.now) (moment_of moment.old) }
 {
     for (i, x) in takes.iter().enumerate() {
         if i >= values.len() {
@@ -123,7 +126,7 @@ pub fn put_taken(moment: &mut Moment<'_>, takes: &[Placed], values: &[Scalar])
 /// What is assigned has these values, in order.
 #[tactic(auto, using(crate::proofs::Puts::put_past))]
 pub fn put_targets(moment: &mut Moment<'_>, targets: &[Target], values: &[Scalar])
-    ensures { moment_of moment.new ≡ put_each (map target_variable (map target_of targets.now)) values.now (moment_of moment.old) }
+    ensures { moment_of moment.new ≡ put_each (map target_variable (map target_of targets.now)) (vals_in values.now) (moment_of moment.old) }
 {
     for (i, t) in targets.iter().enumerate() {
         if i >= values.len() {
@@ -133,13 +136,13 @@ pub fn put_targets(moment: &mut Moment<'_>, targets: &[Target], values: &[Scalar
     }
 }
 
-/// What a variable holds.
-fn held_at(around: Around<'_>, x: Variable) -> Holding
-    ensures { result ≡ held_at (around_of around.entry) (var_of x) }
+/// The type of a variable.
+fn variable_type<'a>(around: Around<'a>, x: Variable) -> TypeRef<'a>
+    ensures { ref_of result ≡ variable_type (around_of around.entry) (var_of x) }
 {
     match x {
-        Variable::Global(k) => held(around.globals, k),
-        Variable::Local(k) => held(around.frame, k),
+        Variable::Global(k) => type_at(around.globals, k),
+        Variable::Local(k) => type_at(around.frame, k),
     }
 }
 
@@ -148,11 +151,8 @@ pub fn forget(around: Around<'_>, moment: &mut Moment<'_>, xs: &[Variable]) -> S
     ensures { on_said (said_of result) (moment_of moment.new) ≡ forgotten (around_of around.entry) (map var_of xs.now) (moment_of moment.old) }
 {
     for x in xs {
-        let holding = held_at(around, *x);
-        if !holds_scalars(holding) {
-            return Step::Over(Ending::NoScalars);
-        }
-        match take_value(moment, holding) {
+        let t = variable_type(around, *x);
+        match take_value(moment, t) {
             None => return Step::Over(Ending::BadChoice),
             Some(y) => put(moment, *x, y),
         }

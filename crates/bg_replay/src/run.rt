@@ -7,6 +7,7 @@ ghost use Rattle.bg_replay.specs.Acts.{moved};
 ghost use Rattle.bg_replay.specs.Moments as spec;
 ghost use Rattle.bg_replay.specs.Ways.{branched, branch_to, test_to, decided, leaves, runs};
 ghost use Rattle.bg_flow.specs.Blocks.{Leap};
+ghost use Rattle.bg_scalar.specs.Views.{worth_in};
 ghost use Rattle.bg_replay.specs.Views.{moment_of, around_of, said_by, way_of};
 
 use crate::command::commands;
@@ -32,7 +33,7 @@ fn branch(moment: &mut Moment<'_>, ks: &[usize]) -> Way
 
 /// What is tested decides between two ways.
 fn tested(value: Worth, on: usize, off: usize) -> Way
-    ensures { (m : spec.Moment) → way_of result m ≡ test_to value on off m }
+    ensures { (m : spec.Moment) → way_of result m ≡ test_to (worth_in value) on off m }
 {
     match value {
         Worth::Leaves(o) => Way::Over(Ending::OutOfRange(o)),

@@ -1,10 +1,12 @@
 //! Replays.
-ghost use Rattle.std.specs.Prelude.{◌≡◌, ℕ, Some, slice_get, IfOk};
+ghost use Rattle.std.specs.Prelude.{◌≡◌, ℕ, Some, map, slice_get, IfOk};
 ghost use Rattle.bg_ast.specs.Resolved as r;
 ghost use Rattle.bg_ast.specs.Meaning.{meaning_of};
 ghost use Rattle.bg_ast.specs.Views.{program_of, impl_of, proc_of};
-ghost use Rattle.bg_fits.specs.Holdings.{holdings_of};
-ghost use Rattle.bg_scalar.specs.Views.{tables_in};
+ghost use Rattle.bg_sense.specs.Types.{types_of};
+ghost use Rattle.bg_kinds.specs.Views.{ref_in};
+ghost use Rattle.bg_scalar.specs.Choices.{choice_of};
+ghost use Rattle.bg_scalar.specs.Views.{tables_in, vals_in};
 ghost use Rattle.bg_replay.specs.Endings.{IsReplay, frame_in};
 
 use crate::ending::Ending;
@@ -13,7 +15,8 @@ use crate::run::run;
 use crate::values::copied;
 use bg_ast::resolved::{Implementation, Procedure, Resolved};
 use bg_blocks::Block;
-use bg_fits::{Holding, push_holdings};
+use bg_fits::push_kinds;
+use bg_kinds::ValueType;
 use bg_scalar::{Choice, Scalar, Table};
 use std::alloc::{AllocError, Global};
 
@@ -35,29 +38,29 @@ pub struct Start<'a> {
     pub choices: &'a [Choice],
 }
 
-/// What each global holds.
-fn global_holdings(alloc: Global, program: &Resolved) -> Result<Vec<Holding>, AllocError>
-    ensures { IfOk result (λ made. made.items ≡ holdings_of (meaning_of (program_of program.now)).globals) }
+/// The type of each global.
+fn global_kinds(alloc: Global, program: &Resolved) -> Result<Vec<ValueType>, AllocError>
+    ensures { IfOk result (λ made. map ref_in made.items ≡ types_of (meaning_of (program_of program.now)).globals) }
 {
     let mut made = Vec::new(alloc);
-    push_holdings(&program.types, &program.globals, &mut made)?;
+    push_kinds(alloc, &program.types, &program.globals, &mut made)?;
     Ok(made)
 }
 
-/// What each variable of the frame holds.
-#[tactic(auto, using(crate::proofs::Holdings::three_parts))]
-fn frame_holdings(
+/// The type of each variable of the frame.
+#[tactic(auto, using(crate::proofs::FrameTypes::three_parts))]
+fn frame_kinds(
     alloc: Global,
     program: &Resolved,
     m: &Implementation,
     q: &Procedure,
-) -> Result<Vec<Holding>, AllocError>
-    ensures { IfOk result (λ made. made.items ≡ holdings_of (frame_in (program_of program.now) (impl_of m.now) (proc_of q.now))) }
+) -> Result<Vec<ValueType>, AllocError>
+    ensures { IfOk result (λ made. map ref_in made.items ≡ types_of (frame_in (program_of program.now) (impl_of m.now) (proc_of q.now))) }
 {
     let mut made = Vec::new(alloc);
-    push_holdings(&program.types, &q.params, &mut made)?;
-    push_holdings(&program.types, &q.results, &mut made)?;
-    push_holdings(&program.types, &m.locals, &mut made)?;
+    push_kinds(alloc, &program.types, &q.params, &mut made)?;
+    push_kinds(alloc, &program.types, &q.results, &mut made)?;
+    push_kinds(alloc, &program.types, &m.locals, &mut made)?;
     Ok(made)
 }
 
@@ -69,10 +72,10 @@ fn replay_body(
     q: &Procedure,
     start: Start<'_>,
 ) -> Result<Ending, AllocError>
-    ensures { IfOk result (λ ending. (number : ℕ) → IsReplay (program_of code.entry.program.now) code.entry.blocks.now code.entry.set.now number (impl_of m.now) (proc_of q.now) (tables_in start.entry.tables.now) start.entry.globals.now start.entry.frame.now start.entry.choices.now ending) }
+    ensures { IfOk result (λ ending. (number : ℕ) → IsReplay (program_of code.entry.program.now) code.entry.blocks.now code.entry.set.now number (impl_of m.now) (proc_of q.now) (tables_in start.entry.tables.now) (vals_in start.entry.globals.now) (vals_in start.entry.frame.now) (map choice_of start.entry.choices.now) ending) }
 {
-    let of_globals = global_holdings(alloc, code.program)?;
-    let of_frame = frame_holdings(alloc, code.program, m, q)?;
+    let of_globals = global_kinds(alloc, code.program)?;
+    let of_frame = frame_kinds(alloc, code.program, m, q)?;
     let first = copied(alloc, start.globals)?;
     let locals = copied(alloc, start.frame)?;
     let around = Around {
@@ -104,7 +107,7 @@ pub fn replay(
     implementation: usize,
     start: Start<'_>,
 ) -> Result<Ending, AllocError>
-    ensures { IfOk result (λ ending. (m : r.Impl) (q : r.Proc) → slice_get (program_of code.entry.program.now).implementations implementation ≡ Some m → slice_get (program_of code.entry.program.now).procedures m.procedure ≡ Some q → IsReplay (program_of code.entry.program.now) code.entry.blocks.now code.entry.set.now implementation m q (tables_in start.entry.tables.now) start.entry.globals.now start.entry.frame.now start.entry.choices.now ending) }
+    ensures { IfOk result (λ ending. (m : r.Impl) (q : r.Proc) → slice_get (program_of code.entry.program.now).implementations implementation ≡ Some m → slice_get (program_of code.entry.program.now).procedures m.procedure ≡ Some q → IsReplay (program_of code.entry.program.now) code.entry.blocks.now code.entry.set.now implementation m q (tables_in start.entry.tables.now) (vals_in start.entry.globals.now) (vals_in start.entry.frame.now) (map choice_of start.entry.choices.now) ending) }
 {
     let Some(m) = code.program.implementations.get(implementation) else {
         return Ok(Ending::NoScalars);

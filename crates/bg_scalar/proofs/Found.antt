@@ -1,14 +1,16 @@
 -- What an ordered map has at a list of arguments is what the first of its entries for them says.
-use Rattle.std.proofs.Common.{◌≡◌, ◌<◌, ℕ, zero, suc, Bool, true, false, List, [], ◌∷◌, map, length, get_or, Option, Some, refl, sym, ap, ◌∙◌, Vec, Global, arith}
-use Rattle.std.specs.Prelude.{◌&&◌, ◌==◌, if◌then◌else◌, cond, unwrap_or, slice_get}
+use Rattle.std.proofs.Common.{◌≡◌, ◌<◌, ◌≤◌, ℕ, zero, suc, Bool, true, false, List, [], ◌∷◌, map, length, get_or, Option, Some, refl, sym, ap, ◌∙◌, Vec, Global, arith}
+use Rattle.std.specs.Prelude.{◌&&◌, ◌==◌, if◌then◌else◌, cond, pos, unwrap_or, slice_get}
 use Rattle.std.specs.declared.cmp.Ordering.{Ordering}
 use Rattle.std.specs.declared.cmp.Ordering.TheVariants.{Less, Equal, Greater}
 use Rattle.std.specs.Ordering.{is_eq, ordering_then, nat_cmp, int_cmp, int_eq}
 use Rattle.std.specs.Cmp.{int_eq_equiv, nat_eq_equiv, unsigned_tied}
 use Rattle.std.specs.Cmp.Lexicographic.{slice_cmp}
 use Rattle.std.specs.Map.{lookup}
-use Rattle.bg_scalar.specs.Tables.{scalar_eq, scalars_eq, entry_for, told}
-use Rattle.bg_scalar.specs.Views.{entry_in, tables_in}
+use Rattle.bg_ast.specs.Values as v
+use Rattle.bg_sense.specs.Eval.{vals_eq, entry_for, look_up}
+use Rattle.bg_scalar.specs.Values.{val_of}
+use Rattle.bg_scalar.specs.Views.{vals_in, entry_in, tables_in}
 use Rattle.bg_scalar.specs.declared.scalar.Scalar.{Scalar}
 use Rattle.bg_scalar.specs.declared.scalar.Scalar.TheVariants.{Truth, Number, Element}
 use Rattle.bg_scalar.specs.declared.table.Table.{Table}
@@ -19,25 +21,25 @@ then_is Less p a b h k = ap (λ c. c && b) h
 then_is Equal p a b h k = k ∙ ap (λ c. c && b) h
 then_is Greater p a b h k = ap (λ c. c && b) h
 
-chosen : (b c : Bool) (x : Scalar) (o : Option Scalar) (d y : Scalar) → b ≡ c → unwrap_or o d ≡ y → unwrap_or (cond b (Some x) o) d ≡ (if c then x else y)
+chosen : (b c : Bool) (x : Scalar) (o : Option Scalar) (d : Scalar) (y : v.Val) → b ≡ c → val_of (unwrap_or o d) ≡ y → val_of (unwrap_or (cond b (Some x) o) d) ≡ (if c then val_of x else y)
 chosen true true x o d y h k = refl
 chosen true false x o d y h k = absurd cc
 chosen false true x o d y h k = absurd cc
 chosen false false x o d y h k = k
 
 -- by an order in which the same scalars are equal
-module _ (R : Scalar → Scalar → Ordering) (same : (x y : Scalar) → is_eq (R x y) ≡ scalar_eq y x) where
-  keys_alike : (xs ys : List Scalar) → is_eq (slice_cmp R xs ys) ≡ scalars_eq ys xs
+module _ (R : Scalar → Scalar → Ordering) (same : (x y : Scalar) → is_eq (R x y) ≡ v.val_eq (val_of y) (val_of x)) where
+  keys_alike : (xs ys : List Scalar) → is_eq (slice_cmp R xs ys) ≡ vals_eq (vals_in ys) (vals_in xs)
   keys_alike [] [] = refl
   keys_alike [] (y ∷ ys) = refl
   keys_alike (x ∷ xs) [] = refl
   keys_alike (x ∷ xs) (y ∷ ys) =
-      then_is (R x y) (slice_cmp R xs ys) (scalar_eq y x) (scalars_eq ys xs) (same x y) (keys_alike xs ys)
+      then_is (R x y) (slice_cmp R xs ys) (v.val_eq (val_of y) (val_of x)) (vals_eq (vals_in ys) (vals_in xs)) (same x y) (keys_alike xs ys)
 
-  pub found : (es : List (Vec Scalar Global × Scalar)) (args : List Scalar) (d : Scalar) → unwrap_or (lookup (λ k. is_eq (slice_cmp R args k.items)) es) d ≡ entry_for (map entry_in es) args d
+  pub found : (es : List (Vec Scalar Global × Scalar)) (args : List Scalar) (d : Scalar) → val_of (unwrap_or (lookup (λ k. is_eq (slice_cmp R args k.items)) es) d) ≡ entry_for (map entry_in es) (vals_in args) (val_of d)
   found [] args d = refl
   found (e ∷ es) args d =
-      chosen (is_eq (slice_cmp R args e.0.items)) (scalars_eq e.0.items args) e.1 (lookup (λ k. is_eq (slice_cmp R args k.items)) es) d (entry_for (map entry_in es) args d) (keys_alike args e.0.items) (found es args d)
+      chosen (is_eq (slice_cmp R args e.0.items)) (vals_eq (vals_in e.0.items) (vals_in args)) e.1 (lookup (λ k. is_eq (slice_cmp R args k.items)) es) d (entry_for (map entry_in es) (vals_in args) (val_of d)) (keys_alike args e.0.items) (found es args d)
 
 -- the order of scalars
 abbrev pub scalar_cmp : Scalar → Scalar → Ordering
@@ -46,7 +48,7 @@ scalar_cmp = (ord.ghosts).cmp
 types_alike : (t u : ℕ) → is_eq (nat_cmp t u) ≡ (u == t)
 types_alike t u = unsigned_tied t u ∙ nat_eq_equiv.symm t u
 
-pub equal_alike : (x y : Scalar) → is_eq (scalar_cmp x y) ≡ scalar_eq y x
+pub equal_alike : (x y : Scalar) → is_eq (scalar_cmp x y) ≡ v.val_eq (val_of y) (val_of x)
 equal_alike (Truth true) (Truth true) = refl
 equal_alike (Truth true) (Truth false) = refl
 equal_alike (Truth false) (Truth true) = refl
@@ -70,13 +72,20 @@ there [] f t h e = absurd (omega (arith, h))
 there (u ∷ ts) zero t h e = ap Some (sym e)
 there (u ∷ ts) (suc f) t h e = there ts f t (omega (arith, h)) e
 
-by_table : (ts : List Table) (f : ℕ) (t : Table) (xs : List Scalar) → slice_get ts f ≡ Some t → told (tables_in ts) f xs ≡ entry_for (map entry_in t.entries.entries) xs t.default
-by_table [] f t xs e = absurd cc
-by_table (u ∷ ts) zero t xs e =
-    let same : u ≡ t = cc in ap (λ z. entry_for (map entry_in z.entries.entries) xs z.default) same
-by_table (u ∷ ts) (suc f) t xs e = by_table ts f t xs e
+by_table : (ts : List Table) (f : ℕ) (t : Table) (args : List v.Val) → slice_get ts f ≡ Some t → look_up (slice_get (tables_in ts) f) args ≡ entry_for (map entry_in t.entries.entries) args (val_of t.default)
+by_table [] f t args e = absurd cc
+by_table (u ∷ ts) zero t args e =
+    let same : u ≡ t = cc in ap (λ z. entry_for (map entry_in z.entries.entries) args (val_of z.default)) same
+by_table (u ∷ ts) (suc f) t args e = by_table ts f t args e
 
 -- what the map of a function's table has, or else its default
-pub told_by : (ts : List Table) (f : ℕ) (t : Table) (xs : List Scalar) → f < length ts → t ≡ get_or ts f t → unwrap_or (lookup (λ k. is_eq (slice_cmp scalar_cmp xs k.items)) t.entries.entries) t.default ≡ told (tables_in ts) f xs
+pub told_by : (ts : List Table) (f : ℕ) (t : Table) (xs : List Scalar) → f < length ts → t ≡ get_or ts f t → val_of (unwrap_or (lookup (λ k. is_eq (slice_cmp scalar_cmp xs k.items)) t.entries.entries) t.default) ≡ look_up (slice_get (tables_in ts) f) (vals_in xs)
 told_by ts f t xs h e =
-    found scalar_cmp equal_alike t.entries.entries xs t.default ∙ sym (by_table ts f t xs (there ts f t h e))
+    found scalar_cmp equal_alike t.entries.entries xs t.default
+    ∙ sym (by_table ts f t (vals_in xs) (there ts f t h e))
+
+-- no table is there
+pub none_told : (ts : List Table) (f : ℕ) (args : List v.Val) → length ts ≤ f → look_up (slice_get (tables_in ts) f) args ≡ v.Num (pos 0)
+none_told [] f args h = refl
+none_told (t ∷ ts) zero args h = absurd (omega (arith, h))
+none_told (t ∷ ts) (suc f) args h = none_told ts f args (omega (arith, h))

@@ -1,3 +1,9 @@
+pub mod Rows
+pub mod KeyParts
+pub mod Places
+pub mod Copied
+pub mod Same
+pub mod NoMaps
 pub mod Chains
 pub mod Tabled
 pub mod Found

@@ -1,9 +1,9 @@
--- Choices and states of scalars.
-use Rattle.std.specs.Prelude.{List, map}
+-- Choices and states.
+use Rattle.std.specs.Prelude.{List}
+use Rattle.bg_ast.specs.Values.{Val}
 use Rattle.bg_ast.specs.Execution as e
 use Rattle.bg_ast.specs.Execution.{State}
 use Rattle.bg_scalar.specs.Values.{val_of}
-use Rattle.bg_scalar.specs.declared.scalar.Scalar.{Scalar}
 use Rattle.bg_scalar.specs.declared.choice.Choice.{Choice}
 use Rattle.bg_scalar.specs.declared.choice.Choice.TheVariants as choice
 
@@ -12,5 +12,5 @@ choice_of (choice.Branch k) = e.Branch k
 choice_of (choice.Chosen x) = e.Chosen (val_of x)
 
 -- the state in which variables have these values
-abbrev pub state_of : List Scalar → List Scalar → State
-state_of globals frame = record { globals = map val_of globals; frame = map val_of frame }
+abbrev pub state_of : List Val → List Val → State
+state_of globals frame = record { globals = globals; frame = frame }

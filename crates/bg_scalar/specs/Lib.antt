@@ -1,9 +1,9 @@
-pub mod Tables
 pub mod Worths
 pub mod Signs
 pub mod Along
-pub mod Lists
 pub mod Values
+pub mod Lists
 pub mod Typed
 pub mod Choices
 pub mod Views
+pub mod Maps

@@ -1,4 +1,4 @@
--- Signs as they are written: between operands, before them and behind them.
+-- Signs as they are written: between operands and before them.
 use Rattle.std.specs.Prelude.{List, [], ◌∷◌}
 use Rattle.bg_text.specs.declared.expr.InfixSign.{InfixSign}
 use Rattle.bg_text.specs.declared.expr.InfixSign.TheVariants as sign
@@ -6,10 +6,8 @@ use Rattle.bg_text.specs.declared.expr.PrefixSign.{PrefixSign}
 use Rattle.bg_text.specs.declared.expr.PrefixSign.TheVariants as prefix
 use Rattle.bg_text.specs.declared.expr.TreePrefix.{TreePrefix}
 use Rattle.bg_ast.specs.Syntax.{Op, And, Or, Implies, Iff, Equal, Unequal, Less, AtMost, Greater, AtLeast, Plus, Minus, Times}
-use Rattle.bg_scalar.specs.Worths.{and_then, joined, not_on, minus_on}
-use Rattle.bg_scalar.specs.declared.scalar.Scalar.{Scalar}
-use Rattle.bg_scalar.specs.declared.scalar.Worth.{Worth}
-use Rattle.bg_scalar.specs.declared.scalar.Worth.TheVariants.{NoScalar}
+use Rattle.bg_ast.specs.Values.{Val}
+use Rattle.bg_scalar.specs.Worths.{WorthOf, and_then, joined, not_on, minus_on}
 
 -- the operator that a sign stands for; `<==` is `==>` with its sides turned
 abbrev pub op_of : InfixSign → Op
@@ -29,23 +27,18 @@ op_of sign.Minus = Minus
 op_of sign.Times = Times
 
 -- a sign between two operands: of `a <== b` the right one comes first
-abbrev pub between : InfixSign → Worth → Worth → Worth
+abbrev pub between : InfixSign → WorthOf → WorthOf → WorthOf
 between sign.Explies a b = joined Implies b a
 between g a b = joined (op_of g) a b
 
-abbrev pub prefix_on : PrefixSign → Scalar → Worth
+abbrev pub prefix_on : PrefixSign → Val → WorthOf
 prefix_on prefix.Not x = not_on x
 prefix_on prefix.Minus x = minus_on x
 
-abbrev pub prefixed : PrefixSign → Worth → Worth
+abbrev pub prefixed : PrefixSign → WorthOf → WorthOf
 prefixed g a = and_then a (prefix_on g)
 
 -- a row of prefix signs: the last is the innermost
-abbrev pub signed : List TreePrefix → Worth → Worth
+abbrev pub signed : List TreePrefix → WorthOf → WorthOf
 signed [] a = a
 signed (x ∷ xs) a = prefixed x.sign (signed xs a)
-
--- maps are no scalars
-abbrev pub behind : {A : Type 0} → List A → Worth → Worth
-behind [] a = a
-behind (b ∷ bs) a = NoScalar

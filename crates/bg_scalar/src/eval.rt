@@ -1,23 +1,22 @@
 //! The evaluation of expressions, from left to right.
-ghost use Rattle.std.specs.Prelude.{◌≡◌, map, None, IfOk};
+ghost use Rattle.std.specs.Prelude.{◌≡◌, map, slice_get, None, IfOk};
 ghost use Rattle.bg_ast.specs.Meaning as m;
 ghost use Rattle.bg_ast.specs.Views as view;
 ghost use Rattle.bg_ast.specs.Meaning.{exs_of};
-ghost use Rattle.bg_ast.specs.Views.{link_view, var_of, exs_in};
+ghost use Rattle.bg_ast.specs.Views.{link_view, bracket_view, var_of, exs_in};
+ghost use Rattle.bg_sense.specs.Eval.{look_up};
 ghost use Rattle.bg_scalar.specs.Worths as spec;
-ghost use Rattle.bg_scalar.specs.Worths.{known, read_in, and_then_all, worth, worths};
-ghost use Rattle.bg_scalar.specs.Tables.{told};
-ghost use Rattle.bg_scalar.specs.Signs.{signed, behind};
-ghost use Rattle.bg_scalar.specs.declared.scalar.Worth.TheVariants.{Is};
+ghost use Rattle.bg_scalar.specs.Worths.{Is, read_in, and_then_all, worth, worths};
+ghost use Rattle.bg_scalar.specs.Signs.{signed};
 ghost use Rattle.bg_scalar.specs.Along as way;
-ghost use Rattle.bg_scalar.specs.Along.{under, along};
+ghost use Rattle.bg_scalar.specs.Along.{under, along, bracketed, behind};
 ghost use Rattle.bg_scalar.specs.Lists.{listed};
-ghost use Rattle.bg_scalar.specs.Views.{seen_of, tables_in};
+ghost use Rattle.bg_scalar.specs.Views.{seen_of, tables_in, worth_in, premise_in, known_in};
 
 use crate::joined::{joined, prefixed};
 use crate::scalar::{Scalar, Scalars, Worth};
 use crate::table::{Table, told};
-use bg_ast::resolved::{Expr, Link, Variable};
+use bg_ast::resolved::{Bracket, Expr, Link, Variable};
 use bg_text::{InfixSign, TreePrefix};
 use std::alloc::{AllocError, Global};
 
@@ -31,7 +30,7 @@ pub struct Sight<'a> {
 }
 
 fn known(x: Option<Scalar>) -> Worth
-    ensures { result ≡ known x }
+    ensures { worth_in result ≡ known_in x }
 {
     match x {
         None => Worth::NoScalar,
@@ -39,8 +38,10 @@ fn known(x: Option<Scalar>) -> Worth
     }
 }
 
-fn read(sight: Sight<'_>, x: Variable) -> Worth
-    ensures { result ≡ read_in (seen_of sight.entry) (var_of x) }
+/// The value of a variable.
+#[tactic(auto, using(crate::proofs::NoMaps::known_at))]
+pub fn read(sight: Sight<'_>, x: Variable) -> Worth
+    ensures { worth_in result ≡ read_in (seen_of sight.entry) (var_of x) }
 {
     match x {
         Variable::Global(k) => known(sight.globals.get(k as usize).copied()),
@@ -63,7 +64,7 @@ fn entry(sight: Sight<'_>) -> Sight<'_>
 /// A row of prefix signs, of which the last is the innermost.
 #[tactic(auto, using(crate::proofs::Chains::innermost))]
 fn signed(signs: &[TreePrefix], value: Worth) -> Worth
-    ensures { result ≡ signed signs.now value }
+    ensures { worth_in result ≡ signed signs.now (worth_in value) }
 {
     let mut value = value;
     let mut left = signs;
@@ -74,20 +75,46 @@ fn signed(signs: &[TreePrefix], value: Worth) -> Worth
     value
 }
 
-/// An expression with these brackets behind it; maps are no scalars.
-pub fn behind<T>(brackets: &[T], value: Worth) -> Worth
-    ensures { result ≡ behind brackets.now value }
+/// What an index behind a value comes to: what is wrong with the value, or with the index, or else that a scalar is no map.
+#[tactic(auto, using(crate::proofs::NoMaps::nothing_chosen))]
+fn selected(value: Worth, index: Scalars) -> Worth
+    ensures { worth_in result ≡ spec.selected (worth_in value) (listed index) }
 {
-    if brackets.is_empty() {
-        value
-    } else {
-        Worth::NoScalar
+    match value {
+        Worth::Leaves(o) => Worth::Leaves(o),
+        Worth::NoScalar => Worth::NoScalar,
+        Worth::Is(_) => match index {
+            Scalars::Leave(o) => Worth::Leaves(o),
+            Scalars::NoScalars => Worth::NoScalar,
+            Scalars::Are(_) => Worth::NoScalar,
+        },
+    }
+}
+
+/// What a new value at an index comes to: what is wrong with the value before, with the index, or with the new value, or else that a
+/// scalar is no map.
+#[tactic(auto, using(crate::proofs::NoMaps::nothing_written))]
+pub fn updated(value: Worth, index: Scalars, new: Worth) -> Worth
+    ensures { worth_in result ≡ spec.updated (worth_in value) (listed index) (worth_in new) }
+{
+    match value {
+        Worth::Leaves(o) => Worth::Leaves(o),
+        Worth::NoScalar => Worth::NoScalar,
+        Worth::Is(_) => match index {
+            Scalars::Leave(o) => Worth::Leaves(o),
+            Scalars::NoScalars => Worth::NoScalar,
+            Scalars::Are(_) => match new {
+                Worth::Leaves(o) => Worth::Leaves(o),
+                Worth::NoScalar => Worth::NoScalar,
+                Worth::Is(_) => Worth::NoScalar,
+            },
+        },
     }
 }
 
 /// `==>` groups to the right: what stands before it is a premise of all that follows.
 fn premise_after(sign: InfixSign, premise: Option<Worth>, a: Worth) -> Option<Worth>
-    ensures { result ≡ way.premise_after sign premise a }
+    ensures { premise_in result ≡ way.premise_after sign (premise_in premise) (worth_in a) }
 {
     if matches!(sign, InfixSign::Implies) {
         match premise {
@@ -101,7 +128,7 @@ fn premise_after(sign: InfixSign, premise: Option<Worth>, a: Worth) -> Option<Wo
 
 /// The operand that is at hand behind a sign.
 fn operand_after(sign: InfixSign, a: Worth, b: Worth) -> Worth
-    ensures { result ≡ way.operand_after sign a b }
+    ensures { worth_in result ≡ way.operand_after sign (worth_in a) (worth_in b) }
 {
     if matches!(sign, InfixSign::Implies) {
         b
@@ -111,7 +138,7 @@ fn operand_after(sign: InfixSign, a: Worth, b: Worth) -> Worth
 }
 
 fn under(premise: Option<Worth>, a: Worth) -> Worth
-    ensures { result ≡ under premise a }
+    ensures { worth_in result ≡ under (premise_in premise) (worth_in a) }
 {
     match premise {
         None => a,
@@ -121,7 +148,7 @@ fn under(premise: Option<Worth>, a: Worth) -> Worth
 
 /// What a function's table says for these arguments, if they are scalars.
 fn applied(tables: &[Table], function: u32, args: Scalars) -> Worth
-    ensures { result ≡ and_then_all (listed args) (λ xs. Is (told (tables_in tables.now) function xs)) }
+    ensures { worth_in result ≡ and_then_all (listed args) (λ xs. Is (look_up (slice_get (tables_in tables.now) function) xs)) }
 {
     match args {
         Scalars::Leave(o) => Worth::Leaves(o),
@@ -136,7 +163,7 @@ fn applied(tables: &[Table], function: u32, args: Scalars) -> Worth
 /// Only want of memory is an error.
 #[cycle(worth)]
 pub fn worth(alloc: Global, sight: Sight<'_>, e: &Expr) -> Result<Worth, AllocError>
-    ensures { IfOk result (λ x. x ≡ worth (m.ex_of (view.ex_of e.now)) (seen_of sight.entry)) }
+    ensures { IfOk result (λ x. worth_in x ≡ worth (m.ex_of (view.ex_of e.now)) (seen_of sight.entry)) }
 {
     match e {
         Expr::Number(_, z) => Ok(Worth::Is(Scalar::Number(*z))),
@@ -159,7 +186,7 @@ pub fn worth(alloc: Global, sight: Sight<'_>, e: &Expr) -> Result<Worth, AllocEr
         }
         Expr::Postfix(e, brackets) => {
             let value = worth(alloc, sight, e)?;
-            Ok(behind(brackets, value))
+            behind(alloc, sight, brackets, value)
         }
     }
 }
@@ -167,7 +194,7 @@ pub fn worth(alloc: Global, sight: Sight<'_>, e: &Expr) -> Result<Worth, AllocEr
 /// The value of a chain behind its first operand.
 #[cycle(worth)]
 fn chain(alloc: Global, sight: Sight<'_>, first: Worth, links: &[Link]) -> Result<Worth, AllocError>
-    ensures { IfOk result (λ x. x ≡ along None first (map link_view links.now) (seen_of sight.entry)) }
+    ensures { IfOk result (λ x. worth_in x ≡ along None (worth_in first) (map link_view links.now) (seen_of sight.entry)) }
 {
     let mut premise = None;
     let mut operand = first;
@@ -177,6 +204,46 @@ fn chain(alloc: Global, sight: Sight<'_>, first: Worth, links: &[Link]) -> Resul
         operand = operand_after(link.sign, operand, next);
     }
     Ok(under(premise, operand))
+}
+
+/// The value behind a row of brackets.
+#[cycle(worth)]
+fn behind(
+    alloc: Global,
+    sight: Sight<'_>,
+    brackets: &[Bracket],
+    first: Worth,
+) -> Result<Worth, AllocError>
+    ensures { IfOk result (λ x. worth_in x ≡ behind (worth_in first) (map bracket_view brackets.now) (seen_of sight.entry)) }
+{
+    let mut value = first;
+    for b in brackets {
+        value = bracketed(alloc, sight, b, value)?;
+    }
+    Ok(value)
+}
+
+/// The value behind a bracket: the index comes first, then the new value.
+#[cycle(worth)]
+fn bracketed(
+    alloc: Global,
+    sight: Sight<'_>,
+    bracket: &Bracket,
+    value: Worth,
+) -> Result<Worth, AllocError>
+    ensures { IfOk result (λ x. worth_in x ≡ bracketed (worth_in value) (bracket_view bracket.now).1 (bracket_view bracket.now).2 (seen_of sight.entry)) }
+{
+    match bracket {
+        Bracket::Select(_, es) => {
+            let index = worths(alloc, sight, es)?;
+            Ok(selected(value, index))
+        }
+        Bracket::Update(_, es, e) => {
+            let index = worths(alloc, sight, es)?;
+            let new = worth(alloc, sight, e)?;
+            Ok(updated(value, index, new))
+        }
+    }
 }
 
 /// What expressions are worth, evaluated from left to right.

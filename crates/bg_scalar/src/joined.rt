@@ -1,7 +1,10 @@
 //! Signs between scalars, and before them.
 ghost use Rattle.std.specs.Prelude.{◌≡◌};
+ghost use Rattle.std.specs.Ordering.{int_eq};
 ghost use Rattle.bg_scalar.specs.Worths as spec;
-ghost use Rattle.bg_scalar.specs.Worths.{exact, is_truth, is_number, on_truths, on_numbers, on_elements, operate, takes};
+ghost use Rattle.bg_scalar.specs.Worths.{exact, is_truth, is_number, on_truths, on_numbers, by_equality, operate, takes};
+ghost use Rattle.bg_scalar.specs.Values.{val_of};
+ghost use Rattle.bg_scalar.specs.Views.{worth_in};
 ghost use Rattle.bg_scalar.specs.Signs.{op_of, between, prefix_on, prefixed};
 
 use crate::scalar::{Scalar, Worth};
@@ -9,14 +12,14 @@ use bg_base::{OutOfRange, add, mul, neg, sub};
 use bg_text::{InfixSign, PrefixSign};
 
 fn truth(b: bool) -> Worth
-    ensures { result ≡ spec.truth b }
+    ensures { worth_in result ≡ spec.truth b }
 {
     Worth::Is(Scalar::Truth(b))
 }
 
 /// The result of an operation, or that it leaves the range.
 fn exact(made: Result<i128, OutOfRange>) -> Worth
-    ensures { result ≡ exact made }
+    ensures { worth_in result ≡ exact made }
 {
     match made {
         Ok(z) => Worth::Is(Scalar::Number(z)),
@@ -26,7 +29,7 @@ fn exact(made: Result<i128, OutOfRange>) -> Worth
 
 /// The operator of a sign between truth values.
 fn on_truths(sign: InfixSign, a: bool, b: bool) -> Worth
-    ensures { result ≡ on_truths (op_of sign) a b }
+    ensures { worth_in result ≡ on_truths (op_of sign) a b }
 {
     match sign {
         InfixSign::Iff => truth(a == b),
@@ -48,7 +51,7 @@ fn on_truths(sign: InfixSign, a: bool, b: bool) -> Worth
 
 /// The operator of a sign between whole numbers.
 fn on_numbers(sign: InfixSign, x: i128, y: i128) -> Worth
-    ensures { result ≡ on_numbers (op_of sign) x y }
+    ensures { worth_in result ≡ on_numbers (op_of sign) x y }
 {
     match sign {
         InfixSign::Iff => Worth::NoScalar,
@@ -70,7 +73,7 @@ fn on_numbers(sign: InfixSign, x: i128, y: i128) -> Worth
 
 /// The operator of a sign between elements of one type.
 fn on_elements(sign: InfixSign, x: i128, y: i128) -> Worth
-    ensures { result ≡ on_elements (op_of sign) x y }
+    ensures { worth_in result ≡ by_equality (op_of sign) (int_eq x y) }
 {
     match sign {
         InfixSign::Iff => Worth::NoScalar,
@@ -91,7 +94,7 @@ fn on_elements(sign: InfixSign, x: i128, y: i128) -> Worth
 }
 
 fn operate(sign: InfixSign, a: Scalar, b: Scalar) -> Worth
-    ensures { result ≡ operate (op_of sign) a b }
+    ensures { worth_in result ≡ operate (op_of sign) (val_of a) (val_of b) }
 {
     match a {
         Scalar::Truth(a) => match b {
@@ -119,7 +122,7 @@ fn operate(sign: InfixSign, a: Scalar, b: Scalar) -> Worth
 }
 
 fn is_truth(a: Scalar) -> bool
-    ensures { result ≡ is_truth a }
+    ensures { result ≡ is_truth (val_of a) }
 {
     match a {
         Scalar::Truth(_) => true,
@@ -129,7 +132,7 @@ fn is_truth(a: Scalar) -> bool
 }
 
 fn is_number(a: Scalar) -> bool
-    ensures { result ≡ is_number a }
+    ensures { result ≡ is_number (val_of a) }
 {
     match a {
         Scalar::Truth(_) => false,
@@ -140,7 +143,7 @@ fn is_number(a: Scalar) -> bool
 
 /// Whether the operator of a sign may stand behind this operand.
 fn takes(sign: InfixSign, a: Scalar) -> bool
-    ensures { result ≡ takes (op_of sign) a }
+    ensures { result ≡ takes (op_of sign) (val_of a) }
 {
     match sign {
         InfixSign::Iff => is_truth(a),
@@ -162,7 +165,7 @@ fn takes(sign: InfixSign, a: Scalar) -> bool
 
 /// The value of a sign's operator between two operands; what is wrong with the left one comes first.
 fn operated(sign: InfixSign, a: Worth, b: Worth) -> Worth
-    ensures { result ≡ spec.joined (op_of sign) a b }
+    ensures { worth_in result ≡ spec.joined (op_of sign) (worth_in a) (worth_in b) }
 {
     match a {
         Worth::Leaves(o) => Worth::Leaves(o),
@@ -183,7 +186,7 @@ fn operated(sign: InfixSign, a: Worth, b: Worth) -> Worth
 /// The value of a sign between two operands. What is wrong with the left one comes first; but `a <== b` is `b ==> a`, where b comes
 /// first.
 pub fn joined(sign: InfixSign, a: Worth, b: Worth) -> Worth
-    ensures { result ≡ between sign a b }
+    ensures { worth_in result ≡ between sign (worth_in a) (worth_in b) }
 {
     match sign {
         InfixSign::Explies => operated(InfixSign::Implies, b, a),
@@ -192,7 +195,7 @@ pub fn joined(sign: InfixSign, a: Worth, b: Worth) -> Worth
 }
 
 fn prefix_on(sign: PrefixSign, a: Scalar) -> Worth
-    ensures { result ≡ prefix_on sign a }
+    ensures { worth_in result ≡ prefix_on sign (val_of a) }
 {
     match a {
         Scalar::Truth(b) => match sign {
@@ -212,7 +215,7 @@ fn prefix_on(sign: PrefixSign, a: Scalar) -> Worth
 
 /// The value of a prefix sign before an operand.
 pub fn prefixed(sign: PrefixSign, a: Worth) -> Worth
-    ensures { result ≡ prefixed sign a }
+    ensures { worth_in result ≡ prefixed sign (worth_in a) }
 {
     match a {
         Worth::Leaves(o) => Worth::Leaves(o),

@@ -1,7 +1,8 @@
 //! Tables of functions.
-ghost use Rattle.std.specs.Prelude.{◌≡◌};
-ghost use Rattle.bg_scalar.specs.Tables.{told};
-ghost use Rattle.bg_scalar.specs.Views.{tables_in};
+ghost use Rattle.std.specs.Prelude.{◌≡◌, slice_get};
+ghost use Rattle.bg_sense.specs.Eval.{look_up};
+ghost use Rattle.bg_scalar.specs.Values.{val_of};
+ghost use Rattle.bg_scalar.specs.Views.{tables_in, vals_in};
 
 use crate::scalar::Scalar;
 use std::collections::BTreeMap;
@@ -16,7 +17,7 @@ pub struct Table {
 /// What the function with this number gives for these arguments, where functions have these tables; 0 where it has none. Takes time for
 /// the logarithm of the table's size.
 pub fn told(tables: &[Table], function: u32, args: &Vec<Scalar>) -> Scalar
-    ensures { result ≡ told (tables_in tables.now) function args.now.items }
+    ensures { val_of result ≡ look_up (slice_get (tables_in tables.now) function) (vals_in args.now.items) }
 {
     match tables.get(function as usize) {
         None => Scalar::Number(0),

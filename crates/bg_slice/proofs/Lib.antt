@@ -2,7 +2,9 @@ mod Using
 mod Below
 mod Left
 mod Saying
-mod Onward
-mod Marking
+pub mod Onward
+pub mod Marking
 mod Sizes
 mod Guarding
+pub mod Fronts
+mod Noting

@@ -10,13 +10,13 @@ use Rattle.bg_formed.specs.Used.{Use, refusal_of, first_of, in_front, use_cmds}
 use Rattle.bg_formed.specs.Views.{form_cmd_of, form_cmds_of}
 use Rattle.bg_slice.specs.Slices.{ask_if, take_if, slice_cmds}
 
-use_append : (t : Spot) (ks : List FormCmd) (k : FormCmd) (u : Use) → use_cmds t (ks ++ k ∷ []) u ≡ use_cmds t ks (use_cmds t (k ∷ []) u)
+pub use_append : (t : Spot) (ks : List FormCmd) (k : FormCmd) (u : Use) → use_cmds t (ks ++ k ∷ []) u ≡ use_cmds t ks (use_cmds t (k ∷ []) u)
 use_append t [] k u = refl
 use_append t (Asks s b r ∷ ks) k u =
     ap (λ v. if spot_eq s t then record { reached = true; refusal = first_of (refusal_of r) v.refusal } else in_front r v) (use_append t ks k u)
 use_append t (Takes b r ∷ ks) k u = ap (in_front r) (use_append t ks k u)
 
-cut_append : (t : Spot) (ks : List FormCmd) (k : FormCmd) (u : Use) → slice_cmds t (ks ++ k ∷ []) u ≡ slice_cmds t ks (use_cmds t (k ∷ []) u) ++ slice_cmds t (k ∷ []) u
+pub cut_append : (t : Spot) (ks : List FormCmd) (k : FormCmd) (u : Use) → slice_cmds t (ks ++ k ∷ []) u ≡ slice_cmds t ks (use_cmds t (k ∷ []) u) ++ slice_cmds t (k ∷ []) u
 cut_append t [] k u = refl
 cut_append t (Asks s b r ∷ ks) k u =
     ap (λ v. ask_if (spot_eq s t || v.reached) s b r ∷ slice_cmds t (ks ++ k ∷ []) u) (use_append t ks k u)

@@ -1,2 +1,4 @@
 pub mod Slices
 pub mod Marks
+pub mod Noted
+pub mod Counting

@@ -1,13 +1,12 @@
 //! Blocks of forms and rows, cut down to what counts for one target. Atoms keep their numbers.
 #![tactic(auto)]
 
+mod counting;
 mod cut;
 mod guards;
 pub mod laws;
-mod made;
 mod marks;
-mod rows;
-mod whole;
+mod noted;
 
-pub use made::Slice;
-pub use whole::slice;
+pub use cut::sliced;
+pub use noted::{Kept, what_counts};

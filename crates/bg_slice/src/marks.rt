@@ -1,14 +1,13 @@
 //! Marks of the atoms that forms name.
-ghost use Rattle.std.specs.Prelude.{◌≡◌, ◌==◌, ◌||◌, false, map, replicate, IfOk};
+ghost use Rattle.std.specs.Prelude.{◌≡◌, ◌==◌};
 ghost use Rattle.bg_forms.specs.Views.{form_in};
 ghost use Rattle.bg_formed.specs.Formed.{said};
-ghost use Rattle.bg_formed.specs.Views.{says_of, form_cmd_of, form_cmds_of, form_edge_of, form_block_of};
-ghost use Rattle.bg_slice.specs.Slices.{names_form, names_cmd, names_cmds, names_edges, names_blocks};
+ghost use Rattle.bg_formed.specs.Views.{says_of, form_cmd_of, form_cmds_of};
+ghost use Rattle.bg_slice.specs.Slices.{names_form, names_cmd, names_cmds};
 ghost use Rattle.bg_slice.specs.Marks.{marked};
 
-use bg_formed::{FormBlock, FormCmd, FormEdge, Says};
+use bg_formed::{FormCmd, Says};
 use bg_forms::Form;
-use std::alloc::{AllocError, Global};
 
 /// One more atom is marked, if it is one of those from `base` on that have marks.
 #[tactic(auto, using(crate::proofs::Marking::one_rules))]
@@ -67,47 +66,11 @@ fn mark_cmd(base: u32, marks: &mut [bool], k: &FormCmd)
     }
 }
 
-fn mark_cmds(base: u32, marks: &mut [bool], cmds: &[FormCmd])
+/// The atoms that commands name are marked.
+pub fn mark_cmds(base: u32, marks: &mut [bool], cmds: &[FormCmd])
     ensures { marks.new ≡ marked (λ n. names_cmds n (form_cmds_of cmds.now)) base marks.old }
 {
     for k in cmds {
         mark_cmd(base, marks, k);
     }
-}
-
-fn mark_edges(base: u32, marks: &mut [bool], edges: &[FormEdge])
-    ensures { marks.new ≡ marked (λ n. names_edges n (map form_edge_of edges.now)) base marks.old }
-{
-    for e in edges {
-        mark_cmds(base, marks, &e.cmds);
-    }
-}
-
-fn mark_block(base: u32, marks: &mut [bool], b: &FormBlock)
-    ensures { marks.new ≡ marked (λ n. names_cmds n (form_block_of b.now).cmds || names_edges n (form_block_of b.now).next) base marks.old }
-{
-    mark_cmds(base, marks, &b.cmds);
-    mark_edges(base, marks, &b.next);
-}
-
-fn mark_blocks(base: u32, marks: &mut [bool], blocks: &[FormBlock])
-    ensures { marks.new ≡ marked (λ n. names_blocks n (map form_block_of blocks.now)) base marks.old }
-{
-    for b in blocks {
-        mark_block(base, marks, b);
-    }
-}
-
-/// Which of so many atoms from `base` on the blocks name.
-pub fn named(
-    alloc: Global,
-    base: u32,
-    count: usize,
-    blocks: &[FormBlock],
-) -> Result<Vec<bool>, AllocError>
-    ensures { IfOk result (λ made. made.items ≡ marked (λ n. names_blocks n (map form_block_of blocks.now)) base (replicate count false)) }
-{
-    let mut marks = vec![in alloc; false; count]?;
-    mark_blocks(base, &mut marks, blocks);
-    Ok(marks)
 }

@@ -1,26 +1,26 @@
 -- Lists of which one ends before the other.
 use Rattle.std.proofs.Common.{◌≡◌, ◌≤◌, ℕ, zero, suc, List, [], ◌∷◌, length, map, drop, refl, arith}
+use Rattle.bg_ast.specs.Values.{Ty}
 use Rattle.bg_flow.specs.Blocks.{Block}
-use Rattle.bg_fits.specs.declared.types.Holding.{Holding}
 use Rattle.bg_sorts.specs.Arrivals.{with_new, after_blocks}
 
-pub no_holdings : (js : List ℕ) (made : List Holding) → with_new js [] made ≡ made
-no_holdings [] made = refl
-no_holdings (j ∷ js) made = refl
+pub no_types : (js : List ℕ) (made : List Ty) → with_new js [] made ≡ made
+no_types [] made = refl
+no_types (j ∷ js) made = refl
 
--- no holding is left
-pub new_past : (js : List ℕ) (ss made : List Holding) (i : ℕ) → length ss ≤ i → with_new js (drop i ss) made ≡ made
-new_past js [] made zero h = no_holdings js made
-new_past js [] made (suc i) h = no_holdings js made
-new_past js (s ∷ ss) made zero h = absurd (omega (arith, h))
-new_past js (s ∷ ss) made (suc i) h = new_past js ss made i (omega (arith, h))
+-- no type is left
+pub new_past : {A : Type 0} (f : A → Ty) (js : List ℕ) (ss : List A) (made : List Ty) (i : ℕ) → length ss ≤ i → with_new js (map f (drop i ss)) made ≡ made
+new_past f js [] made zero h = no_types js made
+new_past f js [] made (suc i) h = no_types js made
+new_past f js (s ∷ ss) made zero h = absurd (omega (arith, h))
+new_past f js (s ∷ ss) made (suc i) h = new_past f js ss made i (omega (arith, h))
 
-no_blocks : (gs fs : List Holding) (later : List (List ℕ × List ℕ)) (made : List Holding) → after_blocks gs fs later [] made ≡ made
+no_blocks : (gs fs : List Ty) (later : List (List ℕ × List ℕ)) (made : List Ty) → after_blocks gs fs later [] made ≡ made
 no_blocks gs fs [] made = refl
 no_blocks gs fs (at ∷ later) made = refl
 
 -- no block is left
-pub blocks_past : {A : Type 0} (f : A → Block) (gs fs : List Holding) (later : List (List ℕ × List ℕ)) (bs : List A) (made : List Holding) (i : ℕ) → length bs ≤ i → after_blocks gs fs later (map f (drop i bs)) made ≡ made
+pub blocks_past : {A : Type 0} (f : A → Block) (gs fs : List Ty) (later : List (List ℕ × List ℕ)) (bs : List A) (made : List Ty) (i : ℕ) → length bs ≤ i → after_blocks gs fs later (map f (drop i bs)) made ≡ made
 blocks_past f gs fs later [] made zero h = no_blocks gs fs later made
 blocks_past f gs fs later [] made (suc i) h = no_blocks gs fs later made
 blocks_past f gs fs later (b ∷ bs) made zero h = absurd (omega (arith, h))

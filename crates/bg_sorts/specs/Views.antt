@@ -1,8 +1,10 @@
--- How the code's holdings of variables are read.
+-- How the code's types of variables are read.
+use Rattle.std.specs.Prelude.{map}
+use Rattle.bg_ast.specs.Values.{Ty}
 use Rattle.bg_ast.specs.Syntax.{Var}
-use Rattle.bg_fits.specs.declared.types.Holding.{Holding}
+use Rattle.bg_kinds.specs.Views.{ref_in}
 use Rattle.bg_sorts.specs.declared.known.Known.{Known}
-use Rattle.bg_sorts.specs.Sorts.{variable_holding}
+use Rattle.bg_sorts.specs.Sorts.{variable_type}
 
-abbrev pub holdings_in : Known → Var → Holding
-holdings_in known = variable_holding known.globals.now known.frame.now
+abbrev pub types_in : Known → Var → Ty
+types_in known = variable_type (map ref_in known.globals.now) (map ref_in known.frame.now)

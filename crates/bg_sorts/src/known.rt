@@ -1,65 +1,69 @@
-//! What variables hold.
+//! The types of variables.
 ghost use Rattle.std.specs.Prelude.{◌≡◌, ◌++◌, map, slice_get, OnOk};
 ghost use Rattle.bg_ast.specs.Views.{var_of, target_of};
+ghost use Rattle.bg_kinds.specs.Views.{ref_in, ref_of};
 ghost use Rattle.bg_blocks.specs.Views.{target_variable};
-ghost use Rattle.bg_sorts.specs.Sorts.{holding_or};
-ghost use Rattle.bg_sorts.specs.Views.{holdings_in};
+ghost use Rattle.bg_sorts.specs.Sorts.{type_or};
+ghost use Rattle.bg_sorts.specs.Views.{types_in};
 
 use bg_ast::resolved::{Resolved, Target, Variable};
-use bg_fits::Holding;
-use std::alloc::AllocError;
+use bg_fits::kind_copied;
+use bg_kinds::{Base, TypeRef, ValueType, plain};
+use std::alloc::{AllocError, Global};
 
-/// A program, and the holdings of its globals and of the variables of a frame.
+/// A program, and the types of its globals and of the variables of a frame.
 #[derive(Clone, Copy)]
 pub struct Known<'s> {
     pub program: &'s Resolved,
-    pub globals: &'s [Holding],
-    pub frame: &'s [Holding],
+    pub globals: &'s [ValueType],
+    pub frame: &'s [ValueType],
 }
 
-fn holding_at(holdings: &[Holding], k: u32) -> Holding
-    ensures { result ≡ holding_or (slice_get holdings.now k) }
+fn type_at(kinds: &[ValueType], k: u32) -> TypeRef<'_>
+    ensures { ref_of result ≡ type_or (slice_get (map ref_in kinds.now) k) }
 {
-    match holdings.get(k as usize) {
-        Some(s) => *s,
-        None => Holding::Numbers,
+    match kinds.get(k as usize) {
+        Some(t) => t.as_ref(),
+        None => plain(Base::Int),
     }
 }
 
-/// What a variable holds.
-fn held_by(known: &Known<'_>, x: Variable) -> Holding
-    ensures { result ≡ holdings_in known.now (var_of x) }
+/// The type of a variable.
+fn type_of<'s>(known: &Known<'s>, x: Variable) -> TypeRef<'s>
+    ensures { ref_of result ≡ types_in known.now (var_of x) }
 {
     match x {
-        Variable::Global(k) => holding_at(known.globals, k),
-        Variable::Local(k) => holding_at(known.frame, k),
+        Variable::Global(k) => type_at(known.globals, k),
+        Variable::Local(k) => type_at(known.frame, k),
     }
 }
 
-/// Adds what is held by each of these variables.
+/// Adds the type of each of these variables.
 pub fn push_variables(
-    made: &mut Vec<Holding>,
+    alloc: Global,
+    made: &mut Vec<ValueType>,
     known: &Known<'_>,
     xs: &[Variable],
 ) -> Result<(), AllocError>
-    ensures { OnOk result (made.new.items ≡ made.old.items ++ map (holdings_in known.now) (map var_of xs.now)) }
+    ensures { OnOk result (map ref_in made.new.items ≡ map ref_in made.old.items ++ map (types_in known.now) (map var_of xs.now)) }
 {
     for x in xs {
-        made.push(held_by(known, *x))?;
+        made.push(kind_copied(alloc, type_of(known, *x))?)?;
     }
     Ok(())
 }
 
-/// Adds what is held by each variable that is assigned.
+/// Adds the type of each variable that is assigned.
 pub fn push_targets(
-    made: &mut Vec<Holding>,
+    alloc: Global,
+    made: &mut Vec<ValueType>,
     known: &Known<'_>,
     targets: &[Target],
 ) -> Result<(), AllocError>
-    ensures { OnOk result (made.new.items ≡ made.old.items ++ map (holdings_in known.now) (map target_variable (map target_of targets.now))) }
+    ensures { OnOk result (map ref_in made.new.items ≡ map ref_in made.old.items ++ map (types_in known.now) (map target_variable (map target_of targets.now))) }
 {
     for t in targets {
-        made.push(held_by(known, t.placed.variable))?;
+        made.push(kind_copied(alloc, type_of(known, t.placed.variable))?)?;
     }
     Ok(())
 }

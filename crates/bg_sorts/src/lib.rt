@@ -1,4 +1,4 @@
-//! What declared variables hold, and what the incarnations hold that passive blocks give them.
+//! The types of declared variables, and of the incarnations that passive blocks give them.
 #![tactic(auto)]
 
 mod arrival;
@@ -7,5 +7,5 @@ mod known;
 mod types;
 mod whole;
 
-pub use types::{declared_holdings, frame_holdings};
-pub use whole::holdings;
+pub use types::{declared_kinds, frame_kinds};
+pub use whole::incarnation_kinds;

@@ -6,7 +6,7 @@ use bg_formed::{FormBlock, FormCmd, Says};
 use bg_forms::{Form, form_ex};
 use bg_linear::Sort;
 use bg_places::Spot;
-use bg_slice::slice;
+use bg_slice::what_counts;
 use bg_text::InfixSign;
 use std::alloc::Global;
 use std::test::Fail;
@@ -35,6 +35,7 @@ fn clauses_of_blocks_that_meet_again(rt: HostRuntime) -> Result<(), Fail> {
         first: a.first,
         named: &[true],
         terms: a.terms,
+        kept: &[],
         rows: &a.rows,
     };
     assert!(rt; counts(alloc, &names, &a.blocks)? == (5, 5));
@@ -51,14 +52,15 @@ procedure P(p: bool) { if (p) { assert a ==> p; } else { assert b ==> p; assert 
 fn units(alloc: Global) -> Result<(Vec<Option<u32>>, usize), Fail> {
     let passive = passive_of(alloc, &program(alloc, &[(WAYS, 1)])?)?;
     let a = atoms(alloc, &[Sort::Truth], 3, &passive.blocks)?.ok_or("no atoms")?;
-    let s = slice(alloc, Spot::Assert(2), a.first, 3, &a.rows, &a.blocks)?;
+    let kept = what_counts(alloc, Spot::Assert(2), a.first, 0, 3, &a.blocks)?;
     let names = Names {
         first: a.first,
-        named: &s.named,
+        named: &kept.named,
         terms: a.terms,
-        rows: &s.rows,
+        kept: &kept.rows,
+        rows: &a.rows,
     };
-    match clauses(alloc, &names, Spot::Assert(2), &s.blocks) {
+    match clauses(alloc, &names, Spot::Assert(2), &a.blocks) {
         Ok(f) => Ok((f.candidates, f.atoms.len())),
         Err(_) => Err("refused".into()),
     }
@@ -95,6 +97,7 @@ fn counts_of_chain(alloc: Global, sign: InfixSign, many: u32) -> Result<(usize, 
         first: many,
         named: &[],
         terms: 0,
+        kept: &[],
         rows: &[],
     };
     counts(alloc, &names, &[block])

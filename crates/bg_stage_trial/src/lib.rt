@@ -10,7 +10,7 @@ mod flat;
 #[cfg(test)]
 mod forms;
 #[cfg(test)]
-mod holdings;
+mod kinds;
 #[cfg(test)]
 mod model;
 #[cfg(test)]

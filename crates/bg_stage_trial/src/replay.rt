@@ -15,7 +15,8 @@ procedure P(); modifies g, h, i, j;
 implementation P() { havoc g; g, j := g + 1, g * 2; assert g == 0; }
 implementation P() { havoc h; g, j := g + 1, g * 2; assert g == 0; }
 implementation P() { havoc i; assert i == k; }
-implementation P() { havoc j; g, j := g + 1, g * 2; assert g == 0; }";
+implementation P() { havoc j; g, j := g + 1, g * 2; assert g == 0; }
+implementation P() { havoc g; assert j[g] == 0; }";
 
 const LEAVES: Ending = Ending::OutOfRange(OutOfRange {
     op: Op::Plus,
@@ -33,7 +34,7 @@ const SEVEN: Scalar = Scalar::Element(1, 7);
 const YES: Choice = Choice::Chosen(Scalar::Truth(true));
 
 /// The number of an implementation, a choice, and how the run ends that begins with zeros and the element 7.
-const CASES: [(usize, Choice, Ending); 13] = [
+const CASES: [(usize, Choice, Ending); 14] = [
     (0, Choice::Chosen(Scalar::Number(i128::MAX)), LEAVES),
     (0, Choice::Chosen(Scalar::Number(-1)), Ending::Ended),
     (
@@ -54,7 +55,8 @@ const CASES: [(usize, Choice, Ending); 13] = [
     (2, Choice::Chosen(Scalar::Element(0, 7)), Ending::BadChoice),
     (2, Choice::Chosen(Scalar::Number(7)), Ending::BadChoice),
     (2, YES, Ending::BadChoice),
-    (3, Choice::Chosen(ZERO), Ending::NoScalars),
+    (3, Choice::Chosen(ZERO), Ending::BadChoice),
+    (4, Choice::Chosen(ZERO), Ending::NoScalars),
 ];
 
 fn ends(alloc: Global, number: usize, choice: Choice, wanted: Ending) -> Result<bool, Fail> {

@@ -3,7 +3,7 @@ use crate::text::{passive_of, program};
 use bg_atoms::atoms;
 use bg_linear::Sort;
 use bg_places::Spot;
-use bg_slice::slice;
+use bg_slice::what_counts;
 use std::alloc::Global;
 use std::test::Fail;
 
@@ -17,10 +17,12 @@ const TEXT: &[u8] = b"procedure P(x: int, q: bool) {
 fn left(alloc: Global) -> Result<usize, Fail> {
     let passive = passive_of(alloc, &program(alloc, &[(TEXT, 1)])?)?;
     let a = atoms(alloc, &[Sort::Number, Sort::Truth], 0, &passive.blocks)?.ok_or("no atoms")?;
-    let s = slice(alloc, Spot::Assert(2), a.first, 0, &a.rows, &a.blocks)?;
+    let kept = what_counts(alloc, Spot::Assert(2), a.first, a.rows.len(), 0, &a.blocks)?;
     let mut entries = 0;
-    for r in &s.rows {
-        entries = r.row.entries.len().saturating_add(entries);
+    for (r, is_kept) in a.rows.iter().zip(&kept.rows) {
+        if *is_kept {
+            entries = r.row.entries.len().saturating_add(entries);
+        }
     }
     Ok(entries)
 }

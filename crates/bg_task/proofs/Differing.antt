@@ -2,7 +2,7 @@
 use Rattle.std.proofs.Common.{◌≡◌, ℕ, zero, suc, Bool, true, false, List, [], ◌∷◌, ℤ, pos, ◌+ℤ◌, ◌≤ℤ◌, ◌⊎◌, inl, inr, refl, ap, arith}
 use Rattle.std.specs.Prelude.{◌&&◌, Some, slice_get}
 use Rattle.std.proofs.lemmas.Int.{ints}
-use Rattle.bg_fits.specs.declared.types.Holding.{Holding}
+use Rattle.bg_ast.specs.Values.{Ty}
 use Rattle.bg_terms.specs.Terms.{Term}
 use Rattle.bg_task.specs.Targets.{is_spread, are_spread, past_all, spread_from, targets_of}
 
@@ -10,7 +10,7 @@ and_none : (b : Bool) → (b && false) ≡ false
 and_none true = refl
 and_none false = refl
 
-none_stands : (hs : List Holding) (j : ℕ) (z y : ℤ) (k : ℕ) → slice_get (spread_from z (are_spread j hs [])) k ≡ Some y → y ≡ pos 0
+none_stands : (hs : List Ty) (j : ℕ) (z y : ℤ) (k : ℕ) → slice_get (spread_from z (are_spread j hs [])) k ≡ Some y → y ≡ pos 0
 none_stands [] j z y k e = absurd (let bad : ⊥ = cc in bad)
 none_stands (h ∷ hs) j z y zero e = let f = rw (and_none (is_spread h)) at e in cc
 none_stands (h ∷ hs) j z y (suc k) e =
@@ -18,7 +18,7 @@ none_stands (h ∷ hs) j z y (suc k) e =
     none_stands hs (suc j) z y k f
 
 -- without terms there is nothing to tell apart
-pub without_terms : (hs : List Holding) (k : ℕ) (y : ℤ) → slice_get (targets_of hs []) k ≡ Some y → y ≡ pos 0
+pub without_terms : (hs : List Ty) (k : ℕ) (y : ℤ) → slice_get (targets_of hs []) k ≡ Some y → y ≡ pos 0
 without_terms hs k y e = none_stands hs 0 (pos 1) y k e
 
 -- each is 0, or one of those that come
@@ -60,5 +60,5 @@ both_at z (false ∷ bs) (suc i) (suc j) y e f = next (both_at z bs i j y e f)
     next (inr h) = inr (ap (λ k. suc k) h)
 
 -- of two there is none but 0 that is the same
-pub differ : (hs : List Holding) (ts : List Term) (i j : ℕ) (y : ℤ) → slice_get (targets_of hs ts) i ≡ Some y → slice_get (targets_of hs ts) j ≡ Some y → (y ≡ pos 0) ⊎ (i ≡ j)
+pub differ : (hs : List Ty) (ts : List Term) (i j : ℕ) (y : ℤ) → slice_get (targets_of hs ts) i ≡ Some y → slice_get (targets_of hs ts) j ≡ Some y → (y ≡ pos 0) ⊎ (i ≡ j)
 differ hs ts i j y e f = both_at (past_all (pos 1) ts) (are_spread 0 hs ts) i j y e f

@@ -22,8 +22,8 @@ use Rattle.bg_ast.specs.Meaning.{ex_of, prefix_of, infix_of}
 use Rattle.bg_ast.specs.Resolved as r
 use Rattle.bg_ast.specs.Views as u
 use Rattle.bg_ast.proofs.Lists.{ex_of-Postfix}
+use Rattle.bg_ast.specs.Values.{Ty}
 use Rattle.bg_slice.specs.Marks.{marked}
-use Rattle.bg_fits.specs.declared.types.Holding.{Holding}
 use Rattle.bg_terms.specs.Terms.{Term}
 use Rattle.bg_term_table.specs.declared.table.Term as kept
 use Rattle.bg_term_table.specs.Views.{meaning, meanings, listed, operands, signs, prefixes, terms_in}
@@ -223,11 +223,11 @@ stands_kept fs k (t ∷ ts) =
     ap (λ b. b || list_any (λ t. list_any (λ e. reads k (meaning e)) t.args.items) ts) (any_meant k t.args.items)
     ∙ ap (λ b. any_reads k (listed (meanings t.args.items)) || b) (stands_kept fs k ts)
 
-spread_here : (ts : List Term) (j : ℕ) (hs : List Holding) → both hs (marked (λ k. stands k ts) j (replicate (length hs) false)) ≡ are_spread j hs ts
+spread_here : (ts : List Term) (j : ℕ) (hs : List Ty) → both hs (marked (λ k. stands k ts) j (replicate (length hs) false)) ≡ are_spread j hs ts
 spread_here ts j [] = refl
 spread_here ts j (h ∷ hs) = ap (λ l. (is_spread h && stands j ts) ∷ l) (spread_here ts (suc j) hs)
 
-pub spread_is : (fs : List Fun) (ts : List kept.Term) (hs : List Holding) (ms : List Bool) → ms ≡ marked (λ k. list_any (λ t. list_any (λ e. reads k (meaning e)) t.args.items) ts) 0 (replicate (length hs) false) → both hs ms ≡ are_spread 0 hs (terms_in fs ts)
+pub spread_is : (fs : List Fun) (ts : List kept.Term) (hs : List Ty) (ms : List Bool) → ms ≡ marked (λ k. list_any (λ t. list_any (λ e. reads k (meaning e)) t.args.items) ts) 0 (replicate (length hs) false) → both hs ms ≡ are_spread 0 hs (terms_in fs ts)
 spread_is fs ts hs ms e =
     ap (both hs) (e ∙ marked_same (λ k. list_any (λ t. list_any (λ e. reads k (meaning e)) t.args.items) ts) (λ k. stands k (terms_in fs ts)) 0 (replicate (length hs) false) (λ k. stands_kept fs k ts))
     ∙ spread_here (terms_in fs ts) 0 hs

@@ -28,6 +28,9 @@ use Rattle.bg_atoms.specs.Listed.{rows_of}
 use Rattle.bg_atoms.specs.Encoded.{blocks_over}
 use Rattle.bg_sense.specs.Variables.{procedure_of}
 use Rattle.bg_sense.specs.Typed.{IsTypedImpl, IsTyped}
+use Rattle.bg_sense.specs.Types.{types_of}
+use Rattle.bg_kinds.specs.declared.kinds.ValueType.{ValueType}
+use Rattle.bg_kinds.specs.Views.{ref_in}
 use Rattle.bg_flow.specs.Core.{frame_decls}
 use Rattle.bg_flow.specs.Blocks as f
 use Rattle.bg_passive.specs.Passive.{PassiveBlock}
@@ -44,9 +47,6 @@ use Rattle.bg_incarnate.specs.Walked.{next_in}
 use Rattle.bg_block_types.specs.Typed.{blocks_in, arrivals_in, incarnations_in, passives_in}
 use Rattle.bg_fits.specs.Scalars.{is_over_scalars}
 use Rattle.bg_linear.specs.declared.scalar.Sort.{Sort}
-use Rattle.bg_fits.specs.declared.types.Holding.{Holding}
-use Rattle.bg_fits.specs.Holdings.{holding_of}
-use Rattle.bg_sorts.specs.Sorts.{decl_holdings}
 use Rattle.bg_sorts.specs.Passive.{ArrivesAt}
 use Rattle.bg_atoms.specs.Sorted.{blocks_sorted}
 use Rattle.bg_faithful.specs.Encoded.{Encodes}
@@ -213,9 +213,9 @@ none_in_front (x ∷ xs) = refl
 
 -- ---- how an implementation is prepared
 
-holdings_many : (ds : List s.Decl) → length (decl_holdings ds) ≡ length ds
-holdings_many [] = refl
-holdings_many (d ∷ ds) = ap (λ n. suc n) (holdings_many ds)
+types_many : (ds : List s.Decl) → length (types_of ds) ≡ length ds
+types_many [] = refl
+types_many (d ∷ ds) = ap (λ n. suc n) (types_many ds)
 
 module _ (p : r.Program) (n : ℕ) (m : r.Impl) (q : r.Proc) (im : slice_get p.implementations n ≡ Some m) (pr : slice_get p.procedures m.procedure ≡ Some q) where
   abbrev types : ℕ → Ty
@@ -244,21 +244,21 @@ module _ (p : r.Program) (n : ℕ) (m : r.Impl) (q : r.Proc) (im : slice_get p.i
       map-append (decl_of types) q.params (q.results ++ m.locals)
       ∙ ap (λ l. map (decl_of types) q.params ++ l) (map-append (decl_of types) q.results m.locals)
 
-  -- as many holdings as variables
-  pub many : (holdings : List Holding) → holdings ≡ decl_holdings (frame_of p declared) → length declared ≡ length holdings
-  many holdings e =
-      sym (ap (λ l. length l) e ∙ (holdings_many (frame_of p declared) ∙ length-map declared (decl_of types)))
+  -- as many types as variables
+  pub many : (kinds : List ValueType) → map ref_in kinds ≡ types_of (frame_of p declared) → length declared ≡ length kinds
+  many kinds e =
+      sym (sym (length-map kinds ref_in) ∙ (ap (λ l. length l) e ∙ (types_many (frame_of p declared) ∙ length-map declared (decl_of types))))
 
   module _ (evens : EvenLaw) (t : IsTyped P) (o : is_over_scalars true P ≡ true) (bs : List Block) (made : AreBlocks p n m q bs) where
     pub even : BlocksEven (map (block_of p) bs)
     even = subst BlocksEven (sym made) (evens P n M Q t o impl_is proc_is)
 
-    -- the holdings of the incarnations
-    pub holdings_are : (holdings : List Holding) → holdings ≡ map holding_of (incarnations P (frame_of p declared) (arrived P (frame_of p declared) (map (block_of p) bs)).made) → holdings ≡ map holding_of (incarnations_in P n M Q)
-    holdings_are holdings e =
+    -- the types of the incarnations
+    pub types_are : (tys : List Ty) → tys ≡ incarnations P (frame_of p declared) (arrived P (frame_of p declared) (map (block_of p) bs)).made → tys ≡ incarnations_in P n M Q
+    types_are tys e =
         e
-        ∙ (ap (λ ds. map holding_of (incarnations P ds (arrived P ds (map (block_of p) bs)).made)) frame_meant
-        ∙ ap (λ l. map holding_of (incarnations P (frame_decls M Q) (arrived P (frame_decls M Q) l).made)) made)
+        ∙ (ap (λ ds. incarnations P ds (arrived P ds (map (block_of p) bs)).made) frame_meant
+        ∙ ap (λ l. incarnations P (frame_decls M Q) (arrived P (frame_decls M Q) l).made) made)
 
     -- the passive blocks
     pub passives_made : (w : Passive) → IsPassive p declared bs w → map passive_block_of w.blocks.items ≡ passives_in P n M Q
@@ -282,14 +282,14 @@ module _ (p : r.Program) (n : ℕ) (m : r.Impl) (q : r.Proc) (im : slice_get p.i
         × ((BlocksEven (map (block_of p) l) → w.count ≡ length (incarnations P (frame_of p rs) (arrived P (frame_of p rs) (map (block_of p) l)).made))
         × IsPassive p rs l w)
 
-    abbrev pub HoldingsSay : List Holding → Passive → List Block → List Holding → Type 0
-    HoldingsSay frame w l holdings =
-        (rs : List r.Declared) → frame ≡ decl_holdings (frame_of p rs) → ArrivesAt p rs l w → BlocksEven (map (block_of p) l) → holdings ≡ map holding_of (incarnations P (frame_of p rs) (arrived P (frame_of p rs) (map (block_of p) l)).made)
+    abbrev pub TypesSay : List Ty → Passive → List Block → List Ty → Type 0
+    TypesSay frame w l tys =
+        (rs : List r.Declared) → frame ≡ types_of (frame_of p rs) → ArrivesAt p rs l w → BlocksEven (map (block_of p) l) → tys ≡ incarnations P (frame_of p rs) (arrived P (frame_of p rs) (map (block_of p) l)).made
 
-    -- the passive blocks and the holdings that are made
-    pub made_here : (frame f1 : List Holding) (k : ℕ) (l1 l2 : List Block) (w : Passive) (holdings : List Holding) → frame ≡ decl_holdings (frame_of p declared) → f1 ≡ frame → k ≡ length frame → l1 ≡ bs → l2 ≡ bs → PassiveSays w k l1 → HoldingsSay f1 w l2 holdings → IsPassive p declared bs w × ((holdings ≡ map holding_of (incarnations_in P n M Q)) × (w.count ≡ count_in P n M Q))
-    made_here frame f1 k l1 l2 w holdings fe f1e ke e1 e2 passive says =
+    -- the passive blocks and the types that are made
+    pub made_here : (frame f1 : List ValueType) (k : ℕ) (l1 l2 : List Block) (w : Passive) (tys : List Ty) → map ref_in frame ≡ types_of (frame_of p declared) → f1 ≡ frame → k ≡ length frame → l1 ≡ bs → l2 ≡ bs → PassiveSays w k l1 → TypesSay (map ref_in f1) w l2 tys → IsPassive p declared bs w × ((tys ≡ incarnations_in P n M Q) × (w.count ≡ count_in P n M Q))
+    made_here frame f1 k l1 l2 w tys fe f1e ke e1 e2 passive says =
         let h = subst (PassiveSays w k) e1 passive declared (many frame fe ∙ sym ke) in
-        let g = subst (λ x. HoldingsSay x w l2 holdings) f1e says in
-        let s = subst (λ l. HoldingsSay frame w l holdings) e2 g declared fe (record { arrivals = h.0; count = h.1.0 }) even in
-        (h.1.1, (holdings_are holdings s, count_made w.count (h.1.0 even)))
+        let g = subst (λ x. TypesSay (map ref_in x) w l2 tys) f1e says in
+        let s = subst (λ l. TypesSay (map ref_in frame) w l tys) e2 g declared fe (record { arrivals = h.0; count = h.1.0 }) even in
+        (h.1.1, (types_are tys s, count_made w.count (h.1.0 even)))

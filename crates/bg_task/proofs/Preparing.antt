@@ -2,6 +2,7 @@
 use Rattle.std.proofs.Common.{◌≡◌, ℕ, ◌+◌, true, List, [], ◌++◌, ℤ, map, Some, sym, ap, ◌∙◌, subst}
 use Rattle.std.specs.Prelude.{slice_get}
 use Rattle.std.proofs.lemmas.List.{map-append}
+use Rattle.bg_ast.specs.Values.{Ty}
 use Rattle.bg_ast.specs.Syntax as s
 use Rattle.bg_ast.specs.Resolved as r
 use Rattle.bg_ast.specs.Meaning.{meaning_of, named_of, fun_of}
@@ -13,8 +14,6 @@ use Rattle.bg_block_types.specs.Typed.{incarnations_in, passives_in}
 use Rattle.bg_incarnate.specs.Views.{passive_block_of}
 use Rattle.bg_formed.specs.Views.{blocks_of}
 use Rattle.bg_linear.specs.declared.scalar.Sort.{Sort}
-use Rattle.bg_fits.specs.declared.types.Holding.{Holding}
-use Rattle.bg_fits.specs.Holdings.{holding_of}
 use Rattle.bg_atoms.specs.Listed.{rows_of}
 use Rattle.bg_atoms.specs.Encoded.{blocks_over}
 use Rattle.bg_atoms.specs.Made.{rows_in}
@@ -26,14 +25,15 @@ use Rattle.bg_terms.specs.Typed.{type_of}
 use Rattle.bg_terms.specs.Instances.{Instance}
 use Rattle.bg_flat.specs.Blocks.{in_front}
 use Rattle.bg_flat.specs.Fronts.{stated}
+use Rattle.bg_flat.specs.Mapless.{are_mapless}
 use Rattle.bg_flatten.specs.Numbered.{terms_of, flat_of}
 use Rattle.bg_flatten.specs.Plain.{PlainBlocks}
 use Rattle.bg_term_table.specs.Views as table
-use Rattle.bg_termed.specs.Termed.{count_in, terms_in, flats_in, types_in, sorts_in, behind_in}
+use Rattle.bg_termed.specs.Termed.{IsTabled, count_in, terms_in, flats_in, types_in, sorts_in, behind_in}
 use Rattle.bg_task.specs.declared.prepared.Prepared.{Prepared}
 use Rattle.bg_task.specs.Prepared.{IsPrepared, encoding_over}
 use Rattle.bg_task.specs.Cuts.{IsOwn}
-use Rattle.bg_task.specs.Holds.{flat_sort}
+use Rattle.bg_task.specs.Sorts.{flat_sort}
 use Rattle.bg_task.specs.Targets.{targets_of, targets_in}
 use Rattle.bg_task.proofs.LawTypes.{SortLaw}
 use Rattle.bg_task.proofs.Sorting.{sorts_flat}
@@ -43,8 +43,8 @@ use Rattle.bg_task.proofs.Prepares.{impl, proc, impl_at, proc_at, own_here, sort
 
 abbrev pub PlainLaw : Type 0
 PlainLaw =
-    (p : s.Prog) (k : ℕ) (m : s.Impl) (q : s.Proc) → IsTyped p → p.functions ≡ [] → slice_get p.implementations k ≡ Some m →
-    procedure_of p m.procedure ≡ Some q → PlainBlocks (passives_in p k m q)
+    (p : s.Prog) (k : ℕ) (m : s.Impl) (q : s.Proc) → IsTabled p → p.functions ≡ [] → slice_get p.implementations k ≡ Some m →
+    procedure_of p m.procedure ≡ Some q → are_mapless (incarnations_in p k m q) ≡ true → PlainBlocks (passives_in p k m q)
 
 abbrev pub PlainFlatLaw : Type 0
 PlainFlatLaw =
@@ -53,38 +53,35 @@ PlainFlatLaw =
 
 -- ---- what is made once
 
-module _ (p : s.Prog) (n : ℕ) (m : s.Impl) (q : s.Proc) (count : ℕ) (ps : List PassiveBlock) (many : count ≡ count_in p n m q) (passives : ps ≡ passives_in p n m q) where
-  pub terms_are : (ts : List Term) → ts ≡ terms_of p.functions count ps → ts ≡ terms_in p n m q
+module _ (p : s.Prog) (n : ℕ) (m : s.Impl) (q : s.Proc) (incs : List Ty) (ps : List PassiveBlock) (these : incs ≡ incarnations_in p n m q) (passives : ps ≡ passives_in p n m q) where
+  pub terms_are : (ts : List Term) → ts ≡ terms_of p.functions incs ps → ts ≡ terms_in p n m q
   terms_are ts e =
-      e ∙ (ap (λ k. terms_of p.functions k ps) many ∙ ap (terms_of p.functions (count_in p n m q)) passives)
+      e ∙ (ap (λ k. terms_of p.functions k ps) these ∙ ap (terms_of p.functions (incarnations_in p n m q)) passives)
 
-  pub flats_are : (fs : List PassiveBlock) → fs ≡ flat_of p.functions count ps → fs ≡ flats_in p n m q
+  pub flats_are : (fs : List PassiveBlock) → fs ≡ flat_of p.functions incs ps → fs ≡ flats_in p n m q
   flats_are fs e =
-      e ∙ (ap (λ k. flat_of p.functions k ps) many ∙ ap (flat_of p.functions (count_in p n m q)) passives)
+      e ∙ (ap (λ k. flat_of p.functions k ps) these ∙ ap (flat_of p.functions (incarnations_in p n m q)) passives)
 
-  pub plain_here : PlainLaw → IsTyped p → slice_get p.implementations n ≡ Some m → procedure_of p m.procedure ≡ Some q → p.functions ≡ [] → PlainBlocks ps
-  plain_here law t im pr none = subst PlainBlocks (sym passives) (law p n m q t none im pr)
+pub plain_here : (p : s.Prog) (n : ℕ) (m : s.Impl) (q : s.Proc) (ps : List PassiveBlock) → ps ≡ passives_in p n m q → PlainLaw → IsTabled p → slice_get p.implementations n ≡ Some m → procedure_of p m.procedure ≡ Some q → are_mapless (incarnations_in p n m q) ≡ true → p.functions ≡ [] → PlainBlocks ps
+plain_here p n m q ps passives law t im pr mapless none = subst PlainBlocks (sym passives) (law p n m q t none im pr mapless)
 
 pub no_functions : (p : r.Program) → p.functions ≡ [] → (meaning_of p).functions ≡ []
 no_functions p e = ap (map (fun_of (named_of p.types))) e
 
 module _ (p : s.Prog) (n : ℕ) (m : s.Impl) (q : s.Proc) where
-  -- what incarnations and terms hold
-  pub holdings_all : (incs : List Holding) (ts : List Term) (hs : List Holding) → incs ≡ map holding_of (incarnations_in p n m q) → ts ≡ terms_in p n m q → hs ≡ incs ++ map holding_of (map type_of ts) → hs ≡ map holding_of (types_in p n m q)
-  holdings_all incs ts hs a b e =
-      e
-      ∙ (ap (λ is. is ++ map holding_of (map type_of ts)) a
-      ∙ (ap (λ us. map holding_of (incarnations_in p n m q) ++ map holding_of (map type_of us)) b
-      ∙ sym (map-append holding_of (incarnations_in p n m q) (map type_of (terms_in p n m q)))))
+  -- the types of incarnations and terms
+  pub types_all : (incs : List Ty) (ts : List Term) (tys : List Ty) → incs ≡ incarnations_in p n m q → ts ≡ terms_in p n m q → tys ≡ incs ++ map type_of ts → tys ≡ types_in p n m q
+  types_all incs ts tys a b e =
+      e ∙ (ap (λ is. is ++ map type_of ts) a ∙ ap (λ us. incarnations_in p n m q ++ map type_of us) b)
 
-  -- the sorts of what stands for that
-  pub sorts_all : (hs : List Holding) (ss : List Sort) → hs ≡ map holding_of (types_in p n m q) → ss ≡ map flat_sort hs → ss ≡ sorts_in p n m q
-  sorts_all hs ss h e = e ∙ (ap (map flat_sort) h ∙ sorts_flat (types_in p n m q))
+  -- the sorts of what stands for these
+  pub sorts_all : (tys : List Ty) (ss : List Sort) → tys ≡ types_in p n m q → ss ≡ map flat_sort tys → ss ≡ sorts_in p n m q
+  sorts_all tys ss h e = e ∙ (ap (map flat_sort) h ∙ sorts_flat (types_in p n m q))
 
   -- their targets
-  pub targets_all : (hs : List Holding) (ts : List Term) (zs : List ℤ) → hs ≡ map holding_of (types_in p n m q) → ts ≡ terms_in p n m q → zs ≡ targets_of hs ts → zs ≡ targets_in p n m q
-  targets_all hs ts zs a b e =
-      e ∙ (ap (λ x. targets_of x ts) a ∙ ap (targets_of (map holding_of (types_in p n m q))) b)
+  pub targets_all : (tys : List Ty) (ts : List Term) (zs : List ℤ) → tys ≡ types_in p n m q → ts ≡ terms_in p n m q → zs ≡ targets_of tys ts → zs ≡ targets_in p n m q
+  targets_all tys ts zs a b e =
+      e ∙ (ap (λ x. targets_of x ts) a ∙ ap (targets_of (types_in p n m q)) b)
 
 -- flat blocks behind no instance
 pub behind_none : (p : s.Prog) (n : ℕ) (m : s.Impl) (q : s.Proc) (fs : List PassiveBlock) → fs ≡ flats_in p n m q → fs ≡ behind_in p n m q []

@@ -1,4 +1,4 @@
-pub mod Holds
+pub mod Sorts
 pub mod Targets
 pub mod Spread
 pub mod Cuts

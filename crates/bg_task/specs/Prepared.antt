@@ -2,6 +2,7 @@
 use Rattle.std.specs.Prelude.{◌≡◌, ℕ, Bool, true, List, [], ◌∷◌, ◌++◌, Some, map, length, replicate, slice_get}
 use Rattle.bg_ast.specs.Resolved as r
 use Rattle.bg_ast.specs.Meaning.{meaning_of, named_of, impl_of, proc_of}
+use Rattle.bg_kinds.specs.Views.{ref_in}
 use Rattle.bg_formula.specs.Atoms.{view_linear}
 use Rattle.bg_formed.specs.Views.{blocks_of}
 use Rattle.bg_blocks.specs.Views.{block_of}
@@ -12,7 +13,6 @@ use Rattle.bg_places.specs.Placed.{Placed}
 use Rattle.bg_passive.specs.Arrivals.{arrived}
 use Rattle.bg_incarnate.specs.Walked.{next_in}
 use Rattle.bg_incarnate.specs.Views.{passive_block_of}
-use Rattle.bg_fits.specs.Holdings.{holding_of}
 use Rattle.bg_atoms.specs.declared.product.Atoms.{Atoms}
 use Rattle.bg_faithful.specs.Encoded.{Encoding}
 use Rattle.bg_term_table.specs.Views as table
@@ -39,7 +39,7 @@ abbrev pub frame_declared : r.Impl → r.Proc → List r.Declared
 frame_declared m q = q.params ++ (q.results ++ m.locals)
 
 -- the blocks of the implementation with this number, the first new incarnations at their arrivals, how many incarnations there are, its
--- terms, its flat blocks where it has terms, what incarnations and terms hold, the sorts of what stands for that, the blocks of forms
+-- terms, its flat blocks where it has terms, the types of incarnations and terms, the sorts of what stands for these, the blocks of forms
 -- behind no instance, and the targets of incarnations and terms
 pub record IsPrepared (p : r.Program) (number : ℕ) (w : Prepared) : Type 0 where
   pub implementation : r.Impl
@@ -52,7 +52,7 @@ pub record IsPrepared (p : r.Program) (number : ℕ) (w : Prepared) : Type 0 whe
   pub count : w.count ≡ count_in (meaning_of p) number (impl_of (named_of p.types) implementation) (proc_of (named_of p.types) procedure)
   pub terms : table.terms_in (meaning_of p).functions w.terms.items ≡ terms_in (meaning_of p) number (impl_of (named_of p.types) implementation) (proc_of (named_of p.types) procedure)
   pub flats : (w.terms.items ≡ [] → ⊥) → map passive_block_of w.flats.items ≡ flats_in (meaning_of p) number (impl_of (named_of p.types) implementation) (proc_of (named_of p.types) procedure)
-  pub holdings : w.holdings.items ≡ map holding_of (types_in (meaning_of p) number (impl_of (named_of p.types) implementation) (proc_of (named_of p.types) procedure))
+  pub kinds : map ref_in w.kinds.items ≡ types_in (meaning_of p) number (impl_of (named_of p.types) implementation) (proc_of (named_of p.types) procedure)
   pub sorts : w.sorts.items ≡ sorts_in (meaning_of p) number (impl_of (named_of p.types) implementation) (proc_of (named_of p.types) procedure)
   pub own : IsOwn (meaning_of p) number (impl_of (named_of p.types) implementation) (proc_of (named_of p.types) procedure) [] (encoding_over (meaning_of p).candidates w.atoms)
   pub targets : w.targets.items ≡ targets_in (meaning_of p) number (impl_of (named_of p.types) implementation) (proc_of (named_of p.types) procedure)

@@ -1,10 +1,8 @@
 -- Targets of incarnations and terms: whole numbers near which a point has what stands for them.
 use Rattle.std.specs.Prelude.{ℕ, suc, Bool, true, false, if◌then◌else◌, ◌==◌, ◌&&◌, ◌||◌, List, [], ◌∷◌, map, ℤ, pos, ◌+ℤ◌, int_lt, int_le}
 use Rattle.std.specs.List.{list_any}
+use Rattle.bg_ast.specs.Values.{Ty, IntTy, BoolTy, UserTy, MapTy}
 use Rattle.bg_ast.specs.Syntax.{Ex, Exs, Number, Read, Local, Not, Negative, Binary, NoMore, More, Proc, Impl, Prog}
-use Rattle.bg_fits.specs.declared.types.Holding.{Holding}
-use Rattle.bg_fits.specs.declared.types.Holding.TheVariants.{Truths, Numbers, Elements, Others}
-use Rattle.bg_fits.specs.Holdings.{holding_of}
 use Rattle.bg_terms.specs.Terms.{Term}
 use Rattle.bg_termed.specs.Termed.{terms_in, types_in}
 
@@ -25,16 +23,16 @@ abbrev pub stands : ℕ → List Term → Bool
 stands j ts = list_any (λ t. any_reads j t.args) ts
 
 -- numbers and elements are to differ where they stand in arguments; truth values and maps aren't
-abbrev pub is_spread : Holding → Bool
-is_spread Truths = false
-is_spread Numbers = true
-is_spread (Elements u) = true
-is_spread Others = false
+abbrev pub is_spread : Ty → Bool
+is_spread BoolTy = false
+is_spread IntTy = true
+is_spread (UserTy u) = true
+is_spread (MapTy ks t) = false
 
--- which of those that hold this do, where the first of them has number j
-abbrev pub are_spread : ℕ → List Holding → List Term → List Bool
+-- which of those of these types do, where the first of them has number j
+abbrev pub are_spread : ℕ → List Ty → List Term → List Bool
 are_spread j [] ts = []
-are_spread j (h ∷ hs) ts = (is_spread h && stands j ts) ∷ are_spread (suc j) hs ts
+are_spread j (t ∷ tys) ts = (is_spread t && stands j ts) ∷ are_spread (suc j) tys ts
 
 -- the number that an expression is, and 0 if it is none
 abbrev pub literal : Ex → ℤ
@@ -61,11 +59,11 @@ spread_from z [] = []
 spread_from z (true ∷ bs) = z ∷ spread_from (z +ℤ pos 1) bs
 spread_from z (false ∷ bs) = pos 0 ∷ spread_from z bs
 
--- the targets of incarnations and terms that hold this, where the terms are these: for numbers and elements that stand in an argument those
+-- the targets of incarnations and terms of these types, where the terms are these: for numbers and elements that stand in an argument those
 -- behind the largest number that is an argument, one after the other, and 0 for all else
-abbrev pub targets_of : List Holding → List Term → List ℤ
-targets_of hs ts = spread_from (past_all (pos 1) ts) (are_spread 0 hs ts)
+abbrev pub targets_of : List Ty → List Term → List ℤ
+targets_of tys ts = spread_from (past_all (pos 1) ts) (are_spread 0 tys ts)
 
 -- those of the incarnations and terms of an implementation
 abbrev pub targets_in : Prog → ℕ → Impl → Proc → List ℤ
-targets_in p k m q = targets_of (map holding_of (types_in p k m q)) (terms_in p k m q)
+targets_in p k m q = targets_of (types_in p k m q) (terms_in p k m q)

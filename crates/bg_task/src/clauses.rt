@@ -8,7 +8,7 @@ ghost use Rattle.bg_task.specs.Prepared.{IsPrepared};
 ghost use Rattle.bg_task.specs.Slices.{IsSliceFor};
 ghost use Rattle.bg_task.specs.Made.{IsMade};
 
-use crate::cut::Cut;
+use crate::cut::{Cut, atoms_in};
 use crate::question::Question;
 use bg_base::OutOfRange;
 use bg_clause::{Names, clauses};
@@ -29,16 +29,17 @@ pub enum Made {
 pub fn place_clauses(
     alloc: Global,
     question: Question<'_, '_>,
-    cut: &Cut,
+    cut: &Cut<'_>,
 ) -> Result<Made, AllocError>
     requires prepared { IsPrepared (program_of question.program.now) question.place.now.implementation question.prepared.now }
     ensures { IfOk result (λ made. (instances : List terms.Instance) → IsSliceFor (program_of question.entry.program.now) question.entry.place.now.implementation question.entry.prepared.now instances (spot_of question.entry.place.now.spot) cut.now → IsMade (meaning_of (program_of question.entry.program.now)) instances cut.now (placed_of question.entry.place.now).place made) }
 {
-    let atoms = &cut.atoms;
+    let atoms = atoms_in(cut);
     let names = Names {
         first: atoms.first,
         named: &cut.named,
         terms: atoms.terms,
+        kept: &cut.rows,
         rows: &atoms.rows,
     };
     match clauses(alloc, &names, question.place.spot, &atoms.blocks) {

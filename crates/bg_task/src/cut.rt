@@ -4,87 +4,105 @@ ghost use Rattle.bg_ast.specs.Meaning.{meaning_of};
 ghost use Rattle.bg_ast.specs.Views.{program_of};
 ghost use Rattle.bg_sense.specs.Typed.{IsTyped};
 ghost use Rattle.bg_places.specs.Views.{spot_of};
+ghost use Rattle.bg_formed.specs.Views.{blocks_of};
 ghost use Rattle.bg_fits.specs.Scalars.{is_over_scalars};
 ghost use Rattle.bg_term_table.specs.Instances.{instances_of};
 ghost use Rattle.bg_termed.specs.There.{AreThere};
 ghost use Rattle.bg_task.specs.Prepared.{IsPrepared};
-ghost use Rattle.bg_task.specs.Slices.{IsSliceOf, IsSliceFor};
+ghost use Rattle.bg_task.specs.Slices.{whole_in, encoding_in, IsSliceBy, IsSliceFor};
 
 use crate::behind::atoms_behind;
 use crate::prepared::{Prepared, count_candidates};
 use bg_ast::resolved::Resolved;
 use bg_atoms::Atoms;
-use bg_places::Place;
+use bg_formed::FormBlock;
+use bg_places::{Place, Spot};
 use bg_slice::laws::{slices_are_below, slices_have_rows, slices_say_the_same, slices_use_alike};
-use bg_slice::{Slice, slice};
+use bg_slice::{Kept, sliced, what_counts};
 use bg_term_table::Instance;
 use std::alloc::{AllocError, Global};
 
-/// Blocks of forms in which only commands that count for a place say something, with no rows but those that they name; and of each
-/// candidate of the program, whether it guards such a command.
+/// Blocks of forms that were prepared, or that were made for a place.
 #[derive(Drop)]
-pub struct Cut {
-    pub atoms: Atoms,
+pub enum Whole<'q> {
+    Lent(&'q Atoms),
+    Own(Atoms),
+}
+
+/// Blocks of forms, of which what counts for the check of a place says something: which of their rows commands that count name, and of
+/// each candidate of the program, whether it guards such a command.
+#[derive(Drop)]
+pub struct Cut<'q> {
+    pub whole: Whole<'q>,
+    pub spot: Spot,
+    pub rows: Vec<bool>,
     pub named: Vec<bool>,
 }
 
-/// Blocks of forms cut down to what counts for a place.
-fn blocks_cut(
-    alloc: Global,
-    program: &Resolved,
-    atoms: &Atoms,
-    place: &Place,
-) -> Result<Cut, AllocError>
-    ensures { IfOk result (λ made. IsSliceOf (meaning_of (program_of program.now)).candidates atoms.now (spot_of place.now.spot) made) }
+/// The blocks of forms.
+pub fn atoms_in<'a>(cut: &'a Cut<'_>) -> &'a Atoms
+    ensures { result.now ≡ whole_in cut.now.whole }
+{
+    match &cut.whole {
+        Whole::Lent(a) => *a,
+        Whole::Own(a) => a,
+    }
+}
+
+/// What of blocks of forms counts for a place.
+fn counted(alloc: Global, program: &Resolved, atoms: &Atoms, spot: Spot) -> Result<Kept, AllocError>
+    ensures { IfOk result (λ made. IsSliceBy (meaning_of (program_of program.now)).candidates atoms.now (spot_of spot) made.rows.items made.named.items) }
 {
     slices_use_alike();
     slices_are_below();
     slices_have_rows();
     slices_say_the_same();
     let candidates = count_candidates(program)?;
-    let Slice {
-        rows,
-        blocks,
-        named,
-    } = slice(
-        alloc,
-        place.spot,
-        atoms.first,
-        candidates,
-        &atoms.rows,
-        &atoms.blocks,
-    )?;
-    Ok(Cut {
-        atoms: Atoms {
-            first: atoms.first,
-            terms: atoms.terms,
-            rows,
-            blocks,
-        },
-        named,
-    })
+    let rows = atoms.rows.len();
+    let made = what_counts(alloc, spot, atoms.first, rows, candidates, &atoms.blocks)?;
+    Ok(made)
+}
+
+/// The blocks in which only commands that count for the place say something.
+pub fn forms_left(alloc: Global, cut: &Cut<'_>) -> Result<Vec<FormBlock>, AllocError>
+    ensures { IfOk result (λ made. blocks_of made ≡ (encoding_in cut.now).blocks) }
+{
+    sliced(alloc, cut.spot, &atoms_in(cut).blocks)
 }
 
 /// The blocks of forms of a prepared implementation behind these instances of its terms, cut down to what counts for a place. Without
 /// instances they are those that were prepared; else all are made anew.
 ///
 /// Only want of memory is an error; 2^32 atoms count as such.
-pub fn cut_down(
+pub fn cut_down<'q>(
     alloc: Global,
     program: &Resolved,
-    prepared: &Prepared<'_>,
+    prepared: &'q Prepared<'_>,
     place: &Place,
     instances: &[Instance],
-) -> Result<Cut, AllocError>
+) -> Result<Cut<'q>, AllocError>
     requires typed { IsTyped (meaning_of (program_of program.now)) }
     requires scalars { is_over_scalars true (meaning_of (program_of program.now)) ≡ true }
     requires prepared { IsPrepared (program_of program.now) place.now.implementation prepared.now }
     requires there { AreThere (length prepared.now.terms.items) (instances_of instances.now) }
     ensures { IfOk result (λ made. IsSliceFor (program_of program.now) place.now.implementation prepared.now (instances_of instances.now) (spot_of place.now.spot) made) }
 {
+    let spot = place.spot;
     if instances.is_empty() {
-        return blocks_cut(alloc, program, &prepared.atoms, place);
+        let Kept { rows, named } = counted(alloc, program, &prepared.atoms, spot)?;
+        return Ok(Cut {
+            whole: Whole::Lent(&prepared.atoms),
+            spot,
+            rows,
+            named,
+        });
     }
     let atoms = atoms_behind(alloc, program, prepared, instances)?;
-    blocks_cut(alloc, program, &atoms, place)
+    let Kept { rows, named } = counted(alloc, program, &atoms, spot)?;
+    Ok(Cut {
+        whole: Whole::Own(atoms),
+        spot,
+        rows,
+        named,
+    })
 }

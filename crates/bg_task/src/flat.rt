@@ -5,24 +5,25 @@ ghost use Rattle.bg_ast.specs.Views.{program_of};
 ghost use Rattle.bg_incarnate.specs.Views.{passive_block_of};
 ghost use Rattle.bg_flatten.specs.Numbered.{terms_of, flat_of};
 ghost use Rattle.bg_flatten.specs.Plain.{PlainBlocks};
-ghost use Rattle.bg_term_table.specs.Views.{terms_in};
+ghost use Rattle.bg_term_table.specs.Views.{terms_in, incs_of, GiveThese};
 
 use bg_ast::resolved::Resolved;
 use bg_flatten::laws::plain_blocks_stay;
 use bg_flatten::{Flat, flattened};
 use bg_incarnate::PassiveBlock;
+use bg_term_table::Around;
 use std::alloc::{AllocError, Global};
 
-/// Passive blocks over so many incarnations made flat, with their terms. In a program without functions, where they hold no application
-/// and no `old`, they are flat as they are.
+/// Passive blocks over incarnations made flat, with their terms. In a program without functions, where they hold no application,
+/// select, update and `old`, they are flat as they are.
 pub fn made_flat(
     alloc: Global,
     program: &Resolved,
-    count: u32,
+    around: Around<'_>,
     passives: Vec<PassiveBlock>,
 ) -> Result<Flat, AllocError>
-    ensures terms { IfOk result (λ made. ((program_of program.now).functions ≡ [] → PlainBlocks (map passive_block_of passives.items)) → (fs : List Fun) → terms_in fs made.terms.items ≡ terms_of fs count (map passive_block_of passives.items)) }
-    ensures blocks { IfOk result (λ made. ((program_of program.now).functions ≡ [] → PlainBlocks (map passive_block_of passives.items)) → (fs : List Fun) → map passive_block_of made.blocks.items ≡ flat_of fs count (map passive_block_of passives.items)) }
+    ensures terms { IfOk result (λ made. ((program_of program.now).functions ≡ [] → PlainBlocks (map passive_block_of passives.items)) → (fs : List Fun) → GiveThese fs around.entry → terms_in fs made.terms.items ≡ terms_of fs (incs_of around.entry) (map passive_block_of passives.items)) }
+    ensures blocks { IfOk result (λ made. ((program_of program.now).functions ≡ [] → PlainBlocks (map passive_block_of passives.items)) → (fs : List Fun) → GiveThese fs around.entry → map passive_block_of made.blocks.items ≡ flat_of fs (incs_of around.entry) (map passive_block_of passives.items)) }
 {
     plain_blocks_stay();
     if program.functions.is_empty() {
@@ -31,5 +32,5 @@ pub fn made_flat(
             blocks: passives,
         });
     }
-    flattened(alloc, count, &passives)
+    flattened(alloc, around, &passives)
 }

@@ -10,7 +10,7 @@ ghost use Rattle.bg_formula.specs.Meaning.{AtomsAgree};
 ghost use Rattle.bg_cert.specs.Certs.{CertOf, Accepts, cert_of, uses};
 ghost use Rattle.bg_cert.specs.Walks.{has, no_instance};
 ghost use Rattle.bg_fits.specs.Scalars.{is_over_scalars};
-ghost use Rattle.bg_fits.specs.declared.types.Holding.{Holding};
+ghost use Rattle.bg_ast.specs.Values.{Ty};
 ghost use Rattle.bg_terms.specs.Terms.{Term};
 ghost use Rattle.bg_terms.specs.Instances.{Instance};
 ghost use Rattle.bg_termed.specs.Termed.{sorts_in, behind_in};
@@ -85,10 +85,10 @@ pub fn a_place_has_one_list_of_clauses()
 
 /// Where there are no terms all targets are 0.
 pub fn without_terms_targets_are_zero()
-    ensures { (hs : List Holding) (k : ℕ) (z : ℤ) → slice_get (targets_of hs []) k ≡ Some z → z ≡ pos 0 }
+    ensures { (tys : List Ty) (k : ℕ) (z : ℤ) → slice_get (targets_of tys []) k ≡ Some z → z ≡ pos 0 }
 {}
 
 /// No two incarnations or terms have one target, but for 0.
 pub fn targets_differ()
-    ensures { (hs : List Holding) (ts : List Term) (i j : ℕ) (z : ℤ) → slice_get (targets_of hs ts) i ≡ Some z → slice_get (targets_of hs ts) j ≡ Some z → (z ≡ pos 0) ⊎ (i ≡ j) }
+    ensures { (tys : List Ty) (ts : List Term) (i j : ℕ) (z : ℤ) → slice_get (targets_of tys ts) i ≡ Some z → slice_get (targets_of tys ts) j ≡ Some z → (z ≡ pos 0) ⊎ (i ≡ j) }
 {}

@@ -6,13 +6,14 @@ mod behind;
 mod clauses;
 mod cut;
 mod flat;
-mod held;
+mod kinds;
 pub mod laws;
 mod prepared;
 mod question;
+mod sorts;
 mod targets;
 
 pub use clauses::{Made, place_clauses};
-pub use cut::{Cut, cut_down};
+pub use cut::{Cut, Whole, cut_down, forms_left};
 pub use prepared::{Prepared, count_candidates, prepare};
 pub use question::Question;

@@ -1,5 +1,5 @@
 //! What is made once of each implementation.
-ghost use Rattle.std.specs.Prelude.{◌≡◌, ◌<◌, [], Some, length, slice_get, true, IfOk};
+ghost use Rattle.std.specs.Prelude.{◌≡◌, ◌<◌, [], map, Some, length, slice_get, true, IfOk};
 ghost use Rattle.bg_ast.specs.Resolved as r;
 ghost use Rattle.bg_ast.specs.Meaning.{meaning_of};
 ghost use Rattle.bg_ast.specs.Views.{program_of};
@@ -7,22 +7,24 @@ ghost use Rattle.bg_sense.specs.Typed.{IsTyped};
 ghost use Rattle.bg_blocks.specs.Callees.{IsModified};
 ghost use Rattle.bg_blocks.specs.EmittedViews.{frame_of};
 ghost use Rattle.bg_fits.specs.Scalars.{is_over_scalars};
-ghost use Rattle.bg_sorts.specs.Sorts.{decl_holdings};
+ghost use Rattle.bg_sense.specs.Types.{types_of};
+ghost use Rattle.bg_kinds.specs.Views.{ref_in};
 ghost use Rattle.bg_task.specs.Prepared.{IsPrepared, frame_declared};
 
 use crate::flat::made_flat;
-use crate::held::{flat_sorts, with_terms};
+use crate::kinds::{result_kinds, with_terms};
+use crate::sorts::flat_sorts;
 use crate::targets::targets_of;
 use bg_ast::resolved::{Resolved, Variable};
 use bg_atoms::{Atoms, atoms};
 use bg_blocks::{Block, blocks};
 use bg_faithful::laws::blocks_over_scalars_are_even;
-use bg_fits::Holding;
 use bg_flatten::Flat;
 use bg_incarnate::{Passive, PassiveBlock, passive};
+use bg_kinds::ValueType;
 use bg_linear::Sort;
-use bg_sorts::{frame_holdings, holdings};
-use bg_term_table::Term;
+use bg_sorts::{frame_kinds, incarnation_kinds};
+use bg_term_table::{Around, Term};
 use bg_termed::laws::{
     blocks_behind_instances_are_sorted, implementations_over_scalars_have_no_maps,
     implementations_without_functions_stay, programs_over_scalars_are_tabled,
@@ -30,7 +32,7 @@ use bg_termed::laws::{
 use std::alloc::{AllocError, Global};
 
 /// The blocks of an implementation, the first new incarnation at each arrival where they are made passive, how many incarnations there
-/// are, its terms, where it has terms its flat blocks, what incarnations and terms hold, the sorts of what stands for that, the blocks of
+/// are, its terms, where it has terms its flat blocks, the types of incarnations and terms, the sorts of what stands for these, the blocks of
 /// forms behind no instance, the targets of incarnations and terms, and how many variables the frame has.
 #[derive(Drop)]
 pub struct Prepared<'p> {
@@ -39,16 +41,16 @@ pub struct Prepared<'p> {
     pub count: u32,
     pub terms: Vec<Term>,
     pub flats: Vec<PassiveBlock>,
-    pub holdings: Vec<Holding>,
+    pub kinds: Vec<ValueType>,
     pub sorts: Vec<Sort>,
     pub atoms: Atoms,
     pub targets: Vec<i128>,
     pub frame: usize,
 }
 
-/// What the variables of an implementation's frame hold.
-fn frame_in(alloc: Global, program: &Resolved, number: usize) -> Result<Vec<Holding>, AllocError>
-    ensures { IfOk result (λ made. (m : r.Impl) (q : r.Proc) → slice_get (program_of program.now).implementations number ≡ Some m → slice_get (program_of program.now).procedures m.procedure ≡ Some q → made.items ≡ decl_holdings (frame_of (program_of program.now) (frame_declared m q))) }
+/// The types of the variables of an implementation's frame.
+fn frame_in(alloc: Global, program: &Resolved, number: usize) -> Result<Vec<ValueType>, AllocError>
+    ensures { IfOk result (λ made. (m : r.Impl) (q : r.Proc) → slice_get (program_of program.now).implementations number ≡ Some m → slice_get (program_of program.now).procedures m.procedure ≡ Some q → map ref_in made.items ≡ types_of (frame_of (program_of program.now) (frame_declared m q))) }
 {
     let Some(m) = program.implementations.get(number) else {
         return Ok(Vec::new(alloc));
@@ -56,7 +58,7 @@ fn frame_in(alloc: Global, program: &Resolved, number: usize) -> Result<Vec<Hold
     let Some(q) = program.procedures.get(m.procedure as usize) else {
         return Ok(Vec::new(alloc));
     };
-    frame_holdings(alloc, &program.types, q, m)
+    frame_kinds(alloc, &program.types, q, m)
 }
 
 /// How many candidates there are; more than 2^32 are more than memory holds.
@@ -103,32 +105,37 @@ pub fn prepare<'p>(
     let blocks = blocks(alloc, program, callees, number)?;
     let frame = frame_in(alloc, program, number)?;
     let passive = passive(alloc, program, frame.len(), &blocks)?;
-    let incarnations = holdings(alloc, program, &frame, &blocks, &passive)?;
+    let incarnations = incarnation_kinds(alloc, program, &frame, &blocks, &passive)?;
     let Passive {
         blocks: passives,
         arrivals: _,
         firsts,
         count,
     } = passive;
+    let results = result_kinds(alloc, program)?;
+    let around = Around {
+        incarnations: &incarnations,
+        results: &results,
+    };
     let Flat {
         terms,
         blocks: flats,
-    } = made_flat(alloc, program, count, passives)?;
-    let held = with_terms(program, incarnations, &terms)?;
-    let sorts = flat_sorts(alloc, &held)?;
+    } = made_flat(alloc, program, around, passives)?;
+    let kinds = with_terms(alloc, &results, incarnations, &terms)?;
+    let sorts = flat_sorts(alloc, &kinds)?;
     let candidates = count_candidates(program)?;
     let Some(atoms) = atoms(alloc, &sorts, candidates, &flats)? else {
         unreachable!()
     };
     let flats = kept(alloc, &terms, flats);
-    let targets = targets_of(alloc, &held, &terms)?;
+    let targets = targets_of(alloc, &kinds, &terms)?;
     Ok(Prepared {
         blocks,
         firsts,
         count,
         terms,
         flats,
-        holdings: held,
+        kinds,
         sorts,
         atoms,
         targets,

@@ -1,16 +1,18 @@
 //! The targets of incarnations and terms.
-ghost use Rattle.std.specs.Prelude.{◌≡◌, ◌==◌, List, ℤ, false, if◌then◌else◌, length, slice_get, unwrap_or, pos, ◌+ℤ◌, [], ◌∷◌, ◌++◌, IfOk, OnOk};
+ghost use Rattle.std.specs.Prelude.{◌≡◌, ◌==◌, List, ℤ, false, if◌then◌else◌, length, slice_get, unwrap_or, pos, ◌+ℤ◌, [], ◌∷◌, ◌++◌, map, IfOk, OnOk};
 ghost use Rattle.std.specs.List.{list_any};
 ghost use Rattle.bg_ast.specs.Syntax.{Read, Fun};
 ghost use Rattle.bg_ast.specs.Views.{var_of};
 ghost use Rattle.bg_slice.specs.Marks.{marked};
 ghost use Rattle.bg_term_table.specs.Views.{meaning, meanings, listed, terms_in};
 ghost use Rattle.bg_task.specs.Targets.{reads, is_spread, literal, passed, past, past_all, spread_from, targets_of};
-ghost use Rattle.bg_fits.specs.declared.types.Holding.TheVariants.{Others};
+ghost use Rattle.bg_ast.specs.Values.{BoolTy};
+ghost use Rattle.bg_kinds.specs.Views.{base_of, ref_in, ref_of};
 ghost use Rattle.bg_task.specs.Spread.{both, apart_at};
 
 use bg_ast::resolved::{Expr, Link, Variable};
-use bg_fits::Holding;
+use bg_fits::base_in;
+use bg_kinds::{Base, TypeRef, ValueType, plain};
 use bg_term_table::Term;
 use std::alloc::{AllocError, Global};
 
@@ -104,25 +106,33 @@ fn literal(e: &Expr) -> i128
     }
 }
 
-/// Whether what is held is to differ where it stands in arguments.
-fn is_spread(h: Holding) -> bool
-    ensures { result ≡ is_spread h }
+fn is_spread_base(base: Base) -> bool
+    ensures { result ≡ is_spread (base_of base) }
 {
-    match h {
-        Holding::Truths => false,
-        Holding::Numbers => true,
-        Holding::Elements(_) => true,
-        Holding::Others => false,
+    match base {
+        Base::Bool => false,
+        Base::Int => true,
+        Base::User(_) => true,
     }
 }
 
-/// What the incarnation or term with this number holds.
-fn holding_at(holdings: &[Holding], i: usize) -> Holding
-    ensures { result ≡ unwrap_or (slice_get holdings.now i) Others }
+/// Whether what has this type is to differ where it stands in arguments.
+fn is_spread(t: TypeRef<'_>) -> bool
+    ensures { result ≡ is_spread (ref_of t.entry) }
 {
-    match holdings.get(i) {
-        None => Holding::Others,
-        Some(h) => *h,
+    match base_in(t) {
+        None => false,
+        Some(base) => is_spread_base(base),
+    }
+}
+
+/// The type of the incarnation or term with this number.
+fn kind_at(kinds: &[ValueType], i: usize) -> TypeRef<'_>
+    ensures { ref_of result ≡ unwrap_or (slice_get (map ref_in kinds.now) i) BoolTy }
+{
+    match kinds.get(i) {
+        None => plain(Base::Bool),
+        Some(t) => t.as_ref(),
     }
 }
 
@@ -136,10 +146,10 @@ fn mark_at(marks: &[bool], i: usize) -> bool
 }
 
 /// Whether the incarnation or term with this number is to differ, where these are marked.
-fn is_apart(holdings: &[Holding], marks: &[bool], i: usize) -> bool
-    ensures { result ≡ apart_at holdings.now marks.now i }
+fn is_apart(kinds: &[ValueType], marks: &[bool], i: usize) -> bool
+    ensures { result ≡ apart_at (map ref_in kinds.now) marks.now i }
 {
-    if is_spread(holding_at(holdings, i)) {
+    if is_spread(kind_at(kinds, i)) {
         mark_at(marks, i)
     } else {
         false
@@ -219,33 +229,33 @@ fn pass_terms(s: &mut Dealt, terms: &[Term])
 }
 
 /// The targets from the next one on, by marks of what stands in arguments.
-fn spread(s: &mut Dealt, holdings: &[Holding], marks: &[bool]) -> Result<(), AllocError>
-    requires { length marks.now ≡ length holdings.now }
-    ensures { OnOk result (s.new.made.items ≡ s.old.made.items ++ spread_from s.old.next (both holdings.now marks.now)) }
+fn spread(s: &mut Dealt, kinds: &[ValueType], marks: &[bool]) -> Result<(), AllocError>
+    requires { length marks.now ≡ length kinds.now }
+    ensures { OnOk result (s.new.made.items ≡ s.old.made.items ++ spread_from s.old.next (both (map ref_in kinds.now) marks.now)) }
 {
-    for i in 0..holdings.len() {
-        let apart = is_apart(holdings, marks, i);
+    for i in 0..kinds.len() {
+        let apart = is_apart(kinds, marks, i);
         add(s, apart)?;
     }
     Ok(())
 }
 
-/// The targets of incarnations and terms that hold this, where the terms are these: for numbers and elements that stand in an argument, in
+/// The targets of incarnations and terms of these types, where the terms are these: for numbers and elements that stand in an argument, in
 /// the order of their numbers, those behind the largest number that is an argument, one after the other, and 0 for all else.
 pub fn targets_of(
     alloc: Global,
-    holdings: &[Holding],
+    kinds: &[ValueType],
     terms: &[Term],
 ) -> Result<Vec<i128>, AllocError>
-    ensures { IfOk result (λ made. (fs : List Fun) → made.items ≡ targets_of holdings.now (terms_in fs terms.now)) }
+    ensures { IfOk result (λ made. (fs : List Fun) → made.items ≡ targets_of (map ref_in kinds.now) (terms_in fs terms.now)) }
 {
-    let mut marks = vec![in alloc; false; holdings.len()]?;
+    let mut marks = vec![in alloc; false; kinds.len()]?;
     mark_terms(&mut marks, terms);
     let mut s = Dealt {
         made: Vec::new(alloc),
         next: 1,
     };
     pass_terms(&mut s, terms);
-    spread(&mut s, holdings, &marks)?;
+    spread(&mut s, kinds, &marks)?;
     Ok(s.made)
 }

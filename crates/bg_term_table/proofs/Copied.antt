@@ -1,5 +1,5 @@
 -- Copies of expressions, form by form, at the lists that the code meets.
-use Rattle.std.proofs.Common.{◌≡◌, ℕ, map, Some, None, refl, sym, ap, ◌∙◌, Vec, Box, Global}
+use Rattle.std.proofs.Common.{◌≡◌, ℕ, List, [], ◌∷◌, map, Some, None, refl, sym, ap, ◌∙◌, Vec, Box, Global}
 use Rattle.bg_base.specs.declared.pos.Pos.{Pos}
 use Rattle.bg_ast.specs.declared.resolved.Expr.{Expr}
 use Rattle.bg_ast.specs.declared.resolved.Expr.TheVariants as expr
@@ -8,7 +8,9 @@ use Rattle.bg_ast.specs.declared.resolved.Bracket.{Bracket}
 use Rattle.bg_ast.specs.declared.resolved.Bracket.TheVariants as bracket
 use Rattle.bg_ast.specs.Resolved as r
 use Rattle.bg_ast.specs.Views as u
+use Rattle.bg_ast.specs.Meaning as m
 use Rattle.bg_ast.proofs.Lists as z
+use Rattle.bg_term_table.specs.Views.{meaning, meanings}
 
 both : {A B C : Type 0} {a a' : A} {b b' : B} (f : A → B → C) → a ≡ a' → b ≡ b' → f a b ≡ f a' b'
 both f h k = rw (h, k) refl
@@ -31,3 +33,10 @@ bracket-Update p es e xs x a k =
     z.bracket_view-Update p xs x ∙ both (λ l i. (p, u.exs_of l, Some i)) a k ∙ sym (z.bracket_view-Update p es e)
 
 pub ruleset forms = (apply_node-is, expr-Chain, expr-Postfix, bracket-Select, bracket-Update)
+
+meanings_are : (xs : List Expr) → meanings xs ≡ map m.ex_of (map u.ex_of xs)
+meanings_are [] = refl
+meanings_are (x ∷ xs) = ap (λ l. meaning x ∷ l) (meanings_are xs)
+
+pub same_meanings : (xs ys : List Expr) → map u.ex_of xs ≡ map u.ex_of ys → meanings xs ≡ meanings ys
+same_meanings xs ys h = meanings_are xs ∙ ap (map m.ex_of) h ∙ sym (meanings_are ys)

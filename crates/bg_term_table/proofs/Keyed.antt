@@ -14,6 +14,9 @@ use Rattle.bg_ast.specs.Syntax as s
 use Rattle.bg_numbered.specs.Put.{bool_eq, is_one_leaf, are_one}
 use Rattle.bg_term_table.specs.declared.leaf.Leaf.{Leaf}
 use Rattle.bg_term_table.specs.declared.leaf.Leaf.TheVariants.{Number, Truth, Read}
+use Rattle.bg_term_table.specs.declared.kind.Kind.{Kind}
+use Rattle.bg_term_table.specs.declared.kind.Kind.TheVariants as kind
+use Rattle.bg_term_table.specs.Kinds.{kind_cmp}
 use Rattle.bg_term_table.specs.Views.{listed}
 use Rattle.bg_term_table.specs.Keys.{leaf_in, with_leaf, leaves_in, KeyOf, leaf_cmp, key_cmp}
 
@@ -33,6 +36,24 @@ leaf_exact (Read a) (Number b) h = absurd (let bad : ⊥ = cc in bad)
 leaf_exact (Read a) (Truth b) h = absurd (let bad : ⊥ = cc in bad)
 leaf_exact (Read a) (Read b) h = ap (λ z. Read z) (exact_unsigned a b h)
 
+kind_exact : (x y : Kind) → kind_cmp x y ≡ Equal → x ≡ y
+kind_exact (kind.Function a) (kind.Function b) h = ap (λ z. kind.Function z) (exact_unsigned a b h)
+kind_exact (kind.Function a) kind.Select h = absurd (let bad : ⊥ = cc in bad)
+kind_exact (kind.Function a) kind.Update h = absurd (let bad : ⊥ = cc in bad)
+kind_exact (kind.Function a) (kind.Part b) h = absurd (let bad : ⊥ = cc in bad)
+kind_exact kind.Select (kind.Function b) h = absurd (let bad : ⊥ = cc in bad)
+kind_exact kind.Select kind.Select h = refl
+kind_exact kind.Select kind.Update h = absurd (let bad : ⊥ = cc in bad)
+kind_exact kind.Select (kind.Part b) h = absurd (let bad : ⊥ = cc in bad)
+kind_exact kind.Update (kind.Function b) h = absurd (let bad : ⊥ = cc in bad)
+kind_exact kind.Update kind.Select h = absurd (let bad : ⊥ = cc in bad)
+kind_exact kind.Update kind.Update h = refl
+kind_exact kind.Update (kind.Part b) h = absurd (let bad : ⊥ = cc in bad)
+kind_exact (kind.Part a) (kind.Function b) h = absurd (let bad : ⊥ = cc in bad)
+kind_exact (kind.Part a) kind.Select h = absurd (let bad : ⊥ = cc in bad)
+kind_exact (kind.Part a) kind.Update h = absurd (let bad : ⊥ = cc in bad)
+kind_exact (kind.Part a) (kind.Part b) h = ap (λ z. kind.Part z) (exact_unsigned a b h)
+
 first_equal : (o p : Ordering) → is_eq (ordering_then o p) ≡ true → (o ≡ Equal) × (is_eq p ≡ true)
 first_equal Less p h = absurd (let bad : ⊥ = cc in bad)
 first_equal Equal p h = (refl, h)
@@ -48,8 +69,8 @@ list_is (x ∷ xs) (y ∷ ys) h =
 
 pub key_is : (x y : KeyOf) → is_eq (key_cmp x y) ≡ true → x ≡ y
 key_is x y h =
-    let e = first_equal (nat_cmp x.0 y.0) (slice_cmp leaf_cmp x.1 y.1) h in
-    ap (λ z. (z, x.1)) (exact_unsigned x.0 y.0 e.0) ∙ ap (λ z. (y.0, z)) (list_is x.1 y.1 e.1)
+    let e = first_equal (kind_cmp x.0 y.0) (slice_cmp leaf_cmp x.1 y.1) h in
+    ap (λ z. (z, x.1)) (kind_exact x.0 y.0 e.0) ∙ ap (λ z. (y.0, z)) (list_is x.1 y.1 e.1)
 
 reversed : (o : Ordering) → o ≡ ordering_reverse o → o ≡ Equal
 reversed Less h = absurd (let bad : ⊥ = cc in bad)
@@ -72,8 +93,41 @@ leaves_equal : (xs : List Leaf) → slice_cmp leaf_cmp xs xs ≡ Equal
 leaves_equal [] = refl
 leaves_equal (x ∷ xs) = rw (leaf_equal x) (leaves_equal xs)
 
+kind_equal : (x : Kind) → kind_cmp x x ≡ Equal
+kind_equal (kind.Function f) = nat_same f
+kind_equal kind.Select = refl
+kind_equal kind.Update = refl
+kind_equal (kind.Part j) = nat_same j
+
 pub key_same : (x : KeyOf) → is_eq (key_cmp x x) ≡ true
-key_same x = rw (nat_same x.0) (rw (leaves_equal x.1) refl)
+key_same x = rw (kind_equal x.0) (rw (leaves_equal x.1) refl)
+
+-- ---- kinds that are one
+
+abbrev pub kind_eq : Kind → Kind → Bool
+kind_eq (kind.Function f) (kind.Function g) = f == g
+kind_eq kind.Select kind.Select = true
+kind_eq kind.Update kind.Update = true
+kind_eq (kind.Part i) (kind.Part j) = i == j
+kind_eq _ _ = false
+
+kind_is : (x y : Kind) → kind_eq x y ≡ true → x ≡ y
+kind_is (kind.Function a) (kind.Function b) h = ap (λ z. kind.Function z) (eqb-true a b h)
+kind_is (kind.Function a) kind.Select h = absurd (let bad : ⊥ = cc in bad)
+kind_is (kind.Function a) kind.Update h = absurd (let bad : ⊥ = cc in bad)
+kind_is (kind.Function a) (kind.Part b) h = absurd (let bad : ⊥ = cc in bad)
+kind_is kind.Select (kind.Function b) h = absurd (let bad : ⊥ = cc in bad)
+kind_is kind.Select kind.Select h = refl
+kind_is kind.Select kind.Update h = absurd (let bad : ⊥ = cc in bad)
+kind_is kind.Select (kind.Part b) h = absurd (let bad : ⊥ = cc in bad)
+kind_is kind.Update (kind.Function b) h = absurd (let bad : ⊥ = cc in bad)
+kind_is kind.Update kind.Select h = absurd (let bad : ⊥ = cc in bad)
+kind_is kind.Update kind.Update h = refl
+kind_is kind.Update (kind.Part b) h = absurd (let bad : ⊥ = cc in bad)
+kind_is (kind.Part a) (kind.Function b) h = absurd (let bad : ⊥ = cc in bad)
+kind_is (kind.Part a) kind.Select h = absurd (let bad : ⊥ = cc in bad)
+kind_is (kind.Part a) kind.Update h = absurd (let bad : ⊥ = cc in bad)
+kind_is (kind.Part a) (kind.Part b) h = ap (λ z. kind.Part z) (eqb-true a b h)
 
 -- ---- leaves that are one
 
@@ -173,14 +227,14 @@ one_leaves (x ∷ xs) (y ∷ ys) =
 
 -- ---- leaves that are one are equal
 
-and_both : (a b : Bool) → a ≡ true → b ≡ true → (a && b) ≡ true
+pub and_both : (a b : Bool) → a ≡ true → b ≡ true → (a && b) ≡ true
 and_both a b h k = ap (λ x. x && b) h ∙ k
 
-and_left : (a b : Bool) → (a && b) ≡ true → a ≡ true
+pub and_left : (a b : Bool) → (a && b) ≡ true → a ≡ true
 and_left true b h = refl
 and_left false b h = h
 
-and_right : (a b : Bool) → (a && b) ≡ true → b ≡ true
+pub and_right : (a b : Bool) → (a && b) ≡ true → b ≡ true
 and_right true b h = h
 and_right false b h = absurd (let bad : ⊥ = cc in bad)
 
@@ -236,16 +290,30 @@ alike true b f g = sym (f refl)
 alike false true f g = g refl
 alike false false f g = refl
 
-pub key_tells : (f g : ℕ) (ls ms : List Leaf) → is_eq (key_cmp (f, ls) (g, ms)) ≡ ((g == f) && leaves_eq ms ls)
-key_tells f g ls ms = alike _ _ there back
-  where
-    there : is_eq (key_cmp (f, ls) (g, ms)) ≡ true → ((g == f) && leaves_eq ms ls) ≡ true
-    there h =
-        let same = key_is (f, ls) (g, ms) h in
-        subst (λ (k : KeyOf). ((k.0 == f) && leaves_eq k.1 ls) ≡ true) same (and_both (f == f) (leaves_eq ls ls) (number_self f) (leaves_self ls))
+kind_self : (x : Kind) → kind_eq x x ≡ true
+kind_self (kind.Function f) = number_self f
+kind_self kind.Select = refl
+kind_self kind.Update = refl
+kind_self (kind.Part j) = number_self j
 
-    back : ((g == f) && leaves_eq ms ls) ≡ true → is_eq (key_cmp (f, ls) (g, ms)) ≡ true
+pub key_tells : (q r : Kind) (ls ms : List Leaf) → is_eq (key_cmp (q, ls) (r, ms)) ≡ (kind_eq r q && leaves_eq ms ls)
+key_tells q r ls ms = alike _ _ there back
+  where
+    there : is_eq (key_cmp (q, ls) (r, ms)) ≡ true → (kind_eq r q && leaves_eq ms ls) ≡ true
+    there h =
+        let same = key_is (q, ls) (r, ms) h in
+        subst (λ (k : KeyOf). (kind_eq k.0 q && leaves_eq k.1 ls) ≡ true) same (and_both (kind_eq q q) (leaves_eq ls ls) (kind_self q) (leaves_self ls))
+
+    back : (kind_eq r q && leaves_eq ms ls) ≡ true → is_eq (key_cmp (q, ls) (r, ms)) ≡ true
     back h =
-        let a : g ≡ f = eqb-true g f (and_left (g == f) (leaves_eq ms ls) h) in
-        let b : ms ≡ ls = leaves_are ms ls (and_right (g == f) (leaves_eq ms ls) h) in
-        subst (λ k. is_eq (key_cmp (f, ls) (k, ms)) ≡ true) (sym a) (subst (λ k. is_eq (key_cmp (f, ls) (f, k)) ≡ true) (sym b) (key_same (f, ls)))
+        let a : r ≡ q = kind_is r q (and_left (kind_eq r q) (leaves_eq ms ls) h) in
+        let b : ms ≡ ls = leaves_are ms ls (and_right (kind_eq r q) (leaves_eq ms ls) h) in
+        subst (λ k. is_eq (key_cmp (q, ls) (k, ms)) ≡ true) (sym a) (subst (λ k. is_eq (key_cmp (q, ls) (q, k)) ≡ true) (sym b) (key_same (q, ls)))
+
+-- what kinds and leaves that are one tell of a key
+pub key_both : (q r : Kind) (ls ms : List Leaf) → r ≡ q → leaves_eq ms ls ≡ true → is_eq (key_cmp (q, ls) (r, ms)) ≡ true
+key_both q r ls ms h k =
+    key_tells q r ls ms ∙ and_both (kind_eq r q) (leaves_eq ms ls) (subst (λ x. kind_eq x q ≡ true) (sym h) (kind_self q)) k
+
+pub key_leaves : (q r : Kind) (ls ms : List Leaf) → is_eq (key_cmp (q, ls) (r, ms)) ≡ true → leaves_eq ms ls ≡ true
+key_leaves q r ls ms h = and_right (kind_eq r q) (leaves_eq ms ls) (sym (key_tells q r ls ms) ∙ h)

@@ -8,3 +8,5 @@ pub mod Linked
 pub mod Until
 pub mod Steps
 pub mod Forms
+pub mod TypesRead
+pub mod Bringing

@@ -1,7 +1,8 @@
 -- A chain is made flat link by link.
-use Rattle.std.proofs.Common.{◌≡◌, ℕ, List, [], ◌∷◌, refl, ap}
+use Rattle.std.proofs.Common.{◌≡◌, List, [], ◌∷◌, refl, ap}
 use Rattle.bg_text.specs.declared.expr.InfixSign.{InfixSign}
 use Rattle.bg_text.specs.declared.expr.InfixSign.TheVariants as op
+use Rattle.bg_ast.specs.Values.{Ty}
 use Rattle.bg_ast.specs.Syntax.{Ex, Binary, Implies, Fun}
 use Rattle.bg_ast.specs.Meaning.{infix_of}
 use Rattle.bg_terms.specs.Terms.{Term}
@@ -9,15 +10,15 @@ use Rattle.bg_numbered.specs.Numbered.{behind, numbered}
 use Rattle.bg_term_table.specs.Chains.{chain_from}
 use Rattle.bg_term_table.specs.Linked.{turned, behind_turned, numbered_turned, behind_links, numbered_links}
 
-module _ (fs : List Fun) (n : ℕ) where
+module _ (fs : List Fun) (incs : List Ty) where
   abbrev TableIs : List InfixSign → List Ex → Ex → List Term → Type 0
   TableIs gs es a ts =
-      behind fs n (chain_from a gs es) ts ≡ behind_links fs n gs es (behind fs n a (behind_turned fs n (turned gs es) ts))
+      behind fs incs (chain_from a gs es) ts ≡ behind_links fs incs gs es (behind fs incs a (behind_turned fs incs (turned gs es) ts))
 
   abbrev MadeIs : List InfixSign → List Ex → Ex → List Term → Type 0
   MadeIs gs es a ts =
-      numbered fs n (chain_from a gs es) ts
-      ≡ chain_from (numbered fs n a (behind_turned fs n (turned gs es) ts)) gs (numbered_links fs n gs es (numbered_turned fs n (turned gs es) ts) (behind fs n a (behind_turned fs n (turned gs es) ts)))
+      numbered fs incs (chain_from a gs es) ts
+      ≡ chain_from (numbered fs incs a (behind_turned fs incs (turned gs es) ts)) gs (numbered_links fs incs gs es (numbered_turned fs incs (turned gs es) ts) (behind fs incs a (behind_turned fs incs (turned gs es) ts)))
 
   pub table : (gs : List InfixSign) (es : List Ex) (a : Ex) (ts : List Term) → TableIs gs es a ts
   table [] es a ts = refl
@@ -25,7 +26,7 @@ module _ (fs : List Fun) (n : ℕ) where
   table (g ∷ gs) (e ∷ es) a ts = on g (table gs es)
     where
       on : (h : InfixSign) → ((b : Ex) (us : List Term) → TableIs gs es b us) → TableIs (h ∷ gs) (e ∷ es) a ts
-      on op.Implies later = later e (behind fs n a ts)
+      on op.Implies later = later e (behind fs incs a ts)
       on op.Explies later = later (infix_of op.Explies a e) ts
       on op.Iff later = later (infix_of op.Iff a e) ts
       on op.And later = later (infix_of op.And a e) ts
@@ -46,7 +47,7 @@ module _ (fs : List Fun) (n : ℕ) where
   made (g ∷ gs) (e ∷ es) a ts = on g (made gs es)
     where
       on : (h : InfixSign) → ((b : Ex) (us : List Term) → MadeIs gs es b us) → MadeIs (h ∷ gs) (e ∷ es) a ts
-      on op.Implies later = ap (Binary Implies (numbered fs n a ts)) (later e (behind fs n a ts))
+      on op.Implies later = ap (Binary Implies (numbered fs incs a ts)) (later e (behind fs incs a ts))
       on op.Explies later = later (infix_of op.Explies a e) ts
       on op.Iff later = later (infix_of op.Iff a e) ts
       on op.And later = later (infix_of op.And a e) ts

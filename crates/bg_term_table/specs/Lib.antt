@@ -1,6 +1,11 @@
 pub mod Views
 pub mod Instances
+pub mod Lines
+pub mod Brackets
+pub mod Kinds
 pub mod Keys
+pub mod Locals
+pub mod Brought
 pub mod Chains
 pub mod Linked
 pub mod Until

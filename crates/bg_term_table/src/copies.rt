@@ -59,7 +59,7 @@ pub fn copy(alloc: Global, e: &Expr) -> Result<Expr, AllocError>
 /// The same of the expressions of a list.
 #[tactic(auto, using(crate::proofs::Copied::forms))]
 #[cycle(copy_expr)]
-fn copy_all(alloc: Global, es: &[Expr]) -> Result<Vec<Expr>, AllocError>
+pub fn copy_all(alloc: Global, es: &[Expr]) -> Result<Vec<Expr>, AllocError>
     ensures { IfOk result (λ made. map ex_of made.items ≡ map ex_of es.now) }
 {
     let mut made = Vec::new(alloc);

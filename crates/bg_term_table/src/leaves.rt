@@ -2,6 +2,7 @@
 ghost use Rattle.std.specs.Prelude.{◌≡◌, IfOk};
 ghost use Rattle.bg_term_table.specs.Views.{meaning, meanings};
 ghost use Rattle.bg_term_table.specs.Keys.{leaf_in, leaves_in, leaves_of, bare};
+ghost use Rattle.bg_term_table.specs.Locals.{local_in};
 
 use crate::leaf::Leaf;
 use bg_ast::resolved::{Expr, Variable};
@@ -15,7 +16,7 @@ fn bare<T>(row: &[T], l: Option<Leaf>) -> Option<Leaf>
 }
 
 /// The leaf that an expression is, if it is one; parentheses, and rows without signs, brackets or links, are looked through.
-fn leaf(e: &Expr) -> Option<Leaf>
+pub fn leaf(e: &Expr) -> Option<Leaf>
     ensures { result ≡ leaf_in (meaning e.now) }
 {
     match e {
@@ -45,4 +46,16 @@ pub fn leaves(alloc: Global, es: &[Expr]) -> Result<Option<Vec<Leaf>>, AllocErro
         }
     }
     Ok(Some(made))
+}
+
+/// The number of the incarnation or the term that an expression reads, if it reads one.
+pub fn local(e: &Expr) -> Option<u32>
+    ensures { result ≡ local_in (meaning e.now) }
+{
+    match leaf(e) {
+        None => None,
+        Some(Leaf::Number(_)) => None,
+        Some(Leaf::Truth(_)) => None,
+        Some(Leaf::Read(j)) => Some(j),
+    }
 }

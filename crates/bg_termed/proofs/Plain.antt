@@ -15,6 +15,7 @@ use Rattle.bg_terms.specs.Alike.{HasFlatType}
 use Rattle.bg_flat.specs.Blocks.{FlatCmds, FlatEdges, FlatBlocks}
 use Rattle.bg_flatten.specs.Makes.{Each}
 use Rattle.bg_flatten.specs.Plain.{IsPlain, PlainCmd, PlainEdge, PlainBlocks}
+use Rattle.bg_flatten.proofs.Handled.{HasNoMaps, CmdWithout, EdgeWithout, BlockWithout}
 use Rattle.bg_flat_clauses.specs.Linear.{LinearCmds, LinearEdges, LinearBlocks}
 
 -- ---- sides of an operator
@@ -37,33 +38,34 @@ both_sides Times a b P Q t f g h = (f IntTy h.1, g IntTy h.2)
 -- ---- without functions
 
 module _ (g : Sig) (none : g.functions ≡ []) where
-  unapplied : (e : Ex) (t : Ty) → HasType e g t → HasNoOld e → IsPlain e
-  unapplied (Number z) t h o = tt
-  unapplied (Fact b) t h o = tt
-  unapplied (Constant k) t h o = tt
-  unapplied (Read x) t h o = tt
-  unapplied (Not e) t h o = unapplied e BoolTy h.1 o
-  unapplied (Negative e) t h o = unapplied e IntTy h.1 o
-  unapplied (Binary op a b) t h o =
-      both_sides op (HasType a g) (HasType b g) (IsPlain a) (IsPlain b) t (λ u x. unapplied a u x o.0) (λ u x. unapplied b u x o.1) h
-  unapplied (Apply f es) t h o =
+  unapplied : (e : Ex) (t : Ty) → HasType e g t → HasNoOld e → HasNoMaps e → IsPlain e
+  unapplied (Number z) t h o w = tt
+  unapplied (Fact b) t h o w = tt
+  unapplied (Constant k) t h o w = tt
+  unapplied (Read x) t h o w = tt
+  unapplied (Not e) t h o w = unapplied e BoolTy h.1 o w
+  unapplied (Negative e) t h o w = unapplied e IntTy h.1 o w
+  unapplied (Binary op a b) t h o w =
+      both_sides op (HasType a g) (HasType b g) (IsPlain a) (IsPlain b) t (λ u x. unapplied a u x o.0 w.0) (λ u x. unapplied b u x o.1 w.1) h
+  unapplied (Apply f es) t h o w =
       absurd (let gone : slice_get [] f ≡ Some h.0 = subst (λ fs. slice_get fs f ≡ Some h.0) none h.1 in let bad : ⊥ = cc in bad)
-  unapplied (Select m es) t h o = tt
-  unapplied (Update m es e) t h o = tt
-  unapplied (Old e) t h o = absurd o
+  unapplied (Select m es) t h o w = absurd w
+  unapplied (Update m es e) t h o w = absurd w
+  unapplied (Old e) t h o w = absurd o
 
-  cmds_plain : (ks : List PassiveCmd) → TypedCmds g ks → Each PlainCmd ks
-  cmds_plain [] h = tt
-  cmds_plain (Claims s b e ∷ ks) h = (unapplied e BoolTy h.0.0.0 h.0.1, cmds_plain ks h.1)
-  cmds_plain (Supposes b e ∷ ks) h = (unapplied e BoolTy h.0.0.0 h.0.1, cmds_plain ks h.1)
+  cmds_plain : (ks : List PassiveCmd) → TypedCmds g ks → Each CmdWithout ks → Each PlainCmd ks
+  cmds_plain [] h w = tt
+  cmds_plain (Claims s b e ∷ ks) h w = (unapplied e BoolTy h.0.0.0 h.0.1 w.0, cmds_plain ks h.1 w.1)
+  cmds_plain (Supposes b e ∷ ks) h w = (unapplied e BoolTy h.0.0.0 h.0.1 w.0, cmds_plain ks h.1 w.1)
 
-  edges_plain : (es : List Edge) → TypedEdges g es → Each PlainEdge es
-  edges_plain [] h = tt
-  edges_plain (e ∷ es) h = (cmds_plain e.cmds h.0, edges_plain es h.1)
+  edges_plain : (es : List Edge) → TypedEdges g es → Each EdgeWithout es → Each PlainEdge es
+  edges_plain [] h w = tt
+  edges_plain (e ∷ es) h w = (cmds_plain e.cmds h.0 w.0, edges_plain es h.1 w.1)
 
-  pub blocks_plain : (bs : List PassiveBlock) → TypedBlocks g bs → PlainBlocks bs
-  blocks_plain [] h = tt
-  blocks_plain (b ∷ bs) h = ((cmds_plain b.cmds h.0.0, edges_plain b.next h.0.1), blocks_plain bs h.1)
+  pub blocks_plain : (bs : List PassiveBlock) → TypedBlocks g bs → Each BlockWithout bs → PlainBlocks bs
+  blocks_plain [] h w = tt
+  blocks_plain (b ∷ bs) h w =
+      ((cmds_plain b.cmds h.0.0 w.0.0, edges_plain b.next h.0.1 w.0.1), blocks_plain bs h.1 w.1)
 
 -- ---- what is flat
 
@@ -77,8 +79,8 @@ flat_plain tys (Negative e) t h = flat_plain tys e IntTy h.1
 flat_plain tys (Binary op a b) t h =
     both_sides op (HasFlatType tys a) (HasFlatType tys b) (IsPlain a) (IsPlain b) t (λ u x. flat_plain tys a u x) (λ u x. flat_plain tys b u x) h
 flat_plain tys (Apply f es) t h = absurd h
-flat_plain tys (Select m es) t h = tt
-flat_plain tys (Update m es e) t h = tt
+flat_plain tys (Select m es) t h = absurd h
+flat_plain tys (Update m es e) t h = absurd h
 flat_plain tys (Old e) t h = absurd h
 
 module _ (tys : List Ty) where

@@ -29,10 +29,10 @@ count_in p k m q = length (incarnations_in p k m q)
 
 -- its terms, and its passive blocks made flat over them
 abbrev pub terms_in : Prog → ℕ → Impl → Proc → List Term
-terms_in p k m q = terms_of p.functions (count_in p k m q) (passives_in p k m q)
+terms_in p k m q = terms_of p.functions (incarnations_in p k m q) (passives_in p k m q)
 
 abbrev pub flats_in : Prog → ℕ → Impl → Proc → List PassiveBlock
-flats_in p k m q = flat_of p.functions (count_in p k m q) (passives_in p k m q)
+flats_in p k m q = flat_of p.functions (incarnations_in p k m q) (passives_in p k m q)
 
 -- the types of its incarnations and terms, and the sorts of what stands for them
 abbrev pub types_in : Prog → ℕ → Impl → Proc → List Ty

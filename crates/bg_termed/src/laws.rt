@@ -24,21 +24,28 @@ ghost use Rattle.bg_faithful.specs.Encoded.{Encoding};
 ghost use Rattle.bg_terms.specs.Terms.{IsModel};
 ghost use Rattle.bg_terms.specs.Alike.{StandFor, scalar_ty};
 ghost use Rattle.bg_terms.specs.Instances.{Instance};
+ghost use Rattle.bg_terms.specs.Closed.{IsFinished};
+ghost use Rattle.bg_terms.specs.Flat.{HaveNoBodies};
+ghost use Rattle.bg_numbered.specs.Lines.{Line};
 ghost use Rattle.bg_terms.specs.Tables.{IsReadOff};
 ghost use Rattle.bg_flatten.specs.Flattens.{AreFlattened};
 ghost use Rattle.bg_flat.specs.Mapless.{are_mapless};
 ghost use Rattle.bg_flatten.specs.Plain.{PlainBlocks};
-ghost use Rattle.bg_read_off.specs.Leaves.{AreCongruent, silent};
+ghost use Rattle.bg_read_off.specs.Leaves.{AreApplications, AreCongruent, silent};
 ghost use Rattle.bg_flat_clauses.specs.Linear.{LinearBlocks};
 ghost use Rattle.bg_termed.specs.Termed.{IsTabled, count_in, terms_in, flats_in, types_in, sorts_in, behind_in};
 ghost use Rattle.bg_termed.specs.Built.{built_in};
 ghost use Rattle.bg_termed.specs.Clauses.{IsEncoding};
+ghost use Rattle.bg_termed.specs.Lined.{HasFlats, IsLinedEncoding, lined_behind, lined_built, lined_sorts, lined_terms, lined_types};
 
 use bg_block_types::laws::passive_blocks_are_typed;
-use bg_flat::laws::{denied_blocks_have_scalars, instances_are_linear_truths};
+use bg_flat::laws::{
+    denied_blocks_have_scalars, finished_leaves_fail, flat_blocks_stay, instances_are_linear_truths,
+};
 use bg_flat_clauses::laws::{flat_blocks_are_sorted, flat_clauses_fail_alike};
 use bg_flatten::laws::{
-    numbered_blocks_are_flattened, plain_blocks_stay, terms_are_applications, typed_blocks_are_fine,
+    flattened_blocks_stay, mapless_types_are_indexed, numbered_blocks_are_flattened,
+    plain_blocks_stay, terms_are_applications, terms_are_ordinary, typed_blocks_are_fine,
 };
 use bg_read_off::laws::{built_leaves_are_models, built_leaves_fail, scalars_stand_for_values};
 
@@ -62,20 +69,31 @@ pub fn implementations_over_scalars_have_no_maps()
     programs_over_scalars_are_tabled()
 }
 
-/// Without functions there are no terms, and passive blocks are flat as they are.
+/// Each term of its implementations is an application.
+pub fn terms_over_scalars_are_applications()
+    ensures { (p : Prog) (k : ℕ) (m : Impl) (q : Proc) → IsTyped p → is_over_scalars true p ≡ true → slice_get p.implementations k ≡ Some m →
+        procedure_of p m.procedure ≡ Some q → AreApplications (terms_in p k m q) }
+{
+    passive_blocks_are_typed();
+    terms_are_applications();
+    programs_over_scalars_are_tabled();
+    implementations_over_scalars_have_no_maps()
+}
+
+/// Without functions and maps there are no terms, and passive blocks are flat as they are.
 pub fn implementations_without_functions_stay()
-    ensures plain { (p : Prog) (k : ℕ) (m : Impl) (q : Proc) → IsTyped p → p.functions ≡ [] → slice_get p.implementations k ≡ Some m →
-        procedure_of p m.procedure ≡ Some q → PlainBlocks (passives_in p k m q) }
-    ensures terms { (p : Prog) (k : ℕ) (m : Impl) (q : Proc) → IsTyped p → p.functions ≡ [] → slice_get p.implementations k ≡ Some m →
-        procedure_of p m.procedure ≡ Some q → terms_in p k m q ≡ [] }
-    ensures flat { (p : Prog) (k : ℕ) (m : Impl) (q : Proc) → IsTyped p → p.functions ≡ [] → slice_get p.implementations k ≡ Some m →
-        procedure_of p m.procedure ≡ Some q → flats_in p k m q ≡ passives_in p k m q }
+    ensures plain { (p : Prog) (k : ℕ) (m : Impl) (q : Proc) → IsTabled p → p.functions ≡ [] → slice_get p.implementations k ≡ Some m →
+        procedure_of p m.procedure ≡ Some q → are_mapless (incarnations_in p k m q) ≡ true → PlainBlocks (passives_in p k m q) }
+    ensures terms { (p : Prog) (k : ℕ) (m : Impl) (q : Proc) → IsTabled p → p.functions ≡ [] → slice_get p.implementations k ≡ Some m →
+        procedure_of p m.procedure ≡ Some q → are_mapless (incarnations_in p k m q) ≡ true → terms_in p k m q ≡ [] }
+    ensures flat { (p : Prog) (k : ℕ) (m : Impl) (q : Proc) → IsTabled p → p.functions ≡ [] → slice_get p.implementations k ≡ Some m →
+        procedure_of p m.procedure ≡ Some q → are_mapless (incarnations_in p k m q) ≡ true → flats_in p k m q ≡ passives_in p k m q }
 {
     passive_blocks_are_typed();
     plain_blocks_stay()
 }
 
-/// Flat blocks hold no application and no `old`.
+/// Flat blocks hold no application, select, update and `old`.
 pub fn flat_blocks_of_programs_are_plain()
     ensures { (p : Prog) (k : ℕ) (m : Impl) (q : Proc) → IsTyped p → is_over_scalars true p ≡ true → slice_get p.implementations k ≡ Some m →
         procedure_of p m.procedure ≡ Some q → PlainBlocks (flats_in p k m q) }
@@ -103,6 +121,7 @@ pub fn passive_blocks_have_terms()
         AreFlattened p.functions (incarnations_in p k m q) (passives_in p k m q) (terms_in p k m q) (flats_in p k m q) }
 {
     passive_blocks_are_typed();
+    mapless_types_are_indexed();
     typed_blocks_are_fine();
     numbered_blocks_are_flattened()
 }
@@ -150,6 +169,7 @@ pub fn valuations_deny_passive_blocks()
         (values : List Val) → ((j : ℕ) → j < count_in p k m q → value_at (built_in p k m q s) j ≡ value_at values j) →
         is_well (slice_get (equations (there_in f.candidates v.truths) target (passive_scope p i values) (passives_in p k m q)) 0) ≡ false }
 {
+    passive_blocks_are_typed();
     passive_blocks_have_terms();
     flat_clauses_fail_alike();
     terms_are_applications();
@@ -169,10 +189,59 @@ pub fn built_values_are_models()
         IsReadOff i (silent p.functions) (built_in p k m q s) (count_in p k m q) (terms_in p k m q) →
         IsModel i (built_in p k m q s) (count_in p k m q) (terms_in p k m q) }
 {
+    passive_blocks_are_typed();
     passive_blocks_have_terms();
     terms_are_applications();
     programs_over_scalars_are_tabled();
     implementations_over_scalars_have_no_maps();
     scalars_stand_for_values();
     built_leaves_are_models()
+}
+
+/// Behind any lines flat blocks are sorted, where the passive blocks are linear and name candidates that are there.
+pub fn blocks_behind_lines_are_sorted()
+    ensures { (p : Prog) (k : ℕ) (m : Impl) (q : Proc) → HasFlats p k m q → LinearBlocks p.candidates (passives_in p k m q) →
+        (ls : List Line) → blocks_sorted (lined_sorts p k m q ls) p.candidates (lined_behind p k m q ls) ≡ true }
+{
+    flattened_blocks_stay();
+    instances_are_linear_truths();
+    flat_blocks_are_sorted()
+}
+
+/// Where the equations deny the entry of the passive blocks under an interpretation, typed values of the incarnations and truth values of the
+/// candidates, there is a valuation that agrees with the candidates and makes the clauses true of each encoding of the flat blocks behind any
+/// lines.
+pub fn denied_passive_blocks_have_lined_valuations()
+    ensures { (p : Prog) (k : ℕ) (m : Impl) (q : Proc) → HaveNoBodies p.functions → HasFlats p k m q →
+        (ls : List Line) (a : Encoding) → IsLinedEncoding p k m q ls a →
+        (target : Spot) (f : Formula) → clauses_of a.first a.named a.terms a.rows target a.blocks ≡ Ok f →
+        (i : Interp) (values : List Val) (set : ℕ → Bool) → IsInterp p i → are_of (incarnations_in p k m q) values ≡ true →
+        is_well (slice_get (equations set target (passive_scope p i values) (passives_in p k m q)) 0) ≡ false →
+        (v : Valuation) × (((b : ℕ) → bools_at a.named b ≡ true → there_in f.candidates v.truths b ≡ set b) × (clauses_true v f.atoms f.clauses ≡ true)) }
+{
+    flattened_blocks_stay();
+    denied_blocks_have_scalars();
+    flat_clauses_fail_alike()
+}
+
+/// Where a valuation makes such clauses true, and the leaf of its numbers and truth values is finished, the equations deny the entry under
+/// the interpretation that is read off the values that are built for them, those values of the incarnations, and the candidates whose
+/// atoms it makes true.
+pub fn lined_valuations_deny_passive_blocks()
+    ensures { (p : Prog) (k : ℕ) (m : Impl) (q : Proc) → HaveNoBodies p.functions → HasFlats p k m q →
+        (ls : List Line) (a : Encoding) → IsLinedEncoding p k m q ls a →
+        (target : Spot) (f : Formula) → clauses_of a.first a.named a.terms a.rows target a.blocks ≡ Ok f →
+        (v : Valuation) → clauses_true v f.atoms f.clauses ≡ true →
+        (s : List Val) → s ≡ scalar_values v.numbers (λ j. v.truths (rank (lined_sorts p k m q ls) j)) (lined_sorts p k m q ls) →
+        IsFinished s (count_in p k m q) (lined_terms p k m q ls) (lined_types p k m q ls) →
+        (i : Interp) → IsReadOff i (silent p.functions) (lined_built p k m q ls s) (count_in p k m q) (lined_terms p k m q ls) →
+        (values : List Val) → ((j : ℕ) → j < count_in p k m q → value_at (lined_built p k m q ls s) j ≡ value_at values j) →
+        is_well (slice_get (equations (there_in f.candidates v.truths) target (passive_scope p i values) (passives_in p k m q)) 0) ≡ false }
+{
+    bg_numbered::laws::lines_bring_fair_terms();
+    flat_blocks_stay();
+    flattened_blocks_stay();
+    terms_are_ordinary();
+    flat_clauses_fail_alike();
+    finished_leaves_fail()
 }

@@ -9,7 +9,7 @@ use Rattle.bg_text.specs.Views.{option_of}
 use Rattle.bg_ast.specs.Values.{Val}
 use Rattle.bg_ast.specs.Views.{candidate_of}
 use Rattle.bg_scalar.specs.declared.scalar.Scalar.{Scalar}
-use Rattle.bg_scalar.specs.Values.{val_of, tables_of}
+use Rattle.bg_scalar.specs.Values.{val_of}
 use Rattle.bg_scalar.specs.Views.{tables_in}
 use Rattle.bg_scalar.specs.declared.table.Table as code
 use Rattle.bg_sound.specs.Told as t
@@ -171,7 +171,7 @@ constants_told types names n gs =
     sym (texts_map (constant_text types) val_of names (drop n gs)) ∙ ap (texts (constant_text types) names) (map_behind n gs)
 
 -- and those of functions
-pub functions_told : (types : List (List ℕ)) (fs : List Named) (ts : List code.Table) → texts (function_line types) fs ts ≡ texts (function_text types) fs (tables_of (tables_in ts))
+pub functions_told : (types : List (List ℕ)) (fs : List Named) (ts : List code.Table) → texts (function_line types) fs ts ≡ texts (function_text types) fs (tables_in ts)
 functions_told types [] ts = refl
 functions_told types (f ∷ fs) [] = refl
 functions_told types (f ∷ fs) (t ∷ ts) = ap (λ (x : List ℕ). function_line types f t ++ x) (functions_told types fs ts)

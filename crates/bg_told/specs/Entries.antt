@@ -12,7 +12,7 @@ use Rattle.bg_houdini.specs.declared.reason.Reason.{Reason}
 use Rattle.bg_told.specs.History.{Gone, found_of}
 use Rattle.bg_places.specs.Placed.{Placed}
 use Rattle.bg_scalar.specs.declared.scalar.Scalar.{Scalar}
-use Rattle.bg_scalar.specs.Values.{val_of, table_of}
+use Rattle.bg_scalar.specs.Values.{val_of}
 use Rattle.bg_scalar.specs.Views.{table_in}
 use Rattle.bg_scalar.specs.declared.table.Table.{Table}
 use Rattle.bg_model.specs.Interps.{interp_of}
@@ -52,7 +52,7 @@ module _ (types : List (List ℕ)) where
 
   -- the line of a function with this table
   abbrev pub function_line : Named → Table → List ℕ
-  function_line f t = function_text types f (table_of (table_in t))
+  function_line f t = function_text types f (table_in t)
 
 -- a function that has a body, or none
 abbrev pub named_as : Fun → Bool → Named

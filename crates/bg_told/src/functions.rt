@@ -1,7 +1,7 @@
 //! The tables of functions.
 ghost use Rattle.std.specs.Prelude.{◌≡◌, ◌++◌, false, OnOk, map, flat_map};
 ghost use Rattle.bg_ast.specs.Views.{fun_of};
-ghost use Rattle.bg_scalar.specs.Values.{val_of, entry_of, table_of};
+ghost use Rattle.bg_scalar.specs.Values.{val_of};
 ghost use Rattle.bg_scalar.specs.Views.{entry_in, table_in};
 ghost use Rattle.bg_told.specs.Lines.{texts, part_text, key_text, mapping_text, table_text};
 ghost use Rattle.bg_told.specs.Entries.{types_in, function_line, named_as, all_named};
@@ -47,7 +47,7 @@ fn put_mapping(
     key: &[Scalar],
     value: Scalar,
 ) -> Result<(), AllocError>
-    ensures { OnOk result (out.new.items ≡ out.old.items ++ mapping_text (types_in types.now) (entry_of (key.now, value))) }
+    ensures { OnOk result (out.new.items ≡ out.old.items ++ mapping_text (types_in types.now) (map val_of key.now, val_of value)) }
 {
     put_key(out, types, key)?;
     out.extend_from_slice(b" := ")?;
@@ -56,7 +56,7 @@ fn put_mapping(
 }
 
 fn put_mappings(out: &mut Vec<u8>, types: &[TypeName], table: &Table) -> Result<(), AllocError>
-    ensures { OnOk result (out.new.items ≡ out.old.items ++ flat_map (mapping_text (types_in types.now)) (map entry_of (map entry_in table.now.entries.entries))) }
+    ensures { OnOk result (out.new.items ≡ out.old.items ++ flat_map (mapping_text (types_in types.now)) (map entry_in table.now.entries.entries)) }
 {
     for (key, value) in &table.entries {
         put_mapping(out, types, key, *value)?;
@@ -65,7 +65,7 @@ fn put_mappings(out: &mut Vec<u8>, types: &[TypeName], table: &Table) -> Result<
 }
 
 fn put_table(out: &mut Vec<u8>, types: &[TypeName], table: &Table) -> Result<(), AllocError>
-    ensures { OnOk result (out.new.items ≡ out.old.items ++ table_text (types_in types.now) (table_of (table_in table.now))) }
+    ensures { OnOk result (out.new.items ≡ out.old.items ++ table_text (types_in types.now) (table_in table.now)) }
 {
     out.extend_from_slice(b"[")?;
     put_mappings(out, types, table)?;

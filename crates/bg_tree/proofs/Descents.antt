@@ -26,7 +26,7 @@ use Rattle.bg_tree.proofs.Paths.{way_more, way_once}
 use Rattle.bg_tree.proofs.Ends.{gap_may}
 
 -- the root
-pub first : (targets : ℕ → ℤ) (f : Formula) (set : ℕ → Bool) (i : Index) (d : Descent) → IsIndex f set i → length d.trail.counts.items ≡ length f.atoms → d.trail.decisions.items ≡ [] → marks_of d.guide ≡ record { row = 0; place = 0; clause = 0; atom = 0; look = 0; top = 0; from = 0; asked = 0; done = 0 } ∷ [] → IsDescent targets f set i d
+pub first : (targets : ℕ → ℤ) (f : Formula) (set : ℕ → Bool) (i : Index) (d : Descent) → IsIndex f set i → length d.trail.counts.items ≡ length f.atoms → d.trail.decisions.items ≡ [] → marks_of d.guide ≡ record { row = 0; place = 0; clause = 0; atom = 0; look = 0; top = 0; from = 0; asked = 0; done = 0; reached = 0; unmet = 0; untrue = 0 } ∷ [] → IsDescent targets f set i d
 first targets f set i d n z e g =
     record {
       sized = z;
@@ -34,7 +34,7 @@ first targets f set i d n z e g =
       ready = rw (e, head_is g) (root_ready f set i n);
     }
   where
-    head_is : marks_of d.guide ≡ record { row = 0; place = 0; clause = 0; atom = 0; look = 0; top = 0; from = 0; asked = 0; done = 0 } ∷ [] → d.guide.mark ≡ record { row = 0; place = 0; clause = 0; atom = 0; look = 0; top = 0; from = 0; asked = 0; done = 0 }
+    head_is : marks_of d.guide ≡ record { row = 0; place = 0; clause = 0; atom = 0; look = 0; top = 0; from = 0; asked = 0; done = 0; reached = 0; unmet = 0; untrue = 0 } ∷ [] → d.guide.mark ≡ record { row = 0; place = 0; clause = 0; atom = 0; look = 0; top = 0; from = 0; asked = 0; done = 0; reached = 0; unmet = 0; untrue = 0 }
     head_is q = cc
 
 -- behind an atom that may be split

@@ -12,11 +12,9 @@ use bg_ast::resolved::{Resolved, Variable};
 use bg_blocks::callees_of;
 use bg_cert::{Cert, accepts};
 use bg_check::{Cause, Judged, Verdict, judge_ordinary};
-use bg_clause::{Names, clauses};
 use bg_model::Counterexample;
 use bg_replay::{Choice, Code, Ending, Start, replay};
-use bg_rows::Refused;
-use bg_task::{Prepared, cut_down, prepare};
+use bg_task::{Made, Prepared, Question, cut_down, place_clauses, prepare};
 use bg_term_table::Instance;
 use bg_tree::Budget;
 use std::alloc::{AllocError, Global};
@@ -103,17 +101,15 @@ fn is_accepted(
         return Ok(false);
     }
     let cut = cut_down(alloc, program, &prepared, &judged.place, instances)?;
-    let atoms = &cut.atoms;
-    let names = Names {
-        first: atoms.first,
-        named: &cut.named,
-        terms: atoms.terms,
-        rows: &atoms.rows,
+    let question = Question {
+        program,
+        prepared: &prepared,
+        place: &judged.place,
+        set: &[],
     };
-    match clauses(alloc, &names, judged.place.spot, &atoms.blocks) {
-        Err(Refused::Memory) => Err(AllocError),
-        Err(Refused::Range(_)) => Ok(false),
-        Ok(f) => accepts(alloc, &f, &[], cert),
+    match place_clauses(alloc, question, &cut)? {
+        Made::Outside(_) => Ok(false),
+        Made::Clauses(f) => accepts(alloc, &f, &[], cert),
     }
 }
 

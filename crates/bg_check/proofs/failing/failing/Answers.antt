@@ -9,7 +9,7 @@ use Rattle.bg_ast.specs.Views.{program_of, candidate_of}
 use Rattle.bg_places.specs.Views.{spot_of}
 use Rattle.bg_formula.specs.Formulas.{formula_of}
 use Rattle.bg_formed.specs.Views.{form_block_of}
-use Rattle.bg_scalar.specs.Values.{val_of, tables_of}
+use Rattle.bg_scalar.specs.Values.{val_of}
 use Rattle.bg_scalar.specs.Views.{tables_in}
 use Rattle.bg_term_table.specs.Instances.{instance_of, instances_of}
 use Rattle.bg_finish.specs.Finished.{AreReadOff}
@@ -61,9 +61,9 @@ unreachable-requires c =
       models = c.built_values_are_models.ensures.models;
     } in
     let X = c.requires.values h in
-    let off = subst (λ vs. AreReadOff P.functions (count_in P n (impl p n w h) (proc p n w h)) (terms_in P n (impl p n w h) (proc p n w h)) vs (tables_of (tables_in c.args.tables.items))) X (c.requires.read_off h) in
+    let off = subst (λ vs. AreReadOff P.functions (count_in P n (impl p n w h) (proc p n w h)) (terms_in P n (impl p n w h) (proc p n w h)) vs (tables_in c.args.tables.items)) X (c.requires.read_off h) in
     let front : length c.args.instances.now ≡ length es = sym (length-map c.args.instances.now instance_of) in
-    let forms : behind_front (length c.args.instances.now) (map form_block_of c.deref-3.result.now) ≡ behind_front (length es) (encoding_in c.args.cut.now).blocks = ap (λ k. behind_front k (map form_block_of c.deref-3.result.now)) front ∙ ap (λ l. behind_front (length es) (map form_block_of l)) c.deref-3.ensures.value in
+    let forms : behind_front (length c.args.instances.now) (map form_block_of c.deref-3.result.now) ≡ behind_front (length es) (encoding_in c.args.cut.now).blocks = ap (λ k. behind_front k (map form_block_of c.deref-3.result.now)) front ∙ ap (behind_front (length es)) (ap (map form_block_of) c.deref-3.ensures.value ∙ c.in_ok-forms.ensures) in
     let first : map val_of c.first.result.now ≡ take (count_in P n (impl p n w h) (proc p n w h)) (map val_of c.args.met.values.now) = ap (map val_of) c.first.ensures ∙ (sym (take-map val_of w.count c.args.met.values.now) ∙ ap (λ k. take k (map val_of c.args.met.values.now)) h.count) in
     let vals = first ∙ ap (take (count_in P n (impl p n w h) (proc p n w h))) X in
     let R : Option Counterexample → Type 0 = IsRun laws p n w h c.requires.typed c.requires.scalars es (spot_of place.spot) (option_of candidate_of place.candidate) c.args.cut.now c.requires.slice f c.args.question.set.now leaf c.requires.clauses near c.requires.asked in
@@ -110,9 +110,9 @@ returns c =
       models = c.built_values_are_models.ensures.models;
     } in
     let X = c.requires.values h in
-    let off = subst (λ vs. AreReadOff P.functions (count_in P n (impl p n w h) (proc p n w h)) (terms_in P n (impl p n w h) (proc p n w h)) vs (tables_of (tables_in c.args.tables.items))) X (c.requires.read_off h) in
+    let off = subst (λ vs. AreReadOff P.functions (count_in P n (impl p n w h) (proc p n w h)) (terms_in P n (impl p n w h) (proc p n w h)) vs (tables_in c.args.tables.items)) X (c.requires.read_off h) in
     let front : length c.args.instances.now ≡ length es = sym (length-map c.args.instances.now instance_of) in
-    let forms : behind_front (length c.args.instances.now) (map form_block_of c.deref-3.result.now) ≡ behind_front (length es) (encoding_in c.args.cut.now).blocks = ap (λ k. behind_front k (map form_block_of c.deref-3.result.now)) front ∙ ap (λ l. behind_front (length es) (map form_block_of l)) c.deref-3.ensures.value in
+    let forms : behind_front (length c.args.instances.now) (map form_block_of c.deref-3.result.now) ≡ behind_front (length es) (encoding_in c.args.cut.now).blocks = ap (λ k. behind_front k (map form_block_of c.deref-3.result.now)) front ∙ ap (behind_front (length es)) (ap (map form_block_of) c.deref-3.ensures.value ∙ c.in_ok-forms.ensures) in
     let first : map val_of c.first.result.now ≡ take (count_in P n (impl p n w h) (proc p n w h)) (map val_of c.args.met.values.now) = ap (map val_of) c.first.ensures ∙ (sym (take-map val_of w.count c.args.met.values.now) ∙ ap (λ k. take k (map val_of c.args.met.values.now)) h.count) in
     let vals = first ∙ ap (take (count_in P n (impl p n w h) (proc p n w h))) X in
     let R : Option Counterexample → Type 0 = IsRun laws p n w h c.requires.typed c.requires.scalars es (spot_of place.spot) (option_of candidate_of place.candidate) c.args.cut.now c.requires.slice f c.args.question.set.now leaf c.requires.clauses near c.requires.asked in

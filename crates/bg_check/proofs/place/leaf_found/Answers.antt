@@ -11,10 +11,10 @@ use Rattle.bg_ast.specs.Views.{program_of, candidate_of}
 use Rattle.bg_places.specs.Views.{spot_of}
 use Rattle.bg_formula.specs.Atoms.{atom_of}
 use Rattle.bg_formula.specs.Formulas.{formula_of}
-use Rattle.bg_scalar.specs.Values.{val_of, tables_of}
+use Rattle.bg_scalar.specs.Values.{val_of}
 use Rattle.bg_scalar.specs.Views.{tables_in}
 use Rattle.bg_term_table.specs.Instances.{instances_of}
-use Rattle.bg_finish.specs.Finished.{AreReadOff, AreFalse, IsFinish}
+use Rattle.bg_finish.specs.Finished.{AreReadOff, AreFalse, IsFinish, LeavesFirst}
 use Rattle.bg_termed.specs.Termed.{count_in, terms_in}
 use Rattle.bg_task.proofs.Prepares.{impl, proc, impl_at, proc_at, clauses_here}
 use Rattle.bg_check.proofs.Placing.{values_from, truths_from, finish_here}
@@ -32,8 +32,8 @@ unreachable-requires c =
     let mapless = c.implementations_over_scalars_have_no_maps.ensures.all (meaning_of p) n (impl p n w h) (proc p n w h) c.requires.typed c.requires.scalars (impl_at p n w h) (proc_at p n w h) in
     let values = ap (map val_of) c.in_ok-values.ensures ∙ values_from p n w h f c.args.leaf mapless c.deref-2.result.now c.deref-3.result.now c.deref-4.result.now c.deref-2.ensures.value (c.deref-3.ensures.value ∙ truths) c.deref-4.ensures.value in
     let X = ap (map val_of) c.deref-7.ensures.value ∙ values in
-    let finish = finish_here p n w h f c.args.leaf c.built_values_are_typed.ensures.all c.programs_over_scalars_are_tabled.ensures c.implementations_over_scalars_have_no_maps.ensures.mapless c.passive_blocks_have_terms.ensures c.requires.typed c.requires.scalars c.deref-5.result.now c.deref-7.result.now c.deref-6.result.now c.in_ok-tables.field-0 (ap (map val_of) c.deref-5.ensures.value ∙ c.in_ok-defaults.ensures) X c.deref-6.ensures.value c.in_ok-tables.ensures in
-    let came = subst (IsFinish (meaning_of p).functions (count_in (meaning_of p) n (impl p n w h) (proc p n w h)) (terms_in (meaning_of p) n (impl p n w h) (proc p n w h)) c.deref-7.result.now) c.in-NoScalars.is finish in
+    let finish = finish_here p n w h f c.args.leaf c.built_values_are_typed.ensures.all c.programs_over_scalars_are_tabled.ensures c.implementations_over_scalars_have_no_maps.ensures.mapless c.passive_blocks_have_terms.ensures c.terms_over_scalars_are_applications.ensures c.requires.typed c.requires.scalars c.deref-5.result.now c.deref-7.result.now c.deref-6.result.now c.in_ok-tables.field-0 (ap (map val_of) c.deref-5.ensures.value ∙ c.in_ok-defaults.ensures) X c.deref-6.ensures.value c.in_ok-tables.ensures in
+    let came = subst (IsFinish (meaning_of p).functions (count_in (meaning_of p) n (impl p n w h) (proc p n w h)) (terms_in (meaning_of p) n (impl p n w h) (proc p n w h)) (map val_of c.deref-7.result.now)) c.in-NoScalars.is finish in
     came
 
 pub failing-requires-clause-truths : goal.failing-requires-clause-truths
@@ -66,9 +66,9 @@ failing-requires-clause-read_off c h =
     let mapless = c.implementations_over_scalars_have_no_maps.ensures.all (meaning_of p) n (impl p n w h) (proc p n w h) c.requires.typed c.requires.scalars (impl_at p n w h) (proc_at p n w h) in
     let values = ap (map val_of) c.in_ok-values.ensures ∙ values_from p n w h f c.args.leaf mapless c.deref-2.result.now c.deref-3.result.now c.deref-4.result.now c.deref-2.ensures.value (c.deref-3.ensures.value ∙ truths) c.deref-4.ensures.value in
     let X = ap (map val_of) c.deref-7.ensures.value ∙ values in
-    let finish = finish_here p n w h f c.args.leaf c.built_values_are_typed.ensures.all c.programs_over_scalars_are_tabled.ensures c.implementations_over_scalars_have_no_maps.ensures.mapless c.passive_blocks_have_terms.ensures c.requires.typed c.requires.scalars c.deref-5.result.now c.deref-7.result.now c.deref-6.result.now c.in_ok-tables.field-0 (ap (map val_of) c.deref-5.ensures.value ∙ c.in_ok-defaults.ensures) X c.deref-6.ensures.value c.in_ok-tables.ensures in
-    let came = subst (IsFinish (meaning_of p).functions (count_in (meaning_of p) n (impl p n w h) (proc p n w h)) (terms_in (meaning_of p) n (impl p n w h) (proc p n w h)) c.deref-7.result.now) c.in-Tables.is finish in
-    subst (λ (vs : List Val). AreReadOff (meaning_of p).functions (count_in (meaning_of p) n (impl p n w h) (proc p n w h)) (terms_in (meaning_of p) n (impl p n w h) (proc p n w h)) vs (tables_of (tables_in c.in-Tables.tables.items))) (ap (map val_of) (c.deref-7.ensures.value ∙ sym c.deref-in-Tables-2.ensures.value)) came
+    let finish = finish_here p n w h f c.args.leaf c.built_values_are_typed.ensures.all c.programs_over_scalars_are_tabled.ensures c.implementations_over_scalars_have_no_maps.ensures.mapless c.passive_blocks_have_terms.ensures c.terms_over_scalars_are_applications.ensures c.requires.typed c.requires.scalars c.deref-5.result.now c.deref-7.result.now c.deref-6.result.now c.in_ok-tables.field-0 (ap (map val_of) c.deref-5.ensures.value ∙ c.in_ok-defaults.ensures) X c.deref-6.ensures.value c.in_ok-tables.ensures in
+    let came = subst (IsFinish (meaning_of p).functions (count_in (meaning_of p) n (impl p n w h) (proc p n w h)) (terms_in (meaning_of p) n (impl p n w h) (proc p n w h)) (map val_of c.deref-7.result.now)) c.in-Tables.is finish in
+    subst (λ (vs : List Val). AreReadOff (meaning_of p).functions (count_in (meaning_of p) n (impl p n w h) (proc p n w h)) (terms_in (meaning_of p) n (impl p n w h) (proc p n w h)) vs (tables_in c.in-Tables.tables.items)) (ap (map val_of) (c.deref-7.ensures.value ∙ sym c.deref-in-Tables-2.ensures.value)) came
 
 pub returns-in_ok-cex-in-Tables : goal.returns-in_ok-cex-in-Tables
 returns-in_ok-cex-in-Tables c =
@@ -86,8 +86,8 @@ returns-in-Instances c left =
     let mapless = c.implementations_over_scalars_have_no_maps.ensures.all (meaning_of p) n (impl p n w h) (proc p n w h) c.requires.typed c.requires.scalars (impl_at p n w h) (proc_at p n w h) in
     let values = ap (map val_of) c.in_ok-values.ensures ∙ values_from p n w h f c.args.leaf mapless c.deref-2.result.now c.deref-3.result.now c.deref-4.result.now c.deref-2.ensures.value (c.deref-3.ensures.value ∙ truths) c.deref-4.ensures.value in
     let X = ap (map val_of) c.deref-7.ensures.value ∙ values in
-    let finish = finish_here p n w h f c.args.leaf c.built_values_are_typed.ensures.all c.programs_over_scalars_are_tabled.ensures c.implementations_over_scalars_have_no_maps.ensures.mapless c.passive_blocks_have_terms.ensures c.requires.typed c.requires.scalars c.deref-5.result.now c.deref-7.result.now c.deref-6.result.now c.in_ok-tables.field-0 (ap (map val_of) c.deref-5.ensures.value ∙ c.in_ok-defaults.ensures) X c.deref-6.ensures.value c.in_ok-tables.ensures in
-    let came = subst (IsFinish (meaning_of p).functions (count_in (meaning_of p) n (impl p n w h) (proc p n w h)) (terms_in (meaning_of p) n (impl p n w h) (proc p n w h)) c.deref-7.result.now) c.in-Instances.is finish in
+    let finish = finish_here p n w h f c.args.leaf c.built_values_are_typed.ensures.all c.programs_over_scalars_are_tabled.ensures c.implementations_over_scalars_have_no_maps.ensures.mapless c.passive_blocks_have_terms.ensures c.terms_over_scalars_are_applications.ensures c.requires.typed c.requires.scalars c.deref-5.result.now c.deref-7.result.now c.deref-6.result.now c.in_ok-tables.field-0 (ap (map val_of) c.deref-5.ensures.value ∙ c.in_ok-defaults.ensures) X c.deref-6.ensures.value c.in_ok-tables.ensures in
+    let came = subst (IsFinish (meaning_of p).functions (count_in (meaning_of p) n (impl p n w h) (proc p n w h)) (terms_in (meaning_of p) n (impl p n w h) (proc p n w h)) (map val_of c.deref-7.result.now)) c.in-Instances.is finish in
     let is = clauses_here p n w h (instances_of c.args.instances.now) (spot_of c.args.question.place.now.spot) (option_of candidate_of c.args.question.place.now.candidate) c.args.cut.now f c.requires.slice c.requires.clauses in
     record {
       formula = f;
@@ -108,7 +108,7 @@ returns-in-Leaves c left =
     let mapless = c.implementations_over_scalars_have_no_maps.ensures.all (meaning_of p) n (impl p n w h) (proc p n w h) c.requires.typed c.requires.scalars (impl_at p n w h) (proc_at p n w h) in
     let values = ap (map val_of) c.in_ok-values.ensures ∙ values_from p n w h f c.args.leaf mapless c.deref-2.result.now c.deref-3.result.now c.deref-4.result.now c.deref-2.ensures.value (c.deref-3.ensures.value ∙ truths) c.deref-4.ensures.value in
     let X = ap (map val_of) c.deref-7.ensures.value ∙ values in
-    let finish = finish_here p n w h f c.args.leaf c.built_values_are_typed.ensures.all c.programs_over_scalars_are_tabled.ensures c.implementations_over_scalars_have_no_maps.ensures.mapless c.passive_blocks_have_terms.ensures c.requires.typed c.requires.scalars c.deref-5.result.now c.deref-7.result.now c.deref-6.result.now c.in_ok-tables.field-0 (ap (map val_of) c.deref-5.ensures.value ∙ c.in_ok-defaults.ensures) X c.deref-6.ensures.value c.in_ok-tables.ensures in
-    let came = subst (IsFinish (meaning_of p).functions (count_in (meaning_of p) n (impl p n w h) (proc p n w h)) (terms_in (meaning_of p) n (impl p n w h) (proc p n w h)) c.deref-7.result.now) c.in-Leaves.is finish in
+    let finish = finish_here p n w h f c.args.leaf c.built_values_are_typed.ensures.all c.programs_over_scalars_are_tabled.ensures c.implementations_over_scalars_have_no_maps.ensures.mapless c.passive_blocks_have_terms.ensures c.terms_over_scalars_are_applications.ensures c.requires.typed c.requires.scalars c.deref-5.result.now c.deref-7.result.now c.deref-6.result.now c.in_ok-tables.field-0 (ap (map val_of) c.deref-5.ensures.value ∙ c.in_ok-defaults.ensures) X c.deref-6.ensures.value c.in_ok-tables.ensures in
+    let came = subst (IsFinish (meaning_of p).functions (count_in (meaning_of p) n (impl p n w h) (proc p n w h)) (terms_in (meaning_of p) n (impl p n w h) (proc p n w h)) (map val_of c.deref-7.result.now)) c.in-Leaves.is finish in
     let is = clauses_here p n w h (instances_of c.args.instances.now) (spot_of c.args.question.place.now.spot) (option_of candidate_of c.args.question.place.now.candidate) c.args.cut.now f c.requires.slice c.requires.clauses in
-    record { formula = f; is = is; is_leaf = subst (λ (zs : List ℤ). IsLeaf (target_of zs) f (has c.args.question.set.now) c.args.leaf) c.requires.prepared.targets c.requires.leaf; values = c.deref-7.result.now; are = X; leaves = came }
+    record { formula = f; is = is; is_leaf = subst (λ (zs : List ℤ). IsLeaf (target_of zs) f (has c.args.question.set.now) c.args.leaf) c.requires.prepared.targets c.requires.leaf; leaves = subst (λ (vs : List Val). LeavesFirst (terms_in (meaning_of p) n (impl p n w h) (proc p n w h)) vs c.in-Leaves.o) X came }

@@ -1,14 +1,14 @@
-use Rattle.std.proofs.Common.{◌≡◌, ℕ, ◌<◌, ◌-◌, List, length, map, drop, get_or, ap, ◌∙◌, arith}
+use Rattle.std.proofs.Common.{ℕ, ◌<◌, ◌-◌, List, length, map, drop, ap, ◌∙◌, arith}
+use Rattle.bg_ast.specs.Values.{Ty}
 use Rattle.bg_ast.specs.Meaning.{type_in, named_of}
 use Rattle.bg_ast.specs.Views.{type_of, type_name_of}
-use Rattle.bg_ast.specs.declared.resolved.WrittenType.{WrittenType}
-use Rattle.bg_fits.specs.Holdings.{holding_of}
-use Rattle.bg_fits.specs.declared.types.Holding.{Holding}
+use Rattle.bg_kinds.specs.Views.{ref_in}
+use Rattle.bg_kinds.specs.declared.kinds.ValueType.{ValueType}
 use Rattle.bg_certtext.specs.declared.text.Entry.{Entry}
 use Rattle.bg_certtext.specs.declared.text.Value.{Value}
 use Rattle.bg_certtext.specs.Views as text
 use Rattle.bg_certtext.specs.Views.{function_of}
-use Rattle.bg_confirm.specs.Met.{scalar_in, scalars_in}
+use Rattle.bg_confirm.specs.Met.{val_for, vals_for}
 use Rattle.bg_confirm.proofs.Entering.{spelt, entered, all_read}
 use Rattle.bg_confirm.proofs.tables.table_of.Goals as goal
 
@@ -18,9 +18,8 @@ index-entry-requires c = omega (arith, c.loop-k-test.true, c.loop-k.invariant.0,
 pub loop-k-preserved : goal.loop-k-preserved
 loop-k-preserved c =
     let named = named_of (map type_name_of c.args.types.now) in
-    let holds : List WrittenType → List Holding = λ ws. map holding_of (map (type_in named) (map type_of ws)) in
-    let hs = holds c.args.f.now.params.items in
-    let h = holding_of (type_in named (type_of c.args.f.now.result)) in
+    let hs = map (type_in named) (map type_of c.args.f.now.params.items) in
+    let h = type_in named (type_of c.args.f.now.result) in
     let g = c.args.given.now in
     let k = c.loop-k.k in
     let e = c.index-entry.result.now in
@@ -28,12 +27,13 @@ loop-k-preserved c =
       omega (arith, at),
       entered hs h (text.value_of g.default) g.entries.items (k - 1) e c.in_ok-key.key c.scalar_in.result c.loop-k.entries.entries c.insert.new.self.entries at (spelt (function_of g) c.requires.spelled)
           (c.in_ok-key.ensures
-          ∙ (ap (λ (ws : List WrittenType). scalars_in (holds ws) (map text.value_of c.deref-in-loop-k.result.now)) c.deref.ensures.value
-          ∙ (ap (λ (vs : List Value). scalars_in hs (map text.value_of vs)) c.deref-in-loop-k.ensures.value
-          ∙ ap (λ (x : Entry). scalars_in hs (map text.value_of x.key.items)) c.index-entry.ensures)))
+          ∙ (ap (λ (ts : List ValueType). vals_for (map ref_in ts) (map text.value_of c.deref-in-loop-k.result.now)) c.deref.ensures.value
+          ∙ (ap (λ (ts : List Ty). vals_for ts (map text.value_of c.deref-in-loop-k.result.now)) c.in_ok-s.ensures.params
+          ∙ (ap (λ (vs : List Value). vals_for hs (map text.value_of vs)) c.deref-in-loop-k.ensures.value
+          ∙ ap (λ (x : Entry). vals_for hs (map text.value_of x.key.items)) c.index-entry.ensures))))
           (c.scalar_in.ensures
-          ∙ (ap (λ (y : Holding). scalar_in y (text.value_of e.value)) c.written_holding-holding.ensures
-          ∙ ap (λ (x : Entry). scalar_in h (text.value_of x.value)) c.index-entry.ensures))
+          ∙ (ap (λ (t : Ty). val_for t (text.value_of e.value)) (c.as_ref.ensures ∙ c.in_ok-s.ensures.value)
+          ∙ ap (λ (x : Entry). val_for h (text.value_of x.value)) c.index-entry.ensures))
           c.in_ok-insert.ensures.entries
           (c.loop-k.invariant.1 ∙ ap (λ (n : ℕ). all_read hs h (drop n g.entries.items)) (omega (arith, c.loop-k-test.true))),
     )

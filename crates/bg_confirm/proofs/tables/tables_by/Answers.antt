@@ -10,7 +10,7 @@ use Rattle.bg_certtext.specs.Views.{function_of}
 use Rattle.bg_confirm.specs.Met.{blank, table_of}
 use Rattle.bg_confirm.proofs.Tabling.{one, made_from, bodied_so, bodiless_so, spelt_at, bodied, unmatched, matched}
 use Rattle.bg_confirm.proofs.tables.tables_by.Goals as goal
-use Rattle.bg_confirm.proofs.tables.tables_by.Goals.{then-is_none+then-next-given+in_ok-table_of+in_ok-push, else-is_none+in_ok-push-2, else-is_none-via-then-is_none+else-next-given, else-is_none-via-else-is_none}
+use Rattle.bg_confirm.proofs.tables.tables_by.Goals.{then-is_none+then-next-given+in_ok-table_of+in_ok-push, else-is_none+in_ok-blank+in_ok-push-2, else-is_none-via-then-is_none+else-next-given, else-is_none-via-else-is_none}
 
 pub table_of-requires : goal.table_of-requires
 table_of-requires c =
@@ -33,12 +33,12 @@ loop-f-preserved c =
           ap (λ (k : ℕ). tables_in c.if-is_none.made.items ++ made_from types (drop (i + 1) fs) (drop k gs)) w.next-is
           ∙ matched types fs i f gs n w.index-given-next.result old c.if-is_none.made.items w.in_ok-table_of.field-0 _ inside at (bodiless_so _ _ c.is_none.ensures w.if-is_none.true) w.if-next-given.true
           (ap (λ v. v.items) w.made-is ∙ w.in_ok-push.ensures.items) (w.in_ok-table_of.ensures ∙ (ap (λ (l : List TypeName). table_of (m.fun_of (named_of (map type_name_of l)) (fun_of f)) (function_of w.index-given-next.result)) w.deref.ensures.value ∙ ap (λ (g : text.Function). table_of (one types f) (function_of g)) w.index-given-next.is)) c.loop-f.invariant
-      | else-is_none+in_ok-push-2 w ↦
+      | else-is_none+in_ok-blank+in_ok-push-2 w ↦
           let made = ap (λ v. v.items) w.made-is ∙ w.in_ok-push-2.ensures.items in
-          let is = w.blank.ensures ∙ ap (λ (l : List TypeName). blank (m.fun_of (named_of (map type_name_of l)) (fun_of f))) w.deref-else-is_none.ensures.value in
+          let is = w.in_ok-blank.ensures ∙ ap (λ (l : List TypeName). blank (m.fun_of (named_of (map type_name_of l)) (fun_of f))) w.deref-else-is_none.ensures.value in
           ap (λ (k : ℕ). tables_in c.if-is_none.made.items ++ made_from types (drop (i + 1) fs) (drop k gs)) w.next-is
           ∙ elim w.else-is_none.branch [
-            | else-is_none-via-then-is_none+else-next-given v ↦ unmatched types fs i f gs n old c.if-is_none.made.items w.blank.result _ inside at (bodiless_so _ _ c.is_none.ensures v.if-is_none.true) (omega (arith, v.if-next-given.false)) made is c.loop-f.invariant
-            | else-is_none-via-else-is_none v ↦ bodied types fs i f (drop n gs) old c.if-is_none.made.items w.blank.result _ inside at (bodied_so _ _ c.is_none.ensures v.if-is_none.false) made is c.loop-f.invariant
+            | else-is_none-via-then-is_none+else-next-given v ↦ unmatched types fs i f gs n old c.if-is_none.made.items w.in_ok-blank.field-0 _ inside at (bodiless_so _ _ c.is_none.ensures v.if-is_none.true) (omega (arith, v.if-next-given.false)) made is c.loop-f.invariant
+            | else-is_none-via-else-is_none v ↦ bodied types fs i f (drop n gs) old c.if-is_none.made.items w.in_ok-blank.field-0 _ inside at (bodied_so _ _ c.is_none.ensures v.if-is_none.false) made is c.loop-f.invariant
           ]
     ]

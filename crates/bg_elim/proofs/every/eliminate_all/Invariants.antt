@@ -12,6 +12,7 @@ invariant-every l = record {
   placed : Placed l.variables (work_of l.work).order (work_of l.work);
   once : no_twice l.rest.items ≡ true;
   done : no_twice (work_of l.work).order ≡ true;
+  same : length l.places.items ≡ length l.rest.items;
   apart : (q : ℕ) → is_in q l.rest.items ≡ true → is_in q (work_of l.work).order ≡ false;
   all : (q : ℕ) → is_in q l.variables ≡ (is_in q (work_of l.work).order || is_in q l.rest.items);
 }

@@ -12,5 +12,5 @@ found-requires-clause-ends c =
     let s = subst (EndsAs given c.args.budget start (IsStarted given start)) c.in-Whole.is c.in_ok-round.ensures.ends in
     let e = c.in_ok-round-in-Whole.ensures in
     ends_as given c.args.budget w _ _ c.in_ok-round-in-Whole.round
-    (λ o. solves given c.deref.result.now start w s e.rows (e.sound given c.in_ok-round.ensures.holds) o)
+    (λ o. solves given c.deref-in-Whole.result.now start w s e.rows (e.sound given c.in_ok-round.ensures.holds) o)
     (e.ends given)

@@ -1,9 +1,15 @@
-use Rattle.std.proofs.Common.{inr}
+use Rattle.std.proofs.Common.{◌≡◌, inr, sym, ap, subst, Some, length}
 use Rattle.bg_rows.specs.Rows.{row_of}
-use Rattle.bg_elim.specs.Work.{work_of}
+use Rattle.bg_elim.specs.Work.{WorkOf, work_of, Holds, Extends, StaysPlaced, IsThere}
 use Rattle.bg_elim.proofs.Rounds.{holds_kept, holds_live, settled_sound, settled_placed, aside_placed, place_some, stays_kept, extends_kept, extends_on, extends_live}
 use Rattle.bg_elim.specs.declared.order.Reason.TheVariants.{Tightened}
+use Rattle.bg_elim.proofs.Places.{at_below}
 use Rattle.bg_elim.proofs.take.settle.Goals as goal
+
+pub join-requires-clause-there : goal.join-requires-clause-there
+join-requires-clause-there c =
+    at_below row_of c.keep_tight.new.work.rows.items c.in-Some-2.m (row_of c.args.tight.row)
+    (place_some c.args.budget (row_of c.args.tight.row) (work_of c.keep_tight.new.work) _ c.in-Some-2.m c.in_ok-m.ensures.place c.in-Some-2.is)
 
 pub returns-in_default-clause-sound : goal.returns-in_default-clause-sound
 returns-in_default-clause-sound c = λ given h made.
@@ -11,27 +17,28 @@ returns-in_default-clause-sound c = λ given h made.
 
 pub returns-in_default-2-clause-sound : goal.returns-in_default-2-clause-sound
 returns-in_default-2-clause-sound c =
-    settled_sound (work_of c.args.work.now) (work_of c.keep.new.work) (work_of c.keep-2.new.work) (row_of c.args.row) (row_of c.args.tight.row) c.args.reason c.in-Some.n
+    settled_sound (work_of c.args.work.now) (work_of c.keep.new.work) (work_of c.keep_tight.new.work) (row_of c.args.row) (row_of c.args.tight.row) c.args.reason c.in-Some.n
     c.requires.tight c.requires.fine c.in_ok-n.ensures.kept
     (place_some c.args.budget (row_of c.args.row) (work_of c.keep.new.work) _ c.in-Some.n c.in_ok-n.ensures.place c.in-Some.is)
     c.in_ok-m.ensures.kept
 
 pub returns-clause-sound : goal.returns-clause-sound
 returns-clause-sound c = λ given h made.
-    holds_live given (work_of c.keep-2.new.work) c.push.new.self.items
-    (settled_sound (work_of c.args.work.now) (work_of c.keep.new.work) (work_of c.keep-2.new.work) (row_of c.args.row) (row_of c.args.tight.row) c.args.reason c.in-Some.n
+    subst (Holds given) (sym c.in_ok-join.ensures.joined.same)
+    (holds_live given (work_of c.keep_tight.new.work) (work_of c.join.new.work).live
+    (settled_sound (work_of c.args.work.now) (work_of c.keep.new.work) (work_of c.keep_tight.new.work) (row_of c.args.row) (row_of c.args.tight.row) c.args.reason c.in-Some.n
     c.requires.tight c.requires.fine c.in_ok-n.ensures.kept
     (place_some c.args.budget (row_of c.args.row) (work_of c.keep.new.work) _ c.in-Some.n c.in_ok-n.ensures.place c.in-Some.is)
-    c.in_ok-m.ensures.kept given h made)
+    c.in_ok-m.ensures.kept given h made))
 
 pub returns-clause-taken : goal.returns-clause-taken
 returns-clause-taken c =
-    settled_placed (work_of c.args.work.now) (work_of c.keep.new.work) (work_of c.keep-2.new.work) (row_of c.args.row) (row_of c.args.tight.row) c.args.reason c.in-Some.n c.in-Some-2.m c.args.tight.stand c.retire.new.live.items c.push.new.self.items
+    subst (λ (z : WorkOf). StaysPlaced (work_of c.args.work.now) (row_of c.args.row) z) (sym c.in_ok-join.ensures.joined.same)
+    (settled_placed (work_of c.args.work.now) (work_of c.keep.new.work) (work_of c.keep_tight.new.work) (row_of c.args.row) (row_of c.args.tight.row) c.args.reason c.in-Some.n c.in-Some-2.m c.args.tight.stand (work_of c.join.new.work).live
     c.requires.tight c.args.row.normal c.args.tight.row.normal c.in_ok-n.ensures.kept c.in_ok-m.ensures.kept
-    (place_some c.args.budget (row_of c.args.tight.row) (work_of c.keep-2.new.work) _ c.in-Some-2.m c.in_ok-m.ensures.place c.in-Some-2.is)
+    (place_some c.args.budget (row_of c.args.tight.row) (work_of c.keep_tight.new.work) _ c.in-Some-2.m c.in_ok-m.ensures.place c.in-Some-2.is)
     c.requires.stand
-    (record { back = c.retire.ensures.back; rest = c.retire.ensures.rest })
-    c.in_ok-push.ensures.items
+    c.in_ok-join.ensures.joined.live)
 
 pub returns-in-Implied-clause-taken : goal.returns-in-Implied-clause-taken
 returns-in-Implied-clause-taken c =
@@ -51,24 +58,26 @@ returns-in-Implied-clause-there c = λ e.
 
 pub returns-clause-there : goal.returns-clause-there
 returns-clause-there c = λ e.
-    inr (
+    subst (IsThere (row_of c.args.row)) (sym c.in_ok-join.ensures.joined.same)
+    (inr (
       c.in-Some.n,
-      stays_kept (work_of c.keep.new.work) (work_of c.keep-2.new.work) (row_of c.args.tight.row) (Tightened c.in-Some.n) c.in-Some.n (row_of c.args.row) c.in_ok-m.ensures.kept
+      stays_kept (work_of c.keep.new.work) (work_of c.keep_tight.new.work) (row_of c.args.tight.row) (Tightened c.in-Some.n) c.in-Some.n (row_of c.args.row) c.in_ok-m.ensures.kept
           (place_some c.args.budget (row_of c.args.row) (work_of c.keep.new.work) _ c.in-Some.n c.in_ok-n.ensures.place c.in-Some.is),
-    )
+    ))
 
 pub returns-in_default-clause-extends : goal.returns-in_default-clause-extends
 returns-in_default-clause-extends c = extends_kept (work_of c.args.work.now) (work_of c.keep.new.work) (row_of c.args.row) c.args.reason c.in_ok-n.ensures.kept
 
 pub returns-in_default-2-clause-extends : goal.returns-in_default-2-clause-extends
 returns-in_default-2-clause-extends c =
-    extends_on (work_of c.args.work.now) (work_of c.keep.new.work) (work_of c.keep-2.new.work)
+    extends_on (work_of c.args.work.now) (work_of c.keep.new.work) (work_of c.keep_tight.new.work)
     (extends_kept (work_of c.args.work.now) (work_of c.keep.new.work) (row_of c.args.row) c.args.reason c.in_ok-n.ensures.kept)
-    (extends_kept (work_of c.keep.new.work) (work_of c.keep-2.new.work) (row_of c.args.tight.row) (Tightened c.in-Some.n) c.in_ok-m.ensures.kept)
+    (extends_kept (work_of c.keep.new.work) (work_of c.keep_tight.new.work) (row_of c.args.tight.row) (Tightened c.in-Some.n) c.in_ok-m.ensures.kept)
 
 pub returns-clause-extends : goal.returns-clause-extends
 returns-clause-extends c =
-    extends_live (work_of c.args.work.now) (work_of c.keep-2.new.work) c.push.new.self.items
-    (extends_on (work_of c.args.work.now) (work_of c.keep.new.work) (work_of c.keep-2.new.work)
+    subst (Extends (work_of c.args.work.now)) (sym c.in_ok-join.ensures.joined.same)
+    (extends_live (work_of c.args.work.now) (work_of c.keep_tight.new.work) (work_of c.join.new.work).live
+    (extends_on (work_of c.args.work.now) (work_of c.keep.new.work) (work_of c.keep_tight.new.work)
     (extends_kept (work_of c.args.work.now) (work_of c.keep.new.work) (row_of c.args.row) c.args.reason c.in_ok-n.ensures.kept)
-    (extends_kept (work_of c.keep.new.work) (work_of c.keep-2.new.work) (row_of c.args.tight.row) (Tightened c.in-Some.n) c.in_ok-m.ensures.kept))
+    (extends_kept (work_of c.keep.new.work) (work_of c.keep_tight.new.work) (row_of c.args.tight.row) (Tightened c.in-Some.n) c.in_ok-m.ensures.kept)))

@@ -1,21 +1,15 @@
-use Rattle.std.proofs.Common.{refl}
+use Rattle.std.proofs.Common.{◌+◌, sym, subst}
 use Rattle.std.proofs.lemmas.Result.{on_ok_weaker}
-use Rattle.bg_expanded.specs.declared.pairs.Tally.{Tally}
-use Rattle.bg_expanded.proofs.Tallies.{more_truths, more_numbers, more_elements, no_more}
+use Rattle.bg_ast.specs.Values.{Ty}
+use Rattle.bg_kinds.specs.Views.{base_of, ref_of}
+use Rattle.bg_expanded.specs.Bodies.{IsAlike}
+use Rattle.bg_expanded.specs.Pairs.{one_with, tallied}
+use Rattle.bg_expanded.proofs.Tallies.{no_more}
 use Rattle.bg_expanded.proofs.pairs.add_constant.Goals as goal
 
-pub returns-in-Truths : goal.returns-in-Truths
-returns-in-Truths c = more_truths c.args.tally.now _ c.args.holding c.in-Truths.is c.saturating_add-tally.ensures refl refl
+pub returns-in-Some : goal.returns-in-Some
+returns-in-Some c =
+    on_ok_weaker c.add_based.result (λ h b. subst (λ (u : Ty). IsAlike (tallied c.add_based.new.tally b) (one_with (base_of b) u + tallied c.args.tally.now b)) (sym c.in-Some.ensures.is) (h b)) c.add_based.ensures
 
-pub returns-in-Numbers : goal.returns-in-Numbers
-returns-in-Numbers c =
-    more_numbers c.args.tally.now _ c.args.holding c.in-Numbers.is refl c.saturating_add-tally-in-Numbers.ensures refl
-
-pub returns-in-Elements : goal.returns-in-Elements
-returns-in-Elements c =
-    let old = c.args.tally.now in
-    let new : Tally = record old { elements = c.add_element.new.elements } in
-    on_ok_weaker c.add_element.result (λ h. more_elements c.in-Elements.u old new c.args.holding c.in-Elements.is refl refl h) c.add_element.ensures
-
-pub returns-in-Others : goal.returns-in-Others
-returns-in-Others c = no_more c.args.tally.now c.args.holding c.in-Others.is
+pub returns-in-None : goal.returns-in-None
+returns-in-None c = no_more c.args.tally.now (ref_of c.args.t) c.in-None.ensures.is

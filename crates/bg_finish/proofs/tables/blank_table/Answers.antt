@@ -1,5 +1,5 @@
 use Rattle.std.proofs.Common.{map, ap}
-use Rattle.bg_scalar.specs.Views.{entry_in}
+use Rattle.bg_finish.specs.Scalars.{entry_in}
 use Rattle.bg_finish.proofs.tables.blank_table.Goals as goal
 
 pub returns : goal.returns

@@ -1,5 +1,5 @@
 use Rattle.std.proofs.Common.{◌≡◌, take, map}
-use Rattle.bg_scalar.specs.Views.{tables_in}
+use Rattle.bg_finish.specs.Scalars.{tables_in}
 use Rattle.bg_finish.specs.Filled.{blank}
 use Rattle.bg_finish.proofs.tables.blanks.Given as goal
 

@@ -1,5 +1,5 @@
 use Rattle.std.proofs.Common.{map, sym, ap, ◌∙◌}
-use Rattle.bg_scalar.specs.Views.{entry_in, table_in}
+use Rattle.bg_finish.specs.Scalars.{entry_in, table_in}
 use Rattle.bg_finish.proofs.Held.{inserted, put_told, put_new}
 use Rattle.bg_finish.proofs.tables.put.Goals as goal
 

@@ -1,6 +1,6 @@
 use Rattle.std.proofs.Common.{◌<◌, ◌≤◌, length, rules, ap, ◌∙◌}
 use Rattle.std.proofs.lemmas.Result.{IfOk-weaker}
-use Rattle.bg_scalar.specs.Views.{table_in}
+use Rattle.bg_finish.specs.Scalars.{table_in}
 use Rattle.bg_finish.specs.Filled.{put_in}
 use Rattle.bg_finish.proofs.Held.{place_past, set_place}
 use Rattle.bg_finish.proofs.tables.put_row.Goals as goal

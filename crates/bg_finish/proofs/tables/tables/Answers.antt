@@ -1,5 +1,5 @@
 use Rattle.std.proofs.Common.{map, ap}
-use Rattle.bg_scalar.specs.Views.{tables_in}
+use Rattle.bg_finish.specs.Scalars.{tables_in}
 use Rattle.bg_finish.specs.Rows.{rows_of}
 use Rattle.bg_finish.specs.Filled.{blank, filled}
 use Rattle.bg_finish.proofs.Held.{filled_more, filled_end}

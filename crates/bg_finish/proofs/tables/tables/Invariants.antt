@@ -1,5 +1,5 @@
 use Rattle.std.proofs.Common.{◌≡◌, drop, map}
-use Rattle.bg_scalar.specs.Views.{tables_in}
+use Rattle.bg_finish.specs.Scalars.{tables_in}
 use Rattle.bg_finish.specs.Rows.{rows_of}
 use Rattle.bg_finish.specs.Filled.{blank, filled}
 use Rattle.bg_finish.proofs.tables.tables.Given as goal

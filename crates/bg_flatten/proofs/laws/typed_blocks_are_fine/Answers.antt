@@ -6,5 +6,5 @@ use Rattle.bg_flatten.proofs.Handled.{blocks_fine}
 use Rattle.bg_flatten.proofs.laws.typed_blocks_are_fine.Goals as goal
 
 pub returns : goal.returns
-returns c p incs blocks none mapless results typed =
-    blocks_fine p.functions results incs mapless blocks (subst (λ cs. TypedBlocks (sig_with (const_types cs) p.functions incs) blocks) none typed)
+returns c p incs blocks none typed =
+    blocks_fine p.functions incs blocks (subst (λ cs. TypedBlocks (sig_with (const_types cs) p.functions incs) blocks) none typed)

@@ -10,6 +10,7 @@ use Rattle.bg_forms.specs.Worth.{bools_at}
 use Rattle.bg_formed.specs.Views.{form_block_of}
 use Rattle.bg_places.specs.Views.{spot_of}
 use Rattle.bg_scalar.specs.Values.{val_of}
+use Rattle.bg_scalar.specs.Views.{vals_in}
 use Rattle.bg_scalar.specs.Choices.{choice_of}
 use Rattle.bg_model.specs.Behind.{behind_front, stretch_of}
 use Rattle.bg_model.specs.Views.{set_of}
@@ -51,7 +52,7 @@ returns c =
       denied_is set t truth forms ∙ fails_here,
       record {
         tables = refl;
-        starts = λ k im pr s others later u. starts_at prog (frame_decls im pr) others s vs c.in_ok-globals.globals.items c.in_ok-frame.frame.items c.count_globals-many.result c.args.routine.frame u.values c.in_ok-globals.ensures c.in_ok-frame.ensures many u.frame_size;
+        starts = λ k im pr s others later u. starts_at prog (frame_decls im pr) others s vs (vals_in c.in_ok-globals.globals.items) (vals_in c.in_ok-frame.frame.items) c.count_globals-many.result c.args.routine.frame u.values c.in_ok-globals.ensures c.in_ok-frame.ensures many u.frame_size;
         choices = choices;
         fails = λ i k im pr s others later u said none. fails_at set truth t vs prog i k im pr s others later bs c.args.routine.frame firsts forms (map choice_of c.in_ok-choices.choices.items) u said none choices fails_here;
       },

@@ -1,10 +1,11 @@
 use Rattle.std.proofs.Common.{◌≡◌, drop, map}
 use Rattle.bg_ast.specs.Views.{placed_of}
 use Rattle.bg_ast.specs.Meaning.{variable_of}
+use Rattle.bg_scalar.specs.Views.{vals_in}
 use Rattle.bg_replay.specs.Acts.{put_each}
 use Rattle.bg_replay.specs.Views.{moment_of}
 use Rattle.bg_replay.proofs.moment.put_taken.Given as goal
 
 abbrev pub invariant-loop-i : goal.invariant-loop-i
 invariant-loop-i l =
-    put_each (map variable_of (map placed_of (drop l.i l.takes))) (drop l.i l.values) (moment_of l.moment) ≡ put_each (map variable_of (map placed_of l.takes)) l.values (moment_of l.fn.moment)
+    put_each (map variable_of (map placed_of (drop l.i l.takes))) (vals_in (drop l.i l.values)) (moment_of l.moment) ≡ put_each (map variable_of (map placed_of l.takes)) (vals_in l.values) (moment_of l.fn.moment)

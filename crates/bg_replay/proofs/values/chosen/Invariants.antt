@@ -1,7 +1,10 @@
-use Rattle.std.proofs.Common.{◌≡◌, drop}
+use Rattle.std.proofs.Common.{◌≡◌, map, drop}
+use Rattle.bg_kinds.specs.Views.{ref_in}
+use Rattle.bg_scalar.specs.Views.{vals_in}
+use Rattle.bg_scalar.specs.Choices.{choice_of}
 use Rattle.bg_replay.specs.Acts.{append_o, chosen}
 use Rattle.bg_replay.proofs.values.chosen.Given as goal
 
-abbrev pub invariant-loop-holding : goal.invariant-loop-holding
-invariant-loop-holding l =
-    append_o l.made.items (chosen (drop l.holding-index l.holdings) l.left) ≡ chosen l.holdings l.choices
+abbrev pub invariant-loop-t : goal.invariant-loop-t
+invariant-loop-t l =
+    append_o (vals_in l.made.items) (chosen (map ref_in (drop l.t-index l.kinds)) (map choice_of l.left)) ≡ chosen (map ref_in l.kinds) (map choice_of l.choices)

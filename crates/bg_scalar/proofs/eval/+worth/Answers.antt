@@ -1,9 +1,9 @@
 use Rattle.std.proofs.Common.{◌≡◌, map, None, sym, ◌∙◌}
 use Rattle.std.proofs.lemmas.Result.{IfOk-weaker}
-use Rattle.bg_ast.specs.Views.{link_view}
-use Rattle.bg_scalar.specs.Along.{along}
-use Rattle.bg_scalar.specs.Views.{seen_of}
-use Rattle.bg_scalar.proofs.Chains.{worth_of, apply_expr, chain_expr, prefix_expr, postfix_expr, link_step, link_end}
+use Rattle.bg_ast.specs.Views.{link_view, bracket_view}
+use Rattle.bg_scalar.specs.Along.{along, behind}
+use Rattle.bg_scalar.specs.Views.{seen_of, worth_in}
+use Rattle.bg_scalar.proofs.Chains.{worth_of, apply_expr, chain_expr, prefix_expr, postfix_expr, link_step, link_end, bracket_step, bracket_end, select_bracket, update_bracket}
 use Rattle.bg_scalar.proofs.Listing.{list_step}
 use Rattle.bg_scalar.proofs.eval.+worth.Goals as goal
 
@@ -13,12 +13,15 @@ worth-returns-in_ok-value-in-Prefix t c =
 
 pub worth-returns-in_ok-value-in-Postfix : goal.worth-returns-in_ok-value-in-Postfix
 worth-returns-in_ok-value-in-Postfix t c =
-    rw (c.behind.ensures, c.deref-in-Postfix-2.ensures.value, c.in_ok-value-in-Postfix.ensures, c.deref-in-Postfix.ensures, c.in-Postfix.is) (sym (postfix_expr c.in-Postfix.e c.in-Postfix.brackets (seen_of c.args.sight)))
+    let s = seen_of c.args.sight in
+    let is : behind (worth_in c.in_ok-value-in-Postfix.value) (map bracket_view c.deref-in-Postfix-2.result.now) s ≡ worth_of c.args.e.now s =
+    rw (c.deref-in-Postfix-2.ensures.value, c.in_ok-value-in-Postfix.ensures, c.deref-in-Postfix.ensures, c.in-Postfix.is) (sym (postfix_expr c.in-Postfix.e c.in-Postfix.brackets s)) in
+    IfOk-weaker c.behind.result _ _ (λ x h. h ∙ is) c.behind.ensures
 
 pub worth-returns-in_ok-first-in-Chain : goal.worth-returns-in_ok-first-in-Chain
 worth-returns-in_ok-first-in-Chain t c =
     let s = seen_of c.args.sight in
-    let is : along None c.in_ok-first-in-Chain.first (map link_view c.deref-in-Chain-2.result.now) s ≡ worth_of c.args.e.now s =
+    let is : along None (worth_in c.in_ok-first-in-Chain.first) (map link_view c.deref-in-Chain-2.result.now) s ≡ worth_of c.args.e.now s =
     rw (c.deref-in-Chain-2.ensures.value, c.in_ok-first-in-Chain.ensures, c.deref-in-Chain.ensures, c.in-Chain.is) (sym (chain_expr c.in-Chain.first c.in-Chain.links s)) in
     IfOk-weaker c.chain.result _ _ (λ x h. h ∙ is) c.chain.ensures
 
@@ -32,8 +35,24 @@ worths-loop-e-preserved t c =
 
 pub chain-loop-link-preserved : goal.chain-loop-link-preserved
 chain-loop-link-preserved t c =
-    link_step c.args.links.now c.loop-link.link-index c.link-item.result (seen_of c.args.sight) c.loop-link.premise c.premise_after-premise.result c.loop-link.operand c.operand_after-operand.result c.in_ok-next.next _ c.loop-link-test.true c.link-item.is c.in_ok-next.ensures c.premise_after-premise.ensures c.operand_after-operand.ensures c.loop-link.invariant
+    link_step c.args.links.now c.loop-link.link-index c.link-item.result (seen_of c.args.sight) _ _ _ _ _ _ c.loop-link-test.true c.link-item.is c.in_ok-next.ensures c.premise_after-premise.ensures c.operand_after-operand.ensures c.loop-link.invariant
 
 pub chain-returns : goal.chain-returns
 chain-returns t c =
-    rw c.under.ensures (link_end c.args.links.now c.loop-link.link-index (seen_of c.args.sight) c.loop-link.premise c.loop-link.operand _ c.loop-link-test.false c.loop-link.invariant)
+    c.under.ensures ∙ link_end c.args.links.now c.loop-link.link-index (seen_of c.args.sight) _ _ _ c.loop-link-test.false c.loop-link.invariant
+
+pub behind-loop-b-preserved : goal.behind-loop-b-preserved
+behind-loop-b-preserved t c =
+    bracket_step c.args.brackets.now c.loop-b.b-index c.b-item.result (seen_of c.args.sight) _ _ _ c.loop-b-test.true c.b-item.is c.in_ok-value.ensures c.loop-b.invariant
+
+pub behind-returns : goal.behind-returns
+behind-returns t c =
+    bracket_end c.args.brackets.now c.loop-b.b-index (seen_of c.args.sight) _ _ c.loop-b-test.false c.loop-b.invariant
+
+pub bracketed-returns-in_ok-index-in-Select : goal.bracketed-returns-in_ok-index-in-Select
+bracketed-returns-in_ok-index-in-Select t c =
+    rw (c.selected.ensures, c.in_ok-index-in-Select.ensures, c.deref.ensures.value, c.in-Select.is) (sym (select_bracket c.in-Select.field-0 c.in-Select.es (worth_in c.args.value) (seen_of c.args.sight)))
+
+pub bracketed-returns-in_ok-new-in-Update : goal.bracketed-returns-in_ok-new-in-Update
+bracketed-returns-in_ok-new-in-Update t c =
+    rw (c.updated.ensures, c.in_ok-index-in-Update.ensures, c.deref-in-Update.ensures.value, c.in_ok-new-in-Update.ensures, c.in-Update.is) (sym (update_bracket c.in-Update.field-0 c.in-Update.es c.in-Update.e (worth_in c.args.value) (seen_of c.args.sight)))

@@ -1,9 +1,11 @@
-use Rattle.std.proofs.Common.{◌≡◌, [], length, sym, ap, subst}
-use Rattle.std.proofs.lemmas.Result.{IfOk-weaker}
+use Rattle.std.proofs.Common.{◌≡◌, List, [], length, refl, sym, ap, subst}
+use Rattle.bg_ast.specs.Meaning.{meaning_of, named_of, impl_of, proc_of}
 use Rattle.bg_ast.specs.Views.{program_of}
 use Rattle.bg_places.specs.Views.{spot_of}
 use Rattle.bg_term_table.specs.Instances.{instances_of}
-use Rattle.bg_task.specs.Slices.{IsSliceFor}
+use Rattle.bg_terms.specs.Instances.{Instance}
+use Rattle.bg_task.specs.Prepared.{IsPrepared, encoding_over}
+use Rattle.bg_task.specs.Cuts.{IsOwn}
 use Rattle.bg_task.proofs.Sliced.{slice_for, no_terms, none_there, some_there}
 use Rattle.bg_task.proofs.cut.cut_down.Goals as goal
 
@@ -14,7 +16,8 @@ returns-then-is_empty c =
     let w = c.args.prepared.now in
     let t = spot_of c.args.place.now.spot in
     let none : [] ≡ instances_of c.args.instances.now = ap instances_of (sym (none_there c.args.instances.now _ c.is_empty.ensures c.if-is_empty.true)) in
-    IfOk-weaker c.blocks_cut.result _ _ (λ x is. subst (λ es. IsSliceFor p n w es t x) none (slice_for p n w [] t w.atoms x (λ h. h.own) is)) c.blocks_cut.ensures
+    let own = λ (h : IsPrepared p n w). subst (λ (es : List Instance). IsOwn (meaning_of p) n (impl_of (named_of p.types) h.implementation) (proc_of (named_of p.types) h.procedure) es (encoding_over (meaning_of p).candidates w.atoms)) none h.own in
+    slice_for p n w (instances_of c.args.instances.now) t w.atoms _ own refl refl c.in_ok-rows.ensures
 
 pub atoms_behind-requires-clause-prepared : goal.atoms_behind-requires-clause-prepared
 atoms_behind-requires-clause-prepared c = (c.args.place.now.implementation, c.requires.prepared)
@@ -29,4 +32,4 @@ returns c =
     let n = c.args.place.now.implementation in
     let w = c.args.prepared.now in
     let t = spot_of c.args.place.now.spot in
-    IfOk-weaker c.blocks_cut-2.result _ _ (λ x is. slice_for p n w (instances_of c.args.instances.now) t c.in_ok-atoms.atoms x (λ h. c.in_ok-atoms.ensures n h) is) c.blocks_cut-2.ensures
+    slice_for p n w (instances_of c.args.instances.now) t c.in_ok-atoms.atoms _ (λ h. c.in_ok-atoms.ensures n h) refl refl c.in_ok-rows-2.ensures

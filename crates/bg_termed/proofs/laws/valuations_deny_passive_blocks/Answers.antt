@@ -22,4 +22,4 @@ returns c p k m q plain im pr mapless all instances a is target f made v true_in
     let are = c.passive_blocks_have_terms.ensures p k m q plain im pr mapless in
     let denied = subst (λ w. is_well (slice_get (equations set target (over w) (behind_in p k m q instances)) 0) ≡ false) (sym read) (c.flat_clauses_fail_alike.ensures.denied tys p.candidates (behind_in p k m q instances) a target f is made v true_in) in
     let typed = subst (λ w. are_of (map scalar_ty tys) w ≡ true) (sym read) (c.built_values_are_typed.ensures.scalars p k m q v.numbers (λ j. v.truths (rank (sorts_in p k m q) j))) in
-    c.built_leaves_fail.ensures p i (incarnations_in p k m q) ts s (built_in p k m q s) values set target (stated n ts instances) (passives_in p k m q) (flats_in p k m q) plain.bodies are.terms.typed (c.terms_are_applications.ensures p.functions n (passives_in p k m q)) all typed (are_built n ts tys s typed) congruent off first are.blocks denied
+    c.built_leaves_fail.ensures p i (incarnations_in p k m q) ts s (built_in p k m q s) values set target (stated n ts instances) (passives_in p k m q) (flats_in p k m q) plain.bodies are.terms.typed (c.terms_are_applications.ensures p (incarnations_in p k m q) (passives_in p k m q) plain.constants mapless plain.results (c.passive_blocks_are_typed.ensures p k m q plain.typed im pr)) all typed (are_built n ts tys s typed) congruent off first are.blocks denied

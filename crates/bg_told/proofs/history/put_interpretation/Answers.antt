@@ -1,7 +1,7 @@
 use Rattle.std.proofs.Common.{◌≡◌, ◌++◌, List, ℕ, codes, map, sym, ap, ◌∙◌, subst, append_assoc}
 use Rattle.std.proofs.lemmas.Result.{on_ok_weaker}
 use Rattle.bg_ast.specs.Views.{fun_of}
-use Rattle.bg_scalar.specs.Values.{val_of, tables_of}
+use Rattle.bg_scalar.specs.Values.{val_of}
 use Rattle.bg_scalar.specs.Views.{tables_in}
 use Rattle.bg_check.specs.declared.verdict.Verdict.{Verdict}
 use Rattle.bg_check.specs.Outcomes.{verdict_of}
@@ -27,7 +27,7 @@ returns-in_ok-put_constants-in-Refuted c =
     on_ok_weaker c.put_functions.result (λ put.
     let made : c.put_functions.new.out.items ≡ out ++ (head ++ (texts (constant_line types) names gs ++ texts (function_line types) named ts)) =
     put ∙ (rw (c.in_ok-put_constants-in-Refuted.ensures, c.in_ok-extend_from_slice-in-Refuted.ensures.items, c.deref.ensures.value, c.deref-in-Refuted.ensures.value) (simp append_assoc)) in
-    let told : c.put_functions.new.out.items ≡ out ++ (head ++ (texts (constant_text types) names (map val_of gs) ++ texts (function_text types) named (tables_of (tables_in ts)))) =
+    let told : c.put_functions.new.out.items ≡ out ++ (head ++ (texts (constant_text types) names (map val_of gs) ++ texts (function_text types) named (tables_in ts))) =
     made
     ∙ ap (λ (t : List ℕ). out ++ (head ++ (t ++ texts (function_line types) named ts))) (constants_all types names gs)
     ∙ ap (λ (t : List ℕ). out ++ (head ++ (texts (constant_text types) names (map val_of gs) ++ t))) (functions_told types named ts) in

@@ -3,7 +3,6 @@ use Rattle.bg_ast.specs.Views.{declared_of, fun_of, impl_of}
 use Rattle.bg_scalar.specs.Choices.{choice_of}
 use Rattle.bg_scalar.specs.Values.{val_of}
 use Rattle.bg_told.specs.Lines.{texts}
-use Rattle.bg_scalar.specs.Values.{tables_of}
 use Rattle.bg_scalar.specs.Views.{tables_in}
 use Rattle.bg_told.specs.Places.{choice_text, constant_text, function_text}
 use Rattle.bg_told.specs.Sheets.{head_of, variables_of}
@@ -26,4 +25,4 @@ returns c =
     made
     ∙ ap (λ (values : List ℕ). c.args.out.now.items ++ ((values ++ texts (function_line types) named ts) ++ (texts (entry_text types) names (take n gs ++ fs) ++ choices))) (constants_told types (names_in ds.constants.now) n gs)
     ∙ ap (λ (values : List ℕ). c.args.out.now.items ++ ((texts (constant_text types) (names_in ds.constants.now) (drop n (map val_of gs)) ++ values) ++ (texts (entry_text types) names (take n gs ++ fs) ++ choices))) (functions_told types named ts)
-    ∙ ap (λ (values : List ℕ). c.args.out.now.items ++ ((texts (constant_text types) (names_in ds.constants.now) (drop n (map val_of gs)) ++ texts (function_text types) named (tables_of (tables_in ts))) ++ (values ++ choices))) (entries_told types names n gs fs)
+    ∙ ap (λ (values : List ℕ). c.args.out.now.items ++ ((texts (constant_text types) (names_in ds.constants.now) (drop n (map val_of gs)) ++ texts (function_text types) named (tables_in ts)) ++ (values ++ choices))) (entries_told types names n gs fs)

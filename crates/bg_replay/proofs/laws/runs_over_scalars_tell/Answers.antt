@@ -1,5 +1,0 @@
-use Rattle.bg_replay.proofs.Tracks.{runs_tell}
-use Rattle.bg_replay.proofs.laws.runs_over_scalars_tell.Goals as goal
-
-pub returns : goal.returns
-returns c = runs_tell
