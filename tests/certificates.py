@@ -7,6 +7,7 @@ usage: certificates.py --bg COMMAND [--short]
   one that is judged, `check` names the first place that its report doesn't call proved.
 - The first reason why a certificate is rejected or refused, for texts written by hand; among them values and tables with elements of
   user types, wrong in one way each.
+- The lines of a place's terms and instances: those that name what isn't there are rejected, and the others change nothing.
 - A certificate without one of its lines, with two of its sections exchanged or with one twice, is never accepted: so nothing in it is idle.
 - Hostile texts: numbers out of range, a hundred thousand splits, a text cut off behind each line, one line as long as a text may be: a
   named status, and memory that grows with the text alone. With --short these are shorter.
@@ -114,6 +115,14 @@ ANSWERS = [
 ]
 
 
+# two terms, of which the congruence is wanted; the lines with one more behind it, or in its place
+LINED = "function f(int): int; procedure P(x: int, y: int) { assert f(x) != f(y) ==> x != y; }"
+CONGRUENT = "inst c 0 1\n"
+NOT_THERE = ["inst c 0 2\n", "inst c 170141183460469231731687303715884105727 0\n", "inst s 0 2\n", "inst d 0 1 2\n", "inst x 2 0\n"]
+NOT_THERE += ["pick 0 0\n", "pick 2 0\n", "pick 4 0\n", "pick 0 2\n", "names 0 1\n", "names 2 3\n", "names 0 4\n", "apart 0 1\n"]
+SAY_NOTHING = ["inst s 0 1\n", "inst d 0 1 1\n", "inst x 0 1\n"]
+
+
 class Trial:
     def __init__(self, bg, folder):
         self.bg, self.folder, self.passed, self.failed = shlex.split(bg), folder, 0, 0
@@ -182,6 +191,21 @@ def elements(t):
         cert = FRONT + OF_ELEMENTS.replace(part, other, 1) + "end\n"
         got = t.check(cert.encode(), path)
         t.holds(f"elements: {why}", part in OF_ELEMENTS and got == wanted, (cert, got))
+
+
+def lined(t):
+    """Lines of terms and instances: one that names what isn't there, or nothing that fits, is rejected, behind the others and before them."""
+    path = t.stored("a.bpl", LINED.encode())
+    _, cert, _ = t.run(["certify", path])
+    cert = cert.decode()
+    accepted, rejected = (0, b"accepted\n", b""), (1, b"rejected: P 1:23 assert 1:53\n", b"")
+    t.holds("lines: the congruence is wanted", cert.count(CONGRUENT) == 1, cert)
+    t.holds("lines: without the congruence", t.check(cert.replace(CONGRUENT, "").encode(), path) == rejected)
+    for lines, wanted in [(NOT_THERE, rejected), (SAY_NOTHING, accepted)]:
+        for line in lines:
+            for other in (CONGRUENT + line, line + CONGRUENT):
+                got = t.check(cert.replace(CONGRUENT, other).encode(), path)
+                t.holds(f"lines: {other!r}", got == wanted, got)
 
 
 def sections_of(lines):
@@ -256,6 +280,7 @@ def main():
             example(t, source)
         answers(t)
         elements(t)
+        lined(t)
         for name in ("count_inferred",) if args.short else ("count_inferred", "insertion_inferred", "gcd", "bank_inferred"):
             source = os.path.join(TOP, "examples", name + ".bpl")
             doctored(t, source)

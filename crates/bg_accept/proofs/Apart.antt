@@ -9,7 +9,8 @@ use Rattle.bg_ast.specs.Meaning.{meaning_of}
 use Rattle.bg_ast.specs.Execution.{Place}
 use Rattle.bg_formula.specs.Formulas.{Formula}
 use Rattle.bg_sense.specs.Variables.{procedure_of}
-use Rattle.bg_terms.specs.Instances.{Instance}
+use Rattle.bg_numbered.specs.Lines.{Line}
+use Rattle.bg_block_types.specs.Typed.{incarnations_in}
 use Rattle.bg_termed.specs.Termed.{terms_in}
 use Rattle.bg_certtext.specs.declared.text.Stated.{Stated}
 use Rattle.bg_task.specs.Cuts.{HasOwnClauses}
@@ -17,15 +18,15 @@ use Rattle.bg_task.specs.Certified.{HasOutside}
 use Rattle.bg_certtext.specs.Views.{SectionOf, CertOf}
 use Rattle.bg_accept.specs.Sections.{section_at, accepts_section}
 use Rattle.bg_accept.specs.Accepted.{IsShown, IsBare, IsAccepted}
-use Rattle.bg_accept.specs.Instances.{Names, instances_in}
+use Rattle.bg_accept.specs.Lines.{NamesLines, lines_in}
 use Rattle.bg_accept.specs.Answers.{AnswerOf, Accepted, NoInterp, NotRetained, NotShown, NotRequired, IsAnswer}
 
 -- a place has one list of clauses, or none
 abbrev pub OneLaw : Type 0
-OneLaw = (p : Prog) (t : Place) (es : List Instance) (f g : Formula) → HasOwnClauses p t es f → HasOwnClauses p t es g → f ≡ g
+OneLaw = (p : Prog) (t : Place) (es : List Line) (f g : Formula) → HasOwnClauses p t es f → HasOwnClauses p t es g → f ≡ g
 
 abbrev pub NoneLaw : Type 0
-NoneLaw = (p : Prog) (t : Place) (es : List Instance) (f : Formula) (o : OutOfRange) → HasOwnClauses p t es f → HasOutside p t es o → ⊥
+NoneLaw = (p : Prog) (t : Place) (es : List Line) (f : Formula) (o : OutOfRange) → HasOwnClauses p t es f → HasOutside p t es o → ⊥
 
 none_there : {A : Type 0} (o : Option A) (x : A) → o ≡ None → o ≡ Some x → ⊥
 none_there None x h k = absurd (let bad : None ≡ Some x = sym h ∙ k in let b : ⊥ = cc in b)
@@ -44,19 +45,19 @@ not_none None h k = absurd cc
 not_none (Some x) h k = absurd (let b : ⊥ = cc in b)
 
 -- lines name the same wherever it is told
-named_once : (p : Prog) (t : Place) (ss : List Stated) (a b : Option (List Instance)) → Names p t ss a → Names p t ss b → a ≡ b
+named_once : (p : Prog) (t : Place) (ss : List Stated) (a b : Option (List Line)) → NamesLines p t ss a → NamesLines p t ss b → a ≡ b
 named_once p t ss a b h g =
     let same : h.implementation ≡ g.implementation = one_there (slice_get p.implementations t.implementation) h.implementation g.implementation h.is_there g.is_there in
     let its : procedure_of p g.implementation.procedure ≡ Some h.procedure = subst (λ (i : Impl). procedure_of p i.procedure ≡ Some h.procedure) same h.is_its in
     let also : h.procedure ≡ g.procedure = one_there (procedure_of p g.implementation.procedure) h.procedure g.procedure its g.is_its in
     sym h.named
-    ∙ (ap (λ (i : Impl). instances_in (length (terms_in p t.implementation i h.procedure)) ss) same
-    ∙ (ap (λ (q : Proc). instances_in (length (terms_in p t.implementation g.implementation q)) ss) also ∙ g.named))
+    ∙ (ap (λ (i : Impl). lines_in (incarnations_in p t.implementation i h.procedure) (terms_in p t.implementation i h.procedure) ss) same
+    ∙ (ap (λ (q : Proc). lines_in (incarnations_in p t.implementation g.implementation q) (terms_in p t.implementation g.implementation q) ss) also ∙ g.named))
 
--- the instances that lines of equal sections name are the same
-same_instances : (p : Prog) (t : Place) (x y : SectionOf) (es fs : List Instance) → x ≡ y → Names p t x.stated (Some es) → Names p t y.stated (Some fs) → es ≡ fs
-same_instances p t x y es fs e h g =
-    let one : Some es ≡ Some fs = named_once p t y.stated (Some es) (Some fs) (subst (λ (s : SectionOf). Names p t s.stated (Some es)) e h) g in
+-- equal sections name the same lines
+same_lines : (p : Prog) (t : Place) (x y : SectionOf) (es fs : List Line) → x ≡ y → NamesLines p t x.stated (Some es) → NamesLines p t y.stated (Some fs) → es ≡ fs
+same_lines p t x y es fs e h g =
+    let one : Some es ≡ Some fs = named_once p t y.stated (Some es) (Some fs) (subst (λ (s : SectionOf). NamesLines p t s.stated (Some es)) e h) g in
     let same : es ≡ fs = cc in
     same
 
@@ -65,20 +66,20 @@ shown_and_bare one none p set names sections i t s (inl e) =
     none_there (section_at t.implementation i sections) s.section e s.is_its
 shown_and_bare one none p set names sections i t s (inr (inl b)) =
     let same : s.section ≡ b.section = one_there (section_at t.implementation i sections) s.section b.section s.is_its b.is_its in
-    let bad : None ≡ Some s.instances = named_once p t b.section.stated None (Some s.instances) b.names_none (subst (λ (x : SectionOf). Names p t x.stated (Some s.instances)) same s.names_them) in
+    let bad : None ≡ Some s.lines = named_once p t b.section.stated None (Some s.lines) b.names_none (subst (λ (x : SectionOf). NamesLines p t x.stated (Some s.lines)) same s.names_them) in
     let b : ⊥ = cc in
     b
 shown_and_bare one none p set names sections i t s (inr (inr (inl b))) =
     let same : s.section ≡ b.section = one_there (section_at t.implementation i sections) s.section b.section s.is_its b.is_its in
-    let instances = same_instances p t s.section b.section s.instances b.instances same s.names_them b.names_them in
-    let clauses : s.formula ≡ b.formula = one p t b.instances s.formula b.formula (subst (λ (es : List Instance). HasOwnClauses p t es s.formula) instances s.is) b.is in
+    let lines = same_lines p t s.section b.section s.lines b.lines same s.names_them b.names_them in
+    let clauses : s.formula ≡ b.formula = one p t b.lines s.formula b.formula (subst (λ (es : List Line). HasOwnClauses p t es s.formula) lines s.is) b.is in
     let here : accepts_section b.formula set names b.section ≡ true =
     subst (λ (f : Formula). accepts_section f set names b.section ≡ true) clauses (subst (λ (x : SectionOf). accepts_section s.formula set names x ≡ true) same s.accepted) in
     both_ways (accepts_section b.formula set names b.section) here b.refused
 shown_and_bare one none p set names sections i t s (inr (inr (inr b))) =
     let same : s.section ≡ b.section = one_there (section_at t.implementation i sections) s.section b.section s.is_its b.is_its in
-    let instances = same_instances p t s.section b.section s.instances b.instances same s.names_them b.names_them in
-    none p t b.instances s.formula b.operation (subst (λ (es : List Instance). HasOwnClauses p t es s.formula) instances s.is) b.is
+    let lines = same_lines p t s.section b.section s.lines b.lines same s.names_them b.names_them in
+    none p t b.lines s.formula b.operation (subst (λ (es : List Line). HasOwnClauses p t es s.formula) lines s.is) b.is
 
 pub answered_so : OneLaw → NoneLaw → (p : r.Program) (c : CertOf) (a : AnswerOf) → IsAccepted p c → IsAnswer p c a → a ≡ Accepted
 answered_so one none p c Accepted h g = refl

@@ -4,6 +4,7 @@ pub mod Filled
 pub mod Whole
 pub mod Lookups
 pub mod Stating
+pub mod Missing
 pub mod Settled
 pub mod Found
 pub mod Answering

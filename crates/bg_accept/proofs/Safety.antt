@@ -21,7 +21,7 @@ use Rattle.bg_formula.specs.Meaning.{AtomsAgree}
 use Rattle.bg_cert.specs.Certs as cert
 use Rattle.bg_cert.specs.Walks.{has, no_instance}
 use Rattle.bg_places.specs.Placed.{Placed, place_in, placed, placed_impl}
-use Rattle.bg_terms.specs.Instances.{Instance}
+use Rattle.bg_numbered.specs.Lines.{Line}
 use Rattle.bg_task.specs.Cuts.{HasOwnClauses}
 use Rattle.bg_task.proofs.Numbered as n
 use Rattle.bg_certtext.specs.Views.{CertOf}
@@ -34,7 +34,7 @@ use Rattle.bg_accept.proofs.Tables.{table_agrees}
 
 abbrev pub FailLaw : Type 0
 FailLaw =
-    (p : Prog) (set : ℕ → Bool) (t : Place) (es : List Instance) (f : Formula) (c : cert.CertOf) → IsTyped p → is_over_scalars true p ≡ true →
+    (p : Prog) (set : ℕ → Bool) (t : Place) (es : List Line) (f : Formula) (c : cert.CertOf) → IsTyped p → is_over_scalars true p ≡ true →
     HasOwnClauses p t es f → AtomsAgree c.table → cert.Accepts f set no_instance c →
     (i : Interp) (s : State) (choices : List Choice) → Fails p set t i s choices → ⊥
 
@@ -97,7 +97,7 @@ module _ (fails : FailLaw) (place : PlaceLaw) (safe : SafeLaw) (p : r.Program) (
   shown_holds i u x j s choices bad =
       let nodes = map (node_in p.candidates) x.section.nodes in
       let a = accepted_by x.formula set nodes (table_in x.section.table) x.accepted in
-      fails (meaning_of p) set u x.instances x.formula (record { table = a.table; nodes = nodes }) t o x.is (table_agrees x.section.table a.table a.is_its) a.accepted j s choices bad
+      fails (meaning_of p) set u x.lines x.formula (record { table = a.table; nodes = nodes }) t o x.is (table_agrees x.section.table a.table a.is_its) a.accepted j s choices bad
 
   not_failing : (u : Place) → Contains (places (meaning_of p)) u → is_kept set u.candidate ≡ true → (j : Interp) (s : State) (choices : List Choice) → Fails (meaning_of p) set u j s choices → ⊥
   not_failing u w kept j s choices bad =

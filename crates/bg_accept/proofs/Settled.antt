@@ -15,7 +15,7 @@ use Rattle.bg_places.specs.Placed.{Placed, placed_impl}
 use Rattle.bg_places.specs.Views.{placed_of, placed_in}
 use Rattle.bg_places.specs.declared.place.Place as code
 use Rattle.bg_places.specs.declared.place.Spot.TheVariants as spot
-use Rattle.bg_terms.specs.Instances.{Instance}
+use Rattle.bg_numbered.specs.Lines.{Line}
 use Rattle.bg_task.specs.Cuts.{HasOwnClauses}
 use Rattle.bg_task.specs.declared.prepared.Prepared.{Prepared}
 use Rattle.bg_task.specs.Prepared.{IsPrepared}
@@ -24,7 +24,7 @@ use Rattle.bg_certtext.specs.declared.text.Section.{Section}
 use Rattle.bg_certtext.specs.Views.{SectionOf, section_of}
 use Rattle.bg_certtext.specs.Spellable as s
 use Rattle.bg_accept.specs.Sections.{accepts_section, section_at}
-use Rattle.bg_accept.specs.Instances.{Names}
+use Rattle.bg_accept.specs.Lines.{NamesLines}
 use Rattle.bg_accept.specs.Accepted.{places_of, places_at, IsShown, IsBare, IsRequired}
 use Rattle.bg_accept.specs.Tables.{any_needed}
 use Rattle.bg_accept.specs.Reading.{IsSettledBehind, IsSettled, IsSettledBy, IsFine, AreShownTo, AreShownOf, IsBareOf}
@@ -46,13 +46,13 @@ spelled_rows (x ∷ ss) (suc n) d h l = spelled_rows ss n d (and_right (s.is_sec
 
 -- ---- one place
 
-pub settled : (p : Prog) (set : ℕ → Bool) (names : List Id) (t : SectionOf) (u : Place) (es : List Instance) (f : Formula) → HasOwnClauses p u es f → (o : Result Bool AllocError) → IfOk o (λ said. said ≡ accepts_section f set names t) → IfOk o (IsSettledBehind p set names t u es)
+pub settled : (p : Prog) (set : ℕ → Bool) (names : List Id) (t : SectionOf) (u : Place) (es : List Line) (f : Formula) → HasOwnClauses p u es f → (o : Result Bool AllocError) → IfOk o (λ said. said ≡ accepts_section f set names t) → IfOk o (IsSettledBehind p set names t u es)
 settled p set names t u es f h (Ok true) e = (f, (h, sym e))
 settled p set names t u es f h (Ok false) e = inl (f, (h, sym e))
 settled p set names t u es f h (Err x) e = e
 
--- the same behind the instances that the section names
-pub settled_so : (p : Prog) (set : ℕ → Bool) (names : List Id) (t : SectionOf) (u : Place) (es : List Instance) → Names p u t.stated (Some es) → (o : Result Bool AllocError) → IfOk o (IsSettledBehind p set names t u es) → IfOk o (IsSettled p set names t u)
+-- the same behind the lines that the section names
+pub settled_so : (p : Prog) (set : ℕ → Bool) (names : List Id) (t : SectionOf) (u : Place) (es : List Line) → NamesLines p u t.stated (Some es) → (o : Result Bool AllocError) → IfOk o (IsSettledBehind p set names t u es) → IfOk o (IsSettled p set names t u)
 settled_so p set names t u es n (Ok true) h = (es, (n, h))
 settled_so p set names t u es n (Ok false) h = inr (es, (n, h))
 settled_so p set names t u es n (Err x) h = h
@@ -70,7 +70,7 @@ module _ (p : r.Program) (set : ℕ → Bool) (ss : List SectionOf) where
   shown_by : (names : List Id) (k i : ℕ) (o : Option SectionOf) (u : Place) → u.implementation ≡ k → o ≡ section_at k i ss → IsSettledBy (meaning_of p) set names o u true → IsShown (meaning_of p) set names ss i u
   shown_by names k i None u n e h = absurd (let bad : ⊥ = cc in bad)
   shown_by names k i (Some t) u n e h =
-      record { section = t; is_its = ap (λ j. section_at j i ss) n ∙ sym e; instances = h.0; names_them = h.1.0; formula = h.1.1.0; is = h.1.1.1.0; accepted = h.1.1.1.1 }
+      record { section = t; is_its = ap (λ j. section_at j i ss) n ∙ sym e; lines = h.0; names_them = h.1.0; formula = h.1.1.0; is = h.1.1.1.0; accepted = h.1.1.1.1 }
 
   bare_by : (names : List Id) (k i : ℕ) (o : Option SectionOf) (u : Place) → u.implementation ≡ k → o ≡ section_at k i ss → IsSettledBy (meaning_of p) set names o u false → IsBare (meaning_of p) set names ss i u
   bare_by names k i None u n e h = inl (ap (λ j. section_at j i ss) n ∙ sym e)
@@ -80,9 +80,9 @@ module _ (p : r.Program) (set : ℕ → Bool) (ss : List SectionOf) where
     where
       behind : IsSettledBehind (meaning_of p) set names t u h.0 false → IsBare (meaning_of p) set names ss i u
       behind (inl g) =
-          inr (inr (inl (record { section = t; is_its = ap (λ j. section_at j i ss) n ∙ sym e; instances = h.0; names_them = h.1.0; formula = g.0; is = g.1.0; refused = g.1.1 })))
+          inr (inr (inl (record { section = t; is_its = ap (λ j. section_at j i ss) n ∙ sym e; lines = h.0; names_them = h.1.0; formula = g.0; is = g.1.0; refused = g.1.1 })))
       behind (inr g) =
-          inr (inr (inr (record { section = t; is_its = ap (λ j. section_at j i ss) n ∙ sym e; instances = h.0; names_them = h.1.0; operation = g.0; is = g.1 })))
+          inr (inr (inr (record { section = t; is_its = ap (λ j. section_at j i ss) n ∙ sym e; lines = h.0; names_them = h.1.0; operation = g.0; is = g.1 })))
 
   number_at_place : (k i : ℕ) (a : Placed) → slice_get (places_at p k) i ≡ Some a → a.place.implementation ≡ k
   number_at_place k i a e = by_impl (slice_get p.implementations k) e

@@ -10,12 +10,12 @@ use Rattle.bg_sense.specs.Clauses.{is_kept}
 use Rattle.bg_formula.specs.Formulas.{Formula}
 use Rattle.bg_cert.specs.Walks.{has}
 use Rattle.bg_places.specs.Placed.{Placed, placed_impl}
-use Rattle.bg_terms.specs.Instances.{Instance}
+use Rattle.bg_numbered.specs.Lines.{Line}
 use Rattle.bg_task.specs.Cuts.{HasOwnClauses}
 use Rattle.bg_task.specs.Certified.{HasOutside}
 use Rattle.bg_certtext.specs.Views.{SectionOf, CertOf}
 use Rattle.bg_accept.specs.Names.{marks, unplaced}
-use Rattle.bg_accept.specs.Instances.{Names}
+use Rattle.bg_accept.specs.Lines.{NamesLines}
 use Rattle.bg_accept.specs.Sections.{section_at, accepts_section, extra_behind}
 
 -- the candidates that the text retains
@@ -38,40 +38,40 @@ is_needed set (Some a) = is_kept set a.place.candidate
 abbrev pub is_required : r.Program → (ℕ → Bool) → ℕ → ℕ → Bool
 is_required p set k i = is_needed set (slice_get (places_at p k) i)
 
--- the place's clauses, behind the instances that its section names, accept the section
+-- the place's clauses, behind the lines that its section has, accept the section
 pub record IsShown (p : Prog) (set : ℕ → Bool) (names : List Id) (sections : List SectionOf) (i : ℕ) (t : Place) : Type 0 where
   pub section : SectionOf
   pub is_its : section_at t.implementation i sections ≡ Some section
-  pub instances : List Instance
-  pub names_them : Names p t section.stated (Some instances)
+  pub lines : List Line
+  pub names_them : NamesLines p t section.stated (Some lines)
   pub formula : Formula
-  pub is : HasOwnClauses p t instances formula
+  pub is : HasOwnClauses p t lines formula
   pub accepted : accepts_section formula set names section ≡ true
 
 -- they don't accept it
 pub record IsRefused (p : Prog) (set : ℕ → Bool) (names : List Id) (sections : List SectionOf) (i : ℕ) (t : Place) : Type 0 where
   pub section : SectionOf
   pub is_its : section_at t.implementation i sections ≡ Some section
-  pub instances : List Instance
-  pub names_them : Names p t section.stated (Some instances)
+  pub lines : List Line
+  pub names_them : NamesLines p t section.stated (Some lines)
   pub formula : Formula
-  pub is : HasOwnClauses p t instances formula
+  pub is : HasOwnClauses p t lines formula
   pub refused : accepts_section formula set names section ≡ false
 
--- the place's section names an instance of terms that aren't there
+-- a line of the place's section names what isn't there
 pub record IsUnfounded (p : Prog) (sections : List SectionOf) (i : ℕ) (t : Place) : Type 0 where
   pub section : SectionOf
   pub is_its : section_at t.implementation i sections ≡ Some section
-  pub names_none : Names p t section.stated None
+  pub names_none : NamesLines p t section.stated None
 
--- the place has no clauses behind the instances that its section names: this operation leaves the range
+-- the place has no clauses behind the lines that its section has: this operation leaves the range
 pub record IsOutside (p : Prog) (sections : List SectionOf) (i : ℕ) (t : Place) : Type 0 where
   pub section : SectionOf
   pub is_its : section_at t.implementation i sections ≡ Some section
-  pub instances : List Instance
-  pub names_them : Names p t section.stated (Some instances)
+  pub lines : List Line
+  pub names_them : NamesLines p t section.stated (Some lines)
   pub operation : OutOfRange
-  pub is : HasOutside p t instances operation
+  pub is : HasOutside p t lines operation
 
 -- the place has no section, or one that names what isn't there, or none that its clauses accept, or it has no clauses
 abbrev pub IsBare : Prog → (ℕ → Bool) → List Id → List SectionOf → ℕ → Place → Type 0

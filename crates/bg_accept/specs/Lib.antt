@@ -1,6 +1,7 @@
 pub mod Names
 pub mod Sections
-pub mod Instances
+pub mod Lines
+pub mod Read
 pub mod Accepted
 pub mod Answers
 pub mod Texts

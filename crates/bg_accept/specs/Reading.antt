@@ -17,13 +17,13 @@ use Rattle.bg_formula.specs.Formulas.{Formula}
 use Rattle.bg_places.specs.Placed.{Placed}
 use Rattle.bg_places.specs.Views.{placed_of}
 use Rattle.bg_places.specs.declared.place.Place as code
-use Rattle.bg_terms.specs.Instances.{Instance}
+use Rattle.bg_numbered.specs.Lines.{Line}
 use Rattle.bg_task.specs.Cuts.{HasOwnClauses}
 use Rattle.bg_task.specs.Certified.{HasOutside}
 use Rattle.bg_certtext.specs.Views.{SectionOf, section_of}
 use Rattle.bg_certtext.specs.Spellable.{is_section}
 use Rattle.bg_accept.specs.Sections.{accepts_section}
-use Rattle.bg_accept.specs.Instances.{Names}
+use Rattle.bg_accept.specs.Lines.{NamesLines}
 use Rattle.bg_accept.specs.Accepted.{IsShown, IsBare, IsRequired}
 use Rattle.bg_accept.specs.Tables.{AreFirsts}
 use Rattle.bg_accept.specs.Places.{ArePlaces}
@@ -44,19 +44,19 @@ pub record IsReading (q : Reading) : Type 0 where
   pub spelled : list_all is_section (map section_of q.sections.now) ≡ true
   pub tables : AreTables (program_of q.program.now) (map section_of q.sections.now) q.tables.now
 
--- whether the place's clauses behind these instances accept this section; the place may have none
-abbrev pub IsSettledBehind : Prog → (ℕ → Bool) → List Id → SectionOf → Place → List Instance → Bool → Type 0
+-- whether the place's clauses behind these lines accept this section; the place may have none
+abbrev pub IsSettledBehind : Prog → (ℕ → Bool) → List Id → SectionOf → Place → List Line → Bool → Type 0
 IsSettledBehind p set names s t es true = (f : Formula) × (HasOwnClauses p t es f × (accepts_section f set names s ≡ true))
 IsSettledBehind p set names s t es false =
     ((f : Formula) × (HasOwnClauses p t es f × (accepts_section f set names s ≡ false)))
     ⊎ ((o : OutOfRange) × HasOutside p t es o)
 
--- the same behind those that the section names; it may name what isn't there
+-- the same behind those that the section has; one of them may name what isn't there
 abbrev pub IsSettled : Prog → (ℕ → Bool) → List Id → SectionOf → Place → Bool → Type 0
-IsSettled p set names s t true = (es : List Instance) × (Names p t s.stated (Some es) × IsSettledBehind p set names s t es true)
+IsSettled p set names s t true = (es : List Line) × (NamesLines p t s.stated (Some es) × IsSettledBehind p set names s t es true)
 IsSettled p set names s t false =
-    Names p t s.stated None
-    ⊎ ((es : List Instance) × (Names p t s.stated (Some es) × IsSettledBehind p set names s t es false))
+    NamesLines p t s.stated None
+    ⊎ ((es : List Line) × (NamesLines p t s.stated (Some es) × IsSettledBehind p set names s t es false))
 
 -- the same where there may be no section
 abbrev pub IsSettledBy : Prog → (ℕ → Bool) → List Id → Option SectionOf → Place → Bool → Type 0

@@ -8,9 +8,9 @@ ghost use Rattle.bg_sense.specs.Typed.{IsTyped};
 ghost use Rattle.bg_fits.specs.Scalars.{is_over_scalars};
 ghost use Rattle.bg_cert.specs.Walks.{has};
 ghost use Rattle.bg_places.specs.Views.{placed_of, placed_in};
-ghost use Rattle.bg_term_table.specs.Instances.{instances_of};
-ghost use Rattle.bg_termed.specs.There.{AreThere};
+ghost use Rattle.bg_term_table.specs.Lines.{lines_of};
 ghost use Rattle.bg_task.specs.Prepared.{IsPrepared};
+ghost use Rattle.bg_task.specs.Lines.{AreThere};
 ghost use Rattle.bg_certtext.specs.Views.{section_of};
 ghost use Rattle.bg_certtext.specs.Spellable.{is_row};
 ghost use Rattle.bg_accept.specs.Accepted.{places_at};
@@ -18,38 +18,38 @@ ghost use Rattle.bg_accept.specs.Sections.{section_at};
 ghost use Rattle.bg_accept.specs.Tables.{number_at, section_of_number};
 ghost use Rattle.bg_accept.specs.Reading.{IsReading, IsSettledBehind, IsSettled, IsSettledBy, IsFine, IsOutcomeOf};
 
-use crate::instances::instances_in;
 use crate::kept::is_needed;
+use crate::lines::lines_in;
 use crate::numbers::Numbers;
 use crate::reading::Reading;
 use crate::section::accepts_section;
 use bg_certtext::Section;
 use bg_places::Place;
 use bg_task::{Made, Prepared, Question, cut_down, place_clauses};
-use bg_term_table::Instance;
+use bg_term_table::Line;
 use std::alloc::{AllocError, Global};
 
-/// Whether a place's clauses behind these instances accept a section.
+/// Whether a place's clauses behind these lines accept a section.
 fn shows_behind(
     alloc: Global,
     question: Question<'_, '_>,
     numbers: &Numbers,
     section: &Section,
-    instances: &[Instance],
+    lines: &[Line],
 ) -> Result<bool, AllocError>
     requires typed { IsTyped (meaning_of (program_of question.program.now)) }
     requires scalars { is_over_scalars true (meaning_of (program_of question.program.now)) ≡ true }
     requires prepared { IsPrepared (program_of question.program.now) question.place.now.implementation question.prepared.now }
     requires rows { list_all is_row (section_of section.now).table ≡ true }
-    requires there { AreThere (length question.prepared.now.terms.items) (instances_of instances.now) }
-    ensures { IfOk result (IsSettledBehind (meaning_of (program_of question.entry.program.now)) (has question.entry.set.now) (map id_of numbers.now.candidates.now) (section_of section.now) (placed_of question.entry.place.now).place (instances_of instances.now)) }
+    requires there { AreThere (program_of question.program.now) question.place.now.implementation question.prepared.now (lines_of lines.now) }
+    ensures { IfOk result (IsSettledBehind (meaning_of (program_of question.entry.program.now)) (has question.entry.set.now) (map id_of numbers.now.candidates.now) (section_of section.now) (placed_of question.entry.place.now).place (lines_of lines.now)) }
 {
     let cut = cut_down(
         alloc,
         question.program,
         question.prepared,
         question.place,
-        instances,
+        lines,
     )?;
     match place_clauses(alloc, question, &cut)? {
         Made::Outside(_) => Ok(false),
@@ -57,7 +57,7 @@ fn shows_behind(
     }
 }
 
-/// Whether a place's clauses, behind the instances that a section names, accept the section.
+/// Whether a place's clauses, behind the lines that a section has, accept the section.
 fn shows(
     alloc: Global,
     question: Question<'_, '_>,
@@ -70,10 +70,9 @@ fn shows(
     requires rows { list_all is_row (section_of section.now).table ≡ true }
     ensures { IfOk result (IsSettled (meaning_of (program_of question.entry.program.now)) (has question.entry.set.now) (map id_of numbers.now.candidates.now) (section_of section.now) (placed_of question.entry.place.now).place) }
 {
-    let terms = question.prepared.terms.len();
-    match instances_in(alloc, terms, &section.stated)? {
+    match lines_in(alloc, question.program, question.prepared, &section.stated)? {
         None => Ok(false),
-        Some(instances) => shows_behind(alloc, question, numbers, section, &instances),
+        Some(lines) => shows_behind(alloc, question, numbers, section, &lines),
     }
 }
 

@@ -7,7 +7,7 @@ use Rattle.bg_ast.specs.Meaning.{meaning_of}
 use Rattle.bg_ast.specs.Execution.{Place}
 use Rattle.bg_sense.specs.Clauses.{is_kept}
 use Rattle.bg_houdini.specs.declared.proof.Proof.{Proof}
-use Rattle.bg_term_table.specs.Instances.{instances_of}
+use Rattle.bg_term_table.specs.Lines.{lines_of}
 use Rattle.bg_places.specs.Placed.{Placed, place_in, placed_impl, placed_from}
 use Rattle.bg_rounds.specs.declared.checker.Kept.{Kept}
 use Rattle.bg_sound.specs.Told.{is_ordinary}
@@ -28,7 +28,7 @@ pub record HasIt (p : Prog) (set : ℕ → Bool) (t : Place) (z : Option ℕ) (x
   pub cert : Shown
   pub is : x ≡ Some cert
   pub kept : is_kept set z ≡ true
-  pub right : HasCertificate p set t (instances_of cert.instances) cert.cert
+  pub right : HasCertificate p set t (lines_of cert.lines) cert.cert
 
 -- the place has a verdict that it isn't proved
 pub record HasNone (whole : List Judged) (a : Placed) (x : Option Shown) : Type 0 where
@@ -53,7 +53,7 @@ AreCells p set whole (a ∷ xs) (c ∷ cs) = Cell p set whole a a.place.candidat
 -- the first that is kept is a certificate of the place, where its candidate is in the set
 abbrev KeptOn : Prog → (ℕ → Bool) → Option ℕ → Place → List (Option (Kept Proof)) → Type 0
 KeptOn p set None t ks = Unit {0}
-KeptOn p set (Some b) t ks = set b ≡ true → (c : Shown) × ((cert_kept (slice_get ks 0) ≡ Some c) × HasCertificate p set t (instances_of c.instances) c.cert)
+KeptOn p set (Some b) t ks = set b ≡ true → (c : Shown) × ((cert_kept (slice_get ks 0) ≡ Some c) × HasCertificate p set t (lines_of c.lines) c.cert)
 
 abbrev pub AreKept : Prog → (ℕ → Bool) → List (Option (Kept Proof)) → List Placed → Type 0
 AreKept p set ks [] = Unit {0}
@@ -70,7 +70,7 @@ get_behind (x ∷ xs) t = refl
 -- each task of a candidate in the set has a certificate that is kept
 abbrev pub TasksKept : Prog → (ℕ → Bool) → List (Option (Kept Proof)) → List Place → Type 0
 TasksKept p set ks tasks =
-    (t : ℕ) (task : Place) → slice_get tasks t ≡ Some task → set (number_or task.candidate) ≡ true → (c : Shown) × ((cert_kept (slice_get ks t) ≡ Some c) × HasCertificate p set task (instances_of c.instances) c.cert)
+    (t : ℕ) (task : Place) → slice_get tasks t ≡ Some task → set (number_or task.candidate) ≡ true → (c : Shown) × ((cert_kept (slice_get ks t) ≡ Some c) × HasCertificate p set task (lines_of c.lines) c.cert)
 
 pub kept_from : (p : Prog) (set : ℕ → Bool) (xs : List Placed) (ks : List (Option (Kept Proof))) → TasksKept p set ks (filter has_candidate (map place_in xs)) → AreKept p set ks xs
 kept_from p set [] ks h = tt
@@ -108,8 +108,8 @@ module _ (budget : Budget) (p : Prog) (set : ℕ → Bool) (whole : List Judged)
 
   judged_cell : (a : Placed) (j : Judged) (v : Verdict) → j.verdict ≡ v → placed_at j ≡ a → IsRight budget p set (placed_at j).place v → Contains whole j → Cell p set whole a None (cert_proved v)
   judged_cell a j (Proved es c) e f g w =
-      let x : Shown = record { instances = es.items; cert = c } in
-      inr (inl (record { cert = x; is = refl; kept = refl; right = subst (λ (x : Placed). HasCertificate p set x.place (instances_of es.items) c) f g }))
+      let x : Shown = record { lines = es.items; cert = c } in
+      inr (inl (record { cert = x; is = refl; kept = refl; right = subst (λ (x : Placed). HasCertificate p set x.place (lines_of es.items) c) f g }))
   judged_cell a j (Refuted cex) e f g w =
       inr (inr (record { none = refl; verdict = j; one = w; its = f; unproved = ap is_proved e }))
   judged_cell a j (Unknown rounds cause) e f g w =

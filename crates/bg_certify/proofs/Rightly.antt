@@ -1,25 +1,27 @@
 -- What is written of a true outcome.
 use Rattle.std.proofs.Common.{◌≡◌, ℕ, zero, suc, ◌+◌, ◌<◌, Bool, true, false, List, [], ◌∷◌, length, map, Option, Some, None, refl, sym, ap, ◌∙◌, subst, inl, inr, arith}
-use Rattle.std.specs.Prelude.{◌⊎◌, slice_get, filter}
+use Rattle.std.specs.Prelude.{◌⊎◌, if◌then◌else◌, slice_get, filter}
 use Rattle.std.proofs.lemmas.List.{length-map}
-use Rattle.std.proofs.lemmas.Bool.{lt-ltb}
 use Rattle.std.proofs.lemmas.Option.{slice_get_within}
 use Rattle.bg_ast.specs.Resolved as r
 use Rattle.bg_ast.specs.Meaning.{meaning_of}
 use Rattle.bg_ast.specs.Execution.{Place}
 use Rattle.bg_sense.specs.Places.{places}
+use Rattle.bg_sense.proofs.Bools.{and_left, and_right}
 use Rattle.bg_words.specs.Sets.{Numbers, has, IsSubset}
 use Rattle.bg_formula.specs.Formulas.{Formula}
 use Rattle.bg_cert.specs.declared.cert.Cert.{Cert}
 use Rattle.bg_cert.specs.Certs.{CertOf, Accepts, cert_of, uses}
 use Rattle.bg_cert.specs.Walks.{no_instance}
 use Rattle.bg_places.specs.Placed.{Placed, place_in, placed, placed_impl}
-use Rattle.bg_term_table.specs.declared.instance.Instance as code
-use Rattle.bg_term_table.specs.declared.instance.Instance.TheVariants as kind
-use Rattle.bg_terms.specs.Instances.{Instance}
-use Rattle.bg_term_table.specs.Instances.{instances_of}
+use Rattle.bg_ast.specs.Values.{Ty}
+use Rattle.bg_block_types.specs.Typed.{incarnations_in}
+use Rattle.bg_terms.specs.Terms.{Term}
+use Rattle.bg_numbered.specs.Lines.{Line, is_there, are_there, after_line}
+use Rattle.bg_term_table.specs.declared.line.Line as code
+use Rattle.bg_term_table.specs.declared.line.Line.TheVariants as kind
+use Rattle.bg_term_table.specs.Lines.{line_of, lines_of}
 use Rattle.bg_termed.specs.Termed.{terms_in}
-use Rattle.bg_termed.specs.There.{AreThere}
 use Rattle.bg_task.specs.Certified.{HasCertificate}
 use Rattle.bg_task.proofs.Numbered.{OfNumber, number_impl}
 use Rattle.bg_tree.specs.declared.outcome.Budget.{Budget}
@@ -31,10 +33,10 @@ use Rattle.bg_meant.specs.Once.{AreOnce}
 use Rattle.bg_certtext.specs.Views as text
 use Rattle.bg_accept.specs.Names.{marks, unplaced}
 use Rattle.bg_accept.specs.Sections.{section_at, extra_behind}
-use Rattle.bg_accept.specs.Instances.{instances_in}
+use Rattle.bg_accept.specs.Lines.{then_, line_said, if_there, lines_in}
 use Rattle.bg_accept.specs.Accepted.{retained_by, places_of, places_at, is_needed, is_required, IsShown, IsRequired}
 use Rattle.bg_certify.specs.Names.{text_in, names_in}
-use Rattle.bg_certify.specs.Spelled.{spelled_instance, spelled, rows}
+use Rattle.bg_certify.specs.Spelled.{spelled_line, spelled, rows}
 use Rattle.bg_certify.specs.Found.{Shown, shown_of, cert_kept, certs_from}
 use Rattle.bg_certify.specs.Written.{IsUnproved, HasSections}
 use Rattle.bg_certify.proofs.Retained.{marks_are, all_placed}
@@ -82,10 +84,25 @@ inside [] b e = absurd (let f : false ≡ true = e in cc)
 inside (x ∷ bs) zero e = omega arith
 inside (x ∷ bs) (suc b) e = let h : b < length bs = inside bs b e in omega arith
 
--- the lines of instances of terms that are there name these
-said_back : (n : ℕ) (es : List code.Instance) → AreThere n (instances_of es) → instances_in n (map spelled_instance es) ≡ Some (instances_of es)
-said_back n [] h = refl
-said_back n (kind.Congruent a b ∷ es) h = rw (lt-ltb a n h.0.0, lt-ltb b n h.0.1, said_back n es h.1) refl
+-- what a line says as the text has it
+line_back : (l : code.Line) → line_said (spelled_line l) ≡ Some (line_of l)
+line_back (kind.Pick m a) = refl
+line_back (kind.Names m o) = refl
+line_back (kind.Congruent a b) = refl
+line_back (kind.AtIndex u s) = refl
+line_back (kind.Elsewhere u s r) = refl
+line_back (kind.Apart s r) = refl
+
+-- lines that name what is there are read back
+said_back : (incs : List Ty) (ts : List Term) (ls : List code.Line) → are_there incs ts (lines_of ls) ≡ true → lines_in incs ts (map spelled_line ls) ≡ Some (lines_of ls)
+said_back incs ts [] h = refl
+said_back incs ts (l ∷ ls) h =
+    let next = after_line incs ts (line_of l) in
+    let here = and_left (is_there incs ts (line_of l)) (are_there incs next (lines_of ls)) h in
+    let rest = said_back incs next ls (and_right (is_there incs ts (line_of l)) (are_there incs next (lines_of ls)) h) in
+    let behind : Line → Option (List Line) = λ m. then_ (lines_in incs (after_line incs ts m) (map spelled_line ls)) (λ xs. Some (m ∷ xs)) in
+    ap (λ o. then_ (then_ o (if_there incs ts)) behind) (line_back l)
+    ∙ (ap (λ b. then_ (if b then Some (line_of l) else None) behind) here ∙ ap (λ o. then_ o (λ xs. Some (line_of l ∷ xs))) rest)
 
 -- the certificates that an outcome has for the places of a program
 abbrev pub certs_of : r.Program → Outcome → List (List (Option Shown))
@@ -94,7 +111,7 @@ certs_of p o = certs_from p.procedures (has o.inferred.retained) o.inferred.kept
 module _ (placed_law : PlacedLaw) (inside_law : InsideLaw) (above_law : AboveLaw) (budget : Budget) (p : r.Program) (o : Outcome) (true_of : IsTrueOutcome budget p o) where
   -- ---- what is kept for tasks
 
-  under : (used : Numbers) (t : Place) (es : List Instance) (c : Cert) → IsSubset used o.inferred.retained → HasCertificate (meaning_of p) (has used) t es c → HasCertificate (meaning_of p) (has o.inferred.retained) t es c
+  under : (used : Numbers) (t : Place) (es : List Line) (c : Cert) → IsSubset used o.inferred.retained → HasCertificate (meaning_of p) (has used) t es c → HasCertificate (meaning_of p) (has o.inferred.retained) t es c
   under used t es c sub h =
       record {
         formula = h.formula;
@@ -114,7 +131,7 @@ module _ (placed_law : PlacedLaw) (inside_law : InsideLaw) (above_law : AboveLaw
       let same : Some shown.task ≡ Some task = sym shown.is_there ∙ e in
       let is_task : shown.task ≡ task = cc in (
         shown_of w.0.proof,
-        (ap cert_kept w.1, under w.0.used task (instances_of w.0.proof.instances.items) w.0.proof.cert w.3 (subst (λ (x : Place). HasCertificate (meaning_of p) (has w.0.used) x (instances_of w.0.proof.instances.items) w.0.proof.cert) is_task shown.so)),
+        (ap cert_kept w.1, under w.0.used task (lines_of w.0.proof.lines.items) w.0.proof.cert w.3 (subst (λ (x : Place). HasCertificate (meaning_of p) (has w.0.used) x (lines_of w.0.proof.lines.items) w.0.proof.cert) is_task shown.so)),
       )
 
   kept : AreKept (meaning_of p) (has o.inferred.retained) o.inferred.kept.items (placed p)
@@ -159,13 +176,13 @@ module _ (placed_law : PlacedLaw) (inside_law : InsideLaw) (above_law : AboveLaw
           is_its =
               ap (λ (n : ℕ). section_at n i (rows p.candidates 0 (certs_of p o))) number
               ∙ (sec ∙ ap (λ (y : Option Shown). spelled_if p.candidates k i y) h.is);
-          instances = instances_of h.cert.instances;
+          lines = lines_of h.cert.lines;
           names_them = record {
             implementation = h.right.is.clauses.implementation;
             procedure = h.right.is.clauses.procedure;
             is_there = h.right.is.clauses.is_there;
             is_its = h.right.is.clauses.is_its;
-            named = said_back (length (terms_in (meaning_of p) a.place.implementation h.right.is.clauses.implementation h.right.is.clauses.procedure)) h.cert.instances h.right.there;
+            named = said_back (incarnations_in (meaning_of p) a.place.implementation h.right.is.clauses.implementation h.right.is.clauses.procedure) (terms_in (meaning_of p) a.place.implementation h.right.is.clauses.implementation h.right.is.clauses.procedure) h.cert.lines h.right.there;
           };
           formula = h.right.formula;
           is = h.right.is;

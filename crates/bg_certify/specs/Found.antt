@@ -2,7 +2,7 @@
 use Rattle.std.specs.Prelude.{ℕ, suc, Bool, List, [], ◌∷◌, Option, Some, None, drop, slice_get, if◌then◌else◌}
 use Rattle.bg_ast.specs.Resolved as r
 use Rattle.bg_cert.specs.declared.cert.Cert.{Cert}
-use Rattle.bg_term_table.specs.declared.instance.Instance.{Instance}
+use Rattle.bg_term_table.specs.declared.line.Line.{Line}
 use Rattle.bg_houdini.specs.declared.proof.Proof.{Proof}
 use Rattle.bg_places.specs.Placed.{Placed, placed_impl}
 use Rattle.bg_rounds.specs.declared.checker.Kept.{Kept}
@@ -10,13 +10,13 @@ use Rattle.bg_check.specs.declared.verdict.Verdict.{Verdict}
 use Rattle.bg_check.specs.declared.verdict.Verdict.TheVariants.{Proved, Refuted, Unknown}
 use Rattle.bg_check.specs.declared.verdict.Judged.{Judged}
 
--- a certificate of a place's clauses behind instances
+-- a certificate of a place's clauses behind lines
 pub record Shown : Type 0 where
-  pub instances : List Instance
+  pub lines : List Line
   pub cert : Cert
 
 abbrev pub shown_of : Proof → Shown
-shown_of p = record { instances = p.instances.items; cert = p.cert }
+shown_of p = record { lines = p.lines.items; cert = p.cert }
 
 abbrev pub cert_kept : Option (Option (Kept Proof)) → Option Shown
 cert_kept None = None
@@ -24,7 +24,7 @@ cert_kept (Some None) = None
 cert_kept (Some (Some k)) = Some (shown_of k.proof)
 
 abbrev pub cert_proved : Verdict → Option Shown
-cert_proved (Proved es c) = Some (record { instances = es.items; cert = c })
+cert_proved (Proved ls c) = Some (record { lines = ls.items; cert = c })
 cert_proved (Refuted cex) = None
 cert_proved (Unknown rounds cause) = None
 

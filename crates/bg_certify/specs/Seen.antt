@@ -3,4 +3,4 @@ use Rattle.bg_certify.specs.declared.found.Found.{Found}
 use Rattle.bg_certify.specs.Found.{Shown}
 
 abbrev pub seen_as : Found → Shown
-seen_as f = record { instances = f.instances.now; cert = f.cert.now }
+seen_as f = record { lines = f.lines.now; cert = f.cert.now }

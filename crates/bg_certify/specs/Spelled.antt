@@ -5,8 +5,8 @@ use Rattle.bg_rows.specs.declared.entry.Entry.{Entry}
 use Rattle.bg_formula.specs.declared.atom.Linear.{Linear}
 use Rattle.bg_cert.specs.declared.cert.Node.{Node}
 use Rattle.bg_cert.specs.declared.cert.Node.TheVariants.{Split, Bound, Cut, Lemma, Clause, Unit, Known, Rows}
-use Rattle.bg_term_table.specs.declared.instance.Instance.{Instance}
-use Rattle.bg_term_table.specs.declared.instance.Instance.TheVariants as kind
+use Rattle.bg_term_table.specs.declared.line.Line.{Line}
+use Rattle.bg_term_table.specs.declared.line.Line.TheVariants as kind
 use Rattle.bg_certtext.specs.declared.text.Stated.{Stated}
 use Rattle.bg_certtext.specs.declared.text.Stated.TheVariants as said
 use Rattle.bg_certtext.specs.declared.text.Term.{Term}
@@ -32,9 +32,14 @@ spelled_node names (Unit c) = IsUnit (name_at names c)
 spelled_node names (Known i) = IsKnown i
 spelled_node names (Rows steps) = Derives steps.items
 
--- the line of an instance
-abbrev pub spelled_instance : Instance → Stated
-spelled_instance (kind.Congruent a b) = said.Congruent a b
+-- a line as the text has it
+abbrev pub spelled_line : Line → Stated
+spelled_line (kind.Pick m a) = said.Pick m a
+spelled_line (kind.Names m o) = said.Names m o
+spelled_line (kind.Congruent a b) = said.Congruent a b
+spelled_line (kind.AtIndex u s) = said.AtIndex u s
+spelled_line (kind.Elsewhere u s r) = said.Elsewhere u s r
+spelled_line (kind.Apart s r) = said.Apart s r
 
 -- the section of place i of implementation k
 abbrev pub spelled : List Id → ℕ → ℕ → Shown → SectionOf
@@ -42,7 +47,7 @@ spelled names k i x =
     record {
       implementation = k;
       place = i;
-      stated = map spelled_instance x.instances;
+      stated = map spelled_line x.lines;
       table = map spelled_row x.cert.table.items;
       nodes = map (spelled_node names) x.cert.nodes.items;
     }

@@ -11,12 +11,12 @@ use bg_cert::Cert;
 use bg_check::{Judged, Verdict};
 use bg_houdini::{Outcome, Proof, Reason};
 use bg_rounds::Kept;
-use bg_term_table::Instance;
+use bg_term_table::Line;
 
-/// A certificate of a place's clauses behind instances.
+/// A certificate of a place's clauses behind lines.
 #[derive(Clone, Copy)]
 pub(crate) struct Found<'o> {
-    pub(crate) instances: &'o [Instance],
+    pub(crate) lines: &'o [Line],
     pub(crate) cert: &'o Cert,
 }
 
@@ -33,7 +33,7 @@ fn kept_cert<'o>(
     }
     match inferred.kept.get(task) {
         Some(Some(kept)) => Some(Found {
-            instances: kept.proof.instances.as_slice(),
+            lines: kept.proof.lines.as_slice(),
             cert: &kept.proof.cert,
         }),
         _ => None,
@@ -46,8 +46,8 @@ fn proved_cert<'o>(judged: &'o [Judged], ordinary: usize) -> Option<Found<'o>>
 {
     match judged.get(ordinary) {
         Some(one) => match &one.verdict {
-            Verdict::Proved(instances, cert) => Some(Found {
-                instances: instances.as_slice(),
+            Verdict::Proved(lines, cert) => Some(Found {
+                lines: lines.as_slice(),
                 cert,
             }),
             _ => None,

@@ -2,14 +2,14 @@
 ghost use Rattle.std.specs.Prelude.{◌≡◌, map, IfOk};
 ghost use Rattle.bg_text.specs.Views.{id_of};
 ghost use Rattle.bg_certtext.specs.Views.{row_of, node_of};
-ghost use Rattle.bg_certify.specs.Spelled.{spelled_instance, spelled_term, spelled_row, spelled_node};
+ghost use Rattle.bg_certify.specs.Spelled.{spelled_line, spelled_term, spelled_row, spelled_node};
 
 use crate::names::name_at;
 use bg_cert::Node;
 use bg_certtext::{Stated, Term, TextNode, TextRow};
 use bg_formula::Linear;
 use bg_rows::Entry;
-use bg_term_table::Instance;
+use bg_term_table::Line;
 use bg_text::Name;
 use std::alloc::{AllocError, Global};
 
@@ -44,24 +44,28 @@ pub(crate) fn text_nodes<'p>(
     Ok(made)
 }
 
-fn text_instance(instance: Instance) -> Stated
-    ensures { result ≡ spelled_instance instance }
+fn text_line(line: Line) -> Stated
+    ensures { result ≡ spelled_line line }
 {
-    match instance {
-        Instance::Congruent(a, b) => Stated::Congruent(u128::from(a), u128::from(b)),
+    match line {
+        Line::Pick(m, a) => Stated::Pick(u128::from(m), u128::from(a)),
+        Line::Names(m, o) => Stated::Names(u128::from(m), u128::from(o)),
+        Line::Congruent(a, b) => Stated::Congruent(u128::from(a), u128::from(b)),
+        Line::AtIndex(u, s) => Stated::AtIndex(u128::from(u), u128::from(s)),
+        Line::Elsewhere(u, s, r) => {
+            Stated::Elsewhere(u128::from(u), u128::from(s), u128::from(r))
+        }
+        Line::Apart(s, r) => Stated::Apart(u128::from(s), u128::from(r)),
     }
 }
 
-/// The lines of instances.
-pub(crate) fn text_instances(
-    alloc: Global,
-    instances: &[Instance],
-) -> Result<Vec<Stated>, AllocError>
-    ensures { IfOk result (λ made. made.items ≡ map spelled_instance instances.now) }
+/// The lines of terms and instances.
+pub(crate) fn text_lines(alloc: Global, lines: &[Line]) -> Result<Vec<Stated>, AllocError>
+    ensures { IfOk result (λ made. made.items ≡ map spelled_line lines.now) }
 {
     let mut made = Vec::new(alloc);
-    for instance in instances {
-        made.push(text_instance(*instance))?;
+    for line in lines {
+        made.push(text_line(*line))?;
     }
     Ok(made)
 }

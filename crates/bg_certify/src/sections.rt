@@ -13,7 +13,7 @@ ghost use Rattle.bg_certify.specs.Found.{certs_for, kept_after, certs_from};
 ghost use Rattle.bg_certify.specs.Seen.{seen_as};
 
 use crate::found::{Found, found_for, next_ordinary, next_task};
-use crate::nodes::{text_instances, text_nodes, text_table};
+use crate::nodes::{text_lines, text_nodes, text_table};
 use bg_ast::resolved::Resolved;
 use bg_certtext::Section;
 use bg_houdini::Outcome;
@@ -34,7 +34,7 @@ fn section<'p>(
     Ok(Section {
         implementation: k as u128,
         place: i as u128,
-        stated: text_instances(alloc, found.instances)?,
+        stated: text_lines(alloc, found.lines)?,
         table: text_table(alloc, found.cert.table.as_slice())?,
         nodes: text_nodes(alloc, names, found.cert.nodes.as_slice())?,
     })

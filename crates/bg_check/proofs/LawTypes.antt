@@ -46,12 +46,17 @@ use Rattle.bg_faithful.specs.Checks.{BlocksPlaced}
 use Rattle.bg_faithful.specs.Encoded.{Encoding, Encodes}
 use Rattle.bg_terms.specs.Terms.{Term, IsModel, over}
 use Rattle.bg_terms.specs.Alike.{StandFor, HasFlatType, is_scalar, scalar_ty}
+use Rattle.bg_terms.specs.Closed.{IsFinished}
+use Rattle.bg_terms.specs.Instances as terms
+use Rattle.bg_terms.specs.Instances.{instance_ex}
 use Rattle.bg_terms.specs.Flat.{HaveNoBodies, IsFlat}
 use Rattle.bg_terms.specs.Tables.{IsReadOff}
 use Rattle.bg_flatten.specs.Flattens.{AreFlattened}
+use Rattle.bg_numbered.specs.Lines.{Line, are_there}
 use Rattle.bg_flat.specs.Mapless.{are_mapless}
 use Rattle.bg_read_off.specs.Leaves.{AreApplications, AreCongruent, silent}
 use Rattle.bg_termed.specs.Built.{built_in}
+use Rattle.bg_termed.specs.Lined.{lined_terms}
 use Rattle.bg_termed.specs.Termed.{IsTabled, count_in, terms_in, flats_in, types_in, sorts_in}
 use Rattle.bg_places.specs.Placed.{placed, place_in}
 use Rattle.bg_fits.specs.Scalars.{is_over_scalars}
@@ -71,6 +76,27 @@ SafeLaw =
 
 abbrev pub PlaceLaw : Type 0
 PlaceLaw = (p : r.Program) → map place_in (placed p) ≡ places (meaning_of p)
+
+-- lines that name what is there bring no terms
+abbrev pub BareLaw : Type 0
+BareLaw =
+    (p : Prog) (k : ℕ) (m : Impl) (q : Proc) → IsTyped p → is_over_scalars true p ≡ true → slice_get p.implementations k ≡ Some m →
+    procedure_of p m.procedure ≡ Some q → (ls : List Line) → are_there (incarnations_in p k m q) (terms_in p k m q) ls ≡ true →
+    lined_terms p k m q ls ≡ terms_in p k m q
+
+-- instances say the same of scalars and of what is built for them
+abbrev pub SaidLaw : Type 0
+SaidLaw =
+    (p : Prog) (k : ℕ) (m : Impl) (q : Proc) → IsTyped p → is_over_scalars true p ≡ true → slice_get p.implementations k ≡ Some m →
+    procedure_of p m.procedure ≡ Some q → (s : List Val) → are_of (map scalar_ty (types_in p k m q)) s ≡ true → (e : terms.Instance) →
+    ev (instance_ex (count_in p k m q) (terms_in p k m q) e) (over s) ≡ ev (instance_ex (count_in p k m q) (terms_in p k m q) e) (over (built_in p k m q s))
+
+-- the leaf of scalars is finished where no congruence is false of what is built for them
+abbrev pub FinishedLaw : Type 0
+FinishedLaw =
+    (p : Prog) (k : ℕ) (m : Impl) (q : Proc) → IsTyped p → is_over_scalars true p ≡ true → slice_get p.implementations k ≡ Some m →
+    procedure_of p m.procedure ≡ Some q → (s : List Val) → are_of (map scalar_ty (types_in p k m q)) s ≡ true →
+    AreCongruent (built_in p k m q s) (count_in p k m q) (terms_in p k m q) → IsFinished s (count_in p k m q) (terms_in p k m q) (types_in p k m q)
 
 abbrev pub WholeLaw : Type 0
 WholeLaw =

@@ -7,6 +7,9 @@ pub mod Alike
 pub mod Worths
 pub mod Saying
 pub mod Firsts
+pub mod Lining
+pub mod Wanted
+pub mod Fronting
 pub mod Refutes
 pub mod Placing
 pub mod Standing

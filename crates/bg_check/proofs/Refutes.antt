@@ -24,6 +24,7 @@ use Rattle.bg_passive.specs.Passive.{Walked}
 use Rattle.bg_passive.specs.Incarnations.{passives, MakesPassive, first_state, passive_scope}
 use Rattle.bg_passive.specs.Equations.{is_well}
 use Rattle.bg_block_types.specs.Typed.{blocks_in, arrivals_in, incarnations_in, passives_in}
+use Rattle.bg_incarnate.specs.Walked.{next_in}
 use Rattle.bg_formula.specs.Atoms.{IsTruth, at}
 use Rattle.bg_formula.specs.Formulas.{Formula, is_whole}
 use Rattle.bg_formula.specs.Meaning.{Valuation, AtomsAgree, clauses_true}
@@ -46,7 +47,8 @@ use Rattle.bg_fits.specs.Scalars.{is_over_scalars}
 use Rattle.bg_linear.specs.declared.scalar.Sort.{Sort}
 use Rattle.bg_atoms.specs.Ranks.{rank}
 use Rattle.bg_faithful.specs.Checks.{BlocksPlaced}
-use Rattle.bg_faithful.specs.Encoded.{Encoding}
+use Rattle.bg_faithful.specs.Encoded.{Encoding, Encodes}
+use Rattle.bg_numbered.specs.Lines.{Line, instances_in}
 use Rattle.bg_terms.specs.Terms.{Term, IsModel, over}
 use Rattle.bg_terms.specs.Alike.{StandFor, scalar_ty}
 use Rattle.bg_terms.specs.Instances.{Instance, instance_ex}
@@ -54,8 +56,8 @@ use Rattle.bg_flat.specs.Blocks.{IsFlatTruth, in_front}
 use Rattle.bg_flat.specs.Fronts.{stated}
 use Rattle.bg_flatten.specs.Flattens.{AreFlattened}
 use Rattle.bg_finish.specs.Finished.{AreReadOff}
-use Rattle.bg_termed.specs.Termed.{IsTabled, count_in, terms_in, flats_in, types_in, sorts_in, behind_in}
-use Rattle.bg_termed.specs.Clauses.{IsEncoding}
+use Rattle.bg_termed.specs.Termed.{IsTabled, count_in, terms_in, flats_in, types_in, sorts_in}
+use Rattle.bg_termed.specs.Lined.{lined_terms}
 use Rattle.bg_scalar.specs.Views as view
 use Rattle.bg_scalar.specs.Views.{tables_in}
 use Rattle.bg_scalar.specs.Choices.{choice_of, state_of}
@@ -72,14 +74,16 @@ use Rattle.bg_task.specs.Prepared.{IsPrepared}
 use Rattle.bg_task.specs.Slices.{IsSliceFor, encoding_in}
 use Rattle.bg_task.specs.Made.{ClausesOf}
 use Rattle.bg_task.specs.Asked.{IsAsked}
+use Rattle.bg_task.specs.Lines.{AreThere}
 use Rattle.bg_check.specs.Verdicts.{IsFailure}
-use Rattle.bg_check.proofs.LawTypes.{WholeLaw, StandInLaw, FirstLaw, StartLaw, MeetLaw, HoldLaw, TermLaw, FlatLaw, AlikeLaw, StandLaw, ModelLaw, DeniedLaw, WithinLaw, RowsLaw, LeafLaw, UnitLaw, SignLaw, SpotLaw, CheckLaw}
+use Rattle.bg_check.proofs.LawTypes.{WholeLaw, StandInLaw, FirstLaw, StartLaw, MeetLaw, HoldLaw, TermLaw, FlatLaw, AlikeLaw, StandLaw, ModelLaw, BareLaw, FinishedLaw, DeniedLaw, WithinLaw, RowsLaw, LeafLaw, UnitLaw, SignLaw, SpotLaw, CheckLaw}
 use Rattle.bg_task.proofs.LawTypes.{BodyLaw, FitLaw, UnitAtomLaw, NamedUnitLaw, TabledLaw, MaplessLaw}
 use Rattle.bg_task.proofs.Formulas.{IsPlainFormula, plain_formula, plain_agree, own_number, unit_met}
 use Rattle.bg_check.proofs.Alike.{blocks_kept, blocks_fewer}
 use Rattle.bg_check.specs.LeafRuns.{leaf_bools, leaf_vals, vals_in, incarnation_vals, HasLeaf, targets_for}
 use Rattle.bg_check.proofs.Worths.{leaf_valuation, truths_agree, worths_are}
 use Rattle.bg_check.proofs.Firsts.{first_at}
+use Rattle.bg_check.proofs.Lining.{encodes_bare, own_vals, finished_lined, read_off_lined}
 use Rattle.bg_check.proofs.Saying.{said_alike, denied_behind, none_behind, below_behind}
 use Rattle.bg_task.proofs.Prepares.{impl, proc, impl_at, proc_at, frame_long, blocks_are, firsts_are, clauses_here}
 
@@ -114,6 +118,8 @@ pub record LeafLaws : Type 0 where
   pub alike : AlikeLaw
   pub stands : StandLaw
   pub models : ModelLaw
+  pub bare : BareLaw
+  pub finished : FinishedLaw
 
 module _ (laws : LeafLaws) (p : r.Program) (n : ℕ) (w : Prepared) (h : IsPrepared p n w) (t : IsTyped (meaning_of p)) (o : is_over_scalars true (meaning_of p) ≡ true) where
   abbrev P : s.Prog
@@ -146,12 +152,19 @@ module _ (laws : LeafLaws) (p : r.Program) (n : ℕ) (w : Prepared) (h : IsPrepa
   flattened : AreFlattened P.functions (incarnations_in P n M Q) (passives_in P n M Q) TS (flats_in P n M Q)
   flattened = laws.terms P n M Q tabled_here im pr (laws.mapless P n M Q t o im pr)
 
-  module _ (es : List Instance) (spot : Spot) (candidate : Option ℕ) (cuts : Cut) (cut : IsSliceFor p n w es spot cuts) (f : Formula) (set : List Bool) (leaf : Leaf) (made : ClausesOf cuts (record { implementation = n; spot = spot; candidate = candidate }) f) (is_leaf : IsLeaf (targets_for P n M Q) f (has set) leaf) (asked : IsAsked P (has set) (record { implementation = n; spot = spot; candidate = candidate })) where
+  module _ (es : List Line) (there : AreThere p n w es) (spot : Spot) (candidate : Option ℕ) (cuts : Cut) (cut : IsSliceFor p n w es spot cuts) (f : Formula) (set : List Bool) (leaf : Leaf) (made : ClausesOf cuts (record { implementation = n; spot = spot; candidate = candidate }) f) (is_leaf : IsLeaf (targets_for P n M Q) f (has set) leaf) (asked : IsAsked P (has set) (record { implementation = n; spot = spot; candidate = candidate })) where
     abbrev A : Encoding
     A = encoding_in cuts
 
-    encoding : IsEncoding P n M Q es A
-    encoding = cut.encoding h
+    abbrev E : List Instance
+    E = instances_in es
+
+    -- the lines bring no terms
+    bare : lined_terms P n M Q es ≡ TS
+    bare = laws.bare P n M Q t o im pr es (there h)
+
+    encoding : Encodes S P.candidates (in_front (stated N TS E) (flats_in P n M Q)) A
+    encoding = encodes_bare P n M Q es bare A (cut.encoding h)
 
     plain : IsPlainFormula A.first A.rows f
     plain = plain_formula A.first A.terms A.named A.rows spot A.blocks f made
@@ -169,7 +182,7 @@ module _ (laws : LeafLaws) (p : r.Program) (n : ℕ) (w : Prepared) (h : IsPrepa
     T = bools_at (leaf_bools f leaf)
 
     is_whole_here : is_whole f ≡ true
-    is_whole_here = laws.whole S P.candidates (behind_in P n M Q es) A spot f encoding made
+    is_whole_here = laws.whole S P.candidates (in_front (stated N TS E) (flats_in P n M Q)) A spot f encoding made
 
     is_met : clauses_true V f.atoms f.clauses ≡ true
     is_met =
@@ -196,10 +209,10 @@ module _ (laws : LeafLaws) (p : r.Program) (n : ℕ) (w : Prepared) (h : IsPrepa
     Z = leaf_vals f leaf S
 
     abbrev X : List Val
-    X = vals_in P n M Q f leaf
+    X = vals_in P n M Q [] f leaf
 
     abbrev Y : List Val
-    Y = incarnation_vals P n M Q f leaf
+    Y = incarnation_vals P n M Q [] f leaf
 
     stand_ins : are_of (map scalar_ty (types_in P n M Q)) Z ≡ true
     stand_ins = laws.stand_ins P n M Q (value_of leaf.spots.items) (λ j. T (rank S j))
@@ -228,23 +241,23 @@ module _ (laws : LeafLaws) (p : r.Program) (n : ℕ) (w : Prepared) (h : IsPrepa
         }
 
     -- the forms say what the flat blocks say over what stands for the values
-    said_flat : SaidBlocks T (over Z) (in_front (stated N TS es) (flats_in P n M Q)) A.blocks
+    said_flat : SaidBlocks T (over Z) (in_front (stated N TS E) (flats_in P n M Q)) A.blocks
     said_flat =
         let r = laws.rows A.first A.terms A.named A.rows spot A.blocks f made encoding.below V encoding.rows in
         let agrees = subst (λ (u : ℕ → Bool). RowsAgree (value_of leaf.spots.items) u A.first A.rows) worths r in
         encoding.said (value_of leaf.spots.items) T (over Z) agrees (laws.holds S (value_of leaf.spots.items) (λ j. T (rank S j)))
 
     abbrev B : List FormBlock
-    B = behind_front (length es) A.blocks
+    B = behind_front (length E) A.blocks
 
     -- as many stand in front as there are instances
-    many : length (stated N TS es) ≡ length es
-    many = length-map es (instance_ex N TS)
+    many : length (stated N TS E) ≡ length E
+    many = length-map E (instance_ex N TS)
 
     none_refused : refused spot B ≡ None
     none_refused =
         subst (λ j. refused spot (behind_front j A.blocks) ≡ None) many
-        (none_behind spot T (over Z) (stated N TS es) (flats_in P n M Q) A.blocks said_flat (laws.within A.first A.terms A.named A.rows spot A.blocks f made))
+        (none_behind spot T (over Z) (stated N TS E) (flats_in P n M Q) A.blocks said_flat (laws.within A.first A.terms A.named A.rows spot A.blocks f made))
 
     -- ---- under an interpretation that is read off
 
@@ -258,7 +271,7 @@ module _ (laws : LeafLaws) (p : r.Program) (n : ℕ) (w : Prepared) (h : IsPrepa
 
       said : SaidBlocks T (passive_scope P i Y) (passives (arrivals_in P n M Q).arrivals (map (block_of p) w.blocks.items)) B
       said =
-          let all = said_alike (types_in P n M Q) N TS T (passive_scope P i Y) (over Z) same (stated N TS es) (passives_in P n M Q) (flats_in P n M Q) A.blocks flattened.blocks said_flat in
+          let all = said_alike (types_in P n M Q) N TS T (passive_scope P i Y) (over Z) same (stated N TS E) (passives_in P n M Q) (flats_in P n M Q) A.blocks flattened.blocks said_flat in
           let x = subst (λ j. SaidBlocks T (passive_scope P i Y) (passives_in P n M Q) (behind_front j A.blocks)) many all in
           subst (λ bs. SaidBlocks T (passive_scope P i Y) (passives (arrivals_in P n M Q).arrivals bs) B) (sym (blocks_are p n w h)) x
 
@@ -268,8 +281,8 @@ module _ (laws : LeafLaws) (p : r.Program) (n : ℕ) (w : Prepared) (h : IsPrepa
           let d = laws.denies A.first A.terms A.named A.rows spot A.blocks f made encoding.below V is_met in
           let e = subst (λ (u : ℕ → Bool). is_well (slice_get (form_equations (there_in f.candidates V.truths) spot u A.blocks) 0) ≡ false) worths d in
           let g = subst (λ j. is_well (slice_get (form_equations (there_in f.candidates V.truths) spot T (behind_front j A.blocks)) 0) ≡ false) many
-          (denied_behind (there_in f.candidates V.truths) spot T (over Z) (stated N TS es) (flats_in P n M Q) A.blocks said_flat e) in
-          let below = below_behind (A.first + length A.rows) (bools_at A.named) (length es) A.blocks encoding.below in
+          (denied_behind (there_in f.candidates V.truths) spot T (over Z) (stated N TS E) (flats_in P n M Q) A.blocks said_flat e) in
+          let below = below_behind (A.first + length A.rows) (bools_at A.named) (length E) A.blocks encoding.below in
           let placed = subst (λ bs. BlocksPlaced P (passives (arrivals_in P n M Q).arrivals bs)) (sym (blocks_are p n w h)) (laws.checks P n M Q o im pr) in
           let there = blocks_kept P (set_of set) spot T (passive_scope P i Y) kept (passives (arrivals_in P n M Q).arrivals (map (block_of p) w.blocks.items)) B said placed in
           ap not (blocks_fewer (A.first + length A.rows) (bools_at A.named) (set_of set) (there_in f.candidates V.truths) members spot T B below there 0 g)
@@ -304,15 +317,18 @@ module _ (laws : LeafLaws) (p : r.Program) (n : ℕ) (w : Prepared) (h : IsPrepa
           is = clauses_here p n w h es spot candidate cuts f cut made;
           leaf = leaf;
           is_leaf = is_leaf;
-          read_off = off;
+          finished = finished_lined P n M Q es bare f leaf (laws.finished P n M Q t o im pr Z stand_ins off.congruent);
+          read_off = read_off_lined P n M Q es bare f leaf (interp_of cex).tables off;
           run =
               record {
-                state = sym (c.starts n M Q (first_state P (frame_decls M Q) Y) a.made a.arrivals set_up);
+                state =
+                    subst (λ y. state_of (view.vals_in cex.globals.items) (view.vals_in cex.frame.items) ≡ first_state P (frame_decls M Q) y) (own_vals P n M Q es bare f leaf) (sym (c.starts n M Q (first_state P (frame_decls M Q) Y) a.made a.arrivals set_up));
                 choices =
-                    c.choices
+                    subst (λ y. map choice_of cex.choices.items ≡ taken (W (has set)) y (blocks_in P n M Q) B (map next_in (arrivals_in P n M Q).arrivals) (turns (W (has set)) B) 0) (own_vals P n M Q es bare f leaf)
+                    (c.choices
                     ∙ ap (λ x. taken (W x) Y (map (block_of p) w.blocks.items) B w.firsts.items (turns (W x) B) 0) (set_same set)
                     ∙ ap (λ bs. taken (W (has set)) Y bs B w.firsts.items (turns (W (has set)) B) 0) (blocks_are p n w h)
-                    ∙ ap (λ ns. taken (W (has set)) Y (blocks_in P n M Q) B ns (turns (W (has set)) B) 0) (firsts_are p n w h);
+                    ∙ ap (λ ns. taken (W (has set)) Y (blocks_in P n M Q) B ns (turns (W (has set)) B) 0) (firsts_are p n w h));
               };
         }
 

@@ -23,8 +23,8 @@ use Rattle.bg_check.specs.declared.verdict.Verdict.{Verdict}
 use Rattle.bg_check.specs.declared.verdict.Verdict.TheVariants.{Proved, Refuted, Unknown}
 use Rattle.bg_check.specs.declared.verdict.Judged.{Judged}
 use Rattle.bg_check.specs.Verdicts.{IsRight, placed_at, AreRightAt, AreRightOf, AreRightFrom, AreRightUnder, is_proved, are_proved, ProvedAreSafe}
-use Rattle.bg_terms.specs.Instances.{Instance}
-use Rattle.bg_term_table.specs.Instances.{instances_of}
+use Rattle.bg_numbered.specs.Lines.{Line}
+use Rattle.bg_term_table.specs.Lines.{lines_of}
 use Rattle.bg_task.specs.Certified.{HasCertificate}
 use Rattle.bg_check.proofs.LawTypes.{SafeLaw, PlaceLaw, InsideLaw}
 use Rattle.bg_task.proofs.LawTypes.{FunctionLaw, BodyLaw, PassiveLaw, FitLaw, DenyLaw, MetLaw, CertLaw, UsedLaw, UnitAtomLaw, NamedUnitLaw}
@@ -33,13 +33,13 @@ use Rattle.bg_task.proofs.Numbered.{has}
 
 -- a certificate of a place
 pub record Proof (p : Prog) (set : ℕ → Bool) (t : Place) : Type 0 where
-  pub instances : List Instance
+  pub lines : List Line
   pub cert : Cert
-  pub certificate : HasCertificate p set t instances cert
+  pub certificate : HasCertificate p set t lines cert
 
 proof_of : (budget : Budget) (p : Prog) (set : ℕ → Bool) (t : Place) (v : Verdict) → IsRight budget p set t v → is_proved v ≡ true → Proof p set t
 proof_of budget p set t (Proved es cert) h e =
-    record { instances = instances_of es.items; cert = cert; certificate = h }
+    record { lines = lines_of es.items; cert = cert; certificate = h }
 proof_of budget p set t (Refuted cex) h e = absurd (let bad : ⊥ = cc in bad)
 proof_of budget p set t (Unknown rounds cause) h e = absurd (let bad : ⊥ = cc in bad)
 
@@ -74,7 +74,7 @@ module _ (functions : FunctionLaw) (bodies : BodyLaw) (safe : SafeLaw) (place : 
       let inside_it = subst (λ x. In (map place_in (placed_impl p.procedures k x)) u) is (subst (λ x. In (map place_in (placed_impl p.procedures x h.implementation)) u) number h.member) in
       let ordinary : u.candidate ≡ None → ⊥ = λ bare.
       let x = judged_place budget (meaning_of p) set js u right.right proved (subst (λ l. In (map place_in l) u) (sym right.places) (among_ordinary (placed_impl p.procedures k m) u bare inside_it)) in
-      no_failure functions bodies runs fits denies met (meaning_of p) t o certs used units named set set u x.instances x.cert x.certificate (λ n g. inside x.certificate.formula set no_instance (cert_of x.cert) x.certificate.accepted n g) i s choices fails in
+      no_failure functions bodies runs fits denies met (meaning_of p) t o certs used units named set set u x.lines x.cert x.certificate (λ n g. inside x.certificate.formula set no_instance (cert_of x.cert) x.certificate.accepted n g) i s choices fails in
       by_candidate u.candidate ordinary (λ b e. inductive u b c e (ap (is_kept set) (sym e) ∙ kept) i s choices fails))
     where
       there : (ms : List r.Impl) (j : ℕ) → slice_get ms j ≡ Some m → j < length ms

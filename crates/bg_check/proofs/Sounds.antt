@@ -18,15 +18,15 @@ use Rattle.bg_check.specs.declared.verdict.Verdict.{Verdict}
 use Rattle.bg_check.specs.declared.verdict.Verdict.TheVariants.{Proved, Refuted, Unknown}
 use Rattle.bg_check.specs.declared.verdict.Judged.{Judged}
 use Rattle.bg_check.specs.Verdicts.{IsRight, placed_at, AreRightAt, AreRightFrom, is_proved, are_proved, ProvedAreSafe}
-use Rattle.bg_terms.specs.Instances.{Instance}
-use Rattle.bg_term_table.specs.Instances.{instances_of}
+use Rattle.bg_numbered.specs.Lines.{Line}
+use Rattle.bg_term_table.specs.Lines.{lines_of}
 use Rattle.bg_task.specs.Certified.{HasCertificate}
 use Rattle.bg_check.specs.Outcomes.{verdict_of, told_one, is_ordinary, told}
 
 -- what certificates give
 abbrev pub NoFailures : Prog → (ℕ → Bool) → Type 0
 NoFailures p set =
-    (t : Place) (instances : List Instance) (cert : Cert) → HasCertificate p set t instances cert → (i : Interp) (s : State) (cs : List Choice) → Fails p set t i s cs → ⊥
+    (t : Place) (lines : List Line) (cert : Cert) → HasCertificate p set t lines cert → (i : Interp) (s : State) (cs : List Choice) → Fails p set t i s cs → ⊥
 
 same_placed : (words : ℕ → Cause → t.Why) (js : List Judged) → map t.placed_at (map (told_one words) js) ≡ map placed_at js
 same_placed words [] = refl
@@ -49,7 +49,7 @@ same_filtered (j ∷ js) h =
 
 module _ (p : Prog) (set : ℕ → Bool) (budget : Budget) (words : ℕ → Cause → t.Why) (none_fail : NoFailures p set) where
   true_at : (u : Place) (v : Verdict) → IsRight budget p set u v → IsTrueAt p set u (verdict_of words v)
-  true_at u (Proved es cert) h = none_fail u (instances_of es.items) cert h
+  true_at u (Proved es cert) h = none_fail u (lines_of es.items) cert h
   true_at u (Refuted cex) h = (h.0, h.1.1)
   true_at u (Unknown rounds cause) h = tt
 

@@ -18,10 +18,11 @@ use Rattle.bg_linear.specs.Sorts.{scalar_values}
 use Rattle.bg_atoms.specs.Ranks.{rank}
 use Rattle.bg_scalar.specs.Choices.{choice_of, state_of}
 use Rattle.bg_scalar.specs.Views as view
-use Rattle.bg_terms.specs.Instances.{Instance}
+use Rattle.bg_terms.specs.Closed.{IsFinished}
+use Rattle.bg_numbered.specs.Lines.{Line, instances_in}
 use Rattle.bg_finish.specs.Finished.{AreReadOff}
-use Rattle.bg_termed.specs.Built.{built_in}
-use Rattle.bg_termed.specs.Termed.{count_in, terms_in, sorts_in}
+use Rattle.bg_termed.specs.Lined.{lined_terms, lined_types, lined_sorts, lined_built}
+use Rattle.bg_termed.specs.Termed.{count_in}
 use Rattle.bg_model.specs.Behind.{behind_front}
 use Rattle.bg_model.specs.Over.{walk_over}
 use Rattle.bg_model.specs.Turns.{turns, taken}
@@ -44,25 +45,30 @@ targets_for p k m q = target_of (targets_in p k m q)
 abbrev pub leaf_vals : Formula → Leaf → List Sort → List Val
 leaf_vals f leaf sorts = scalar_values (value_of leaf.spots.items) (λ j. bools_at (leaf_bools f leaf) (rank sorts j)) sorts
 
--- the values that are built for that, of the incarnations and terms of an implementation, and of the incarnations alone
-abbrev pub vals_in : Prog → ℕ → Impl → Proc → Formula → Leaf → List Val
-vals_in p k m q f leaf = built_in p k m q (leaf_vals f leaf (sorts_in p k m q))
+-- that of the incarnations and terms of an implementation, and of the terms that lines bring
+abbrev pub numbers_in : Prog → ℕ → Impl → Proc → List Line → Formula → Leaf → List Val
+numbers_in p k m q ls f leaf = leaf_vals f leaf (lined_sorts p k m q ls)
 
-abbrev pub incarnation_vals : Prog → ℕ → Impl → Proc → Formula → Leaf → List Val
-incarnation_vals p k m q f leaf = take (count_in p k m q) (vals_in p k m q f leaf)
+-- the values that are built for it, and those of the incarnations alone
+abbrev pub vals_in : Prog → ℕ → Impl → Proc → List Line → Formula → Leaf → List Val
+vals_in p k m q ls f leaf = lined_built p k m q ls (numbers_in p k m q ls f leaf)
+
+abbrev pub incarnation_vals : Prog → ℕ → Impl → Proc → List Line → Formula → Leaf → List Val
+incarnation_vals p k m q ls f leaf = take (count_in p k m q) (vals_in p k m q ls f leaf)
 
 -- the run begins with the leaf's values, goes along the lowest edges from which some walk fails under the leaf's truth values, and chooses
 -- the leaf's values there
-pub record IsRunOf (p : Prog) (set : ℕ → Bool) (t : Place) (m : Impl) (q : Proc) (f : Formula) (forms : List FormBlock) (leaf : Leaf) (cex : Counterexample) : Type 0 where
-  pub state : state_of (view.vals_in cex.globals.items) (view.vals_in cex.frame.items) ≡ first_state p (frame_decls m q) (incarnation_vals p t.implementation m q f leaf)
-  pub choices : map choice_of cex.choices.items ≡ taken (walk_over set t.spot (bools_at (leaf_bools f leaf))) (incarnation_vals p t.implementation m q f leaf) (blocks_in p t.implementation m q) forms (map next_in (arrivals_in p t.implementation m q).arrivals) (turns (walk_over set t.spot (bools_at (leaf_bools f leaf))) forms) 0
+pub record IsRunOf (p : Prog) (set : ℕ → Bool) (t : Place) (m : Impl) (q : Proc) (ls : List Line) (f : Formula) (forms : List FormBlock) (leaf : Leaf) (cex : Counterexample) : Type 0 where
+  pub state : state_of (view.vals_in cex.globals.items) (view.vals_in cex.frame.items) ≡ first_state p (frame_decls m q) (incarnation_vals p t.implementation m q ls f leaf)
+  pub choices : map choice_of cex.choices.items ≡ taken (walk_over set t.spot (bools_at (leaf_bools f leaf))) (incarnation_vals p t.implementation m q ls f leaf) (blocks_in p t.implementation m q) forms (map next_in (arrivals_in p t.implementation m q).arrivals) (turns (walk_over set t.spot (bools_at (leaf_bools f leaf))) forms) 0
 
--- the counterexample is the run of a complete leaf of the place's clauses behind these instances, at which no congruence is false, and
--- its tables are read off the leaf's values
-pub record HasLeaf (p : Prog) (set : ℕ → Bool) (t : Place) (instances : List Instance) (cex : Counterexample) : Type 0 where
+-- the counterexample is the run of a complete leaf of the place's clauses behind these lines, which is finished, and its tables are read
+-- off the leaf's values
+pub record HasLeaf (p : Prog) (set : ℕ → Bool) (t : Place) (ls : List Line) (cex : Counterexample) : Type 0 where
   pub formula : Formula
-  pub is : HasOwnClauses p t instances formula
+  pub is : HasOwnClauses p t ls formula
   pub leaf : Leaf
   pub is_leaf : IsLeaf (targets_for p t.implementation is.clauses.implementation is.clauses.procedure) formula set leaf
-  pub read_off : AreReadOff p.functions (count_in p t.implementation is.clauses.implementation is.clauses.procedure) (terms_in p t.implementation is.clauses.implementation is.clauses.procedure) (vals_in p t.implementation is.clauses.implementation is.clauses.procedure formula leaf) (interp_of cex).tables
-  pub run : IsRunOf p set t is.clauses.implementation is.clauses.procedure formula (behind_front (length instances) is.clauses.encoding.blocks) leaf cex
+  pub finished : IsFinished (numbers_in p t.implementation is.clauses.implementation is.clauses.procedure ls formula leaf) (count_in p t.implementation is.clauses.implementation is.clauses.procedure) (lined_terms p t.implementation is.clauses.implementation is.clauses.procedure ls) (lined_types p t.implementation is.clauses.implementation is.clauses.procedure ls)
+  pub read_off : AreReadOff p.functions (count_in p t.implementation is.clauses.implementation is.clauses.procedure) (lined_terms p t.implementation is.clauses.implementation is.clauses.procedure ls) (vals_in p t.implementation is.clauses.implementation is.clauses.procedure ls formula leaf) (interp_of cex).tables
+  pub run : IsRunOf p set t is.clauses.implementation is.clauses.procedure ls formula (behind_front (length (instances_in ls)) is.clauses.encoding.blocks) leaf cex

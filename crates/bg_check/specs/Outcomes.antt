@@ -11,7 +11,7 @@ use Rattle.bg_check.specs.declared.verdict.Judged.{Judged}
 use Rattle.bg_check.specs.Verdicts.{placed_at}
 
 abbrev pub verdict_of : (ℕ → Cause → t.Why) → Verdict → t.Verdict
-verdict_of words (Proved instances cert) = t.Proved
+verdict_of words (Proved lines cert) = t.Proved
 verdict_of words (Refuted cex) =
     t.Refuted (interp_of cex) (state_of (vals_in cex.globals.items) (vals_in cex.frame.items)) (map choice_of cex.choices.items)
 verdict_of words (Unknown rounds cause) = t.Unknown (words (length rounds.items) cause)

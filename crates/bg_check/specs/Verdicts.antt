@@ -24,9 +24,9 @@ use Rattle.bg_model.specs.declared.failure.Counterexample.{Counterexample}
 use Rattle.bg_sound.specs.Used.{UsesAll}
 use Rattle.bg_sound.specs.Told.{is_ordinary}
 use Rattle.bg_finish.specs.Finished.{LeavesFirst}
-use Rattle.bg_terms.specs.Instances.{Instance}
-use Rattle.bg_term_table.specs.Instances.{instances_of}
-use Rattle.bg_termed.specs.Termed.{terms_in}
+use Rattle.bg_numbered.specs.Lines.{Line}
+use Rattle.bg_term_table.specs.Lines.{lines_of}
+use Rattle.bg_termed.specs.Lined.{lined_terms}
 use Rattle.bg_task.specs.Cuts.{HasOwnClauses}
 use Rattle.bg_task.specs.Certified.{HasCertificate, HasOutside}
 use Rattle.bg_check.specs.LeafRuns.{targets_for, vals_in, HasLeaf}
@@ -39,10 +39,10 @@ use Rattle.bg_check.specs.declared.verdict.Verdict.TheVariants.{Proved, Refuted,
 use Rattle.bg_check.specs.declared.verdict.Judged.{Judged}
 use Rattle.bg_check.specs.Replays.{RunsTo}
 
--- this is why the place's clauses behind these instances are left unknown within the budget
-pub record HasWhy (p : Prog) (set : ℕ → Bool) (t : Place) (instances : List Instance) (budget : Budget) (why : Why) : Type 0 where
+-- this is why the place's clauses behind these lines are left unknown within the budget
+pub record HasWhy (p : Prog) (set : ℕ → Bool) (t : Place) (ls : List Line) (budget : Budget) (why : Why) : Type 0 where
   pub formula : Formula
-  pub is : HasOwnClauses p t instances formula
+  pub is : HasOwnClauses p t ls formula
   pub cause : IsCause (targets_for p t.implementation is.clauses.implementation is.clauses.procedure) formula set budget why
 
 -- the induction run under the counterexample's tables, from its values, with its choices, fails at the place
@@ -55,26 +55,26 @@ abbrev pub IsUsed : Prog → (ℕ → Bool) → Place → Counterexample → Typ
 IsUsed p set t cex =
     UsesAll p set t (interp_of cex) (state_of (view.vals_in cex.globals.items) (view.vals_in cex.frame.items)) (map choice_of cex.choices.items)
 
--- at a complete leaf of the place's clauses behind these instances an operation of a term's arguments, the first that does, leaves the
+-- at a complete leaf of the place's clauses behind these lines an operation of a term's arguments, the first that does, leaves the
 -- range
-pub record HasArgument (p : Prog) (set : ℕ → Bool) (t : Place) (instances : List Instance) (leaf : Leaf) (o : OutOfRange) : Type 0 where
+pub record HasArgument (p : Prog) (set : ℕ → Bool) (t : Place) (ls : List Line) (leaf : Leaf) (o : OutOfRange) : Type 0 where
   pub formula : Formula
-  pub is : HasOwnClauses p t instances formula
+  pub is : HasOwnClauses p t ls formula
   pub is_leaf : IsLeaf (targets_for p t.implementation is.clauses.implementation is.clauses.procedure) formula set leaf
-  pub leaves : LeavesFirst (terms_in p t.implementation is.clauses.implementation is.clauses.procedure) (vals_in p t.implementation is.clauses.implementation is.clauses.procedure formula leaf) o
+  pub leaves : LeavesFirst (lined_terms p t.implementation is.clauses.implementation is.clauses.procedure ls) (vals_in p t.implementation is.clauses.implementation is.clauses.procedure ls formula leaf) o
 
 -- a round counts as one of the budget's nodes
 abbrev pub left_after : List Round → Budget → Budget
 left_after rounds budget = record budget { nodes = budget.nodes - length rounds }
 
--- why a place is left unknown under a set of candidates, behind these instances, where so much of the budget is left
-abbrev pub IsUnknown : Budget → Prog → (ℕ → Bool) → Place → List Instance → Cause → Type 0
-IsUnknown left p set t instances (Search why) = HasWhy p set t instances left why
-IsUnknown left p set t instances Rounds = left.nodes ≡ 0
-IsUnknown left p set t instances (Form o) = HasOutside p t instances o
-IsUnknown left p set t instances (Argument leaf o) = HasArgument p set t instances leaf o
-IsUnknown left p set t instances (Replay cex o) =
-    HasLeaf p set t instances cex × (IsFailure p set t cex × RunsTo p set t cex (Leaves o))
+-- why a place is left unknown under a set of candidates, behind these lines, where so much of the budget is left
+abbrev pub IsUnknown : Budget → Prog → (ℕ → Bool) → Place → List Line → Cause → Type 0
+IsUnknown left p set t ls (Search why) = HasWhy p set t ls left why
+IsUnknown left p set t ls Rounds = left.nodes ≡ 0
+IsUnknown left p set t ls (Form o) = HasOutside p t ls o
+IsUnknown left p set t ls (Argument leaf o) = HasArgument p set t ls leaf o
+IsUnknown left p set t ls (Replay cex o) =
+    HasLeaf p set t ls cex × (IsFailure p set t cex × RunsTo p set t cex (Leaves o))
 
 -- the run fails at the place, each operation on its way is within the range, and no choice is left over
 abbrev pub IsRefuted : Prog → (ℕ → Bool) → Place → Counterexample → Type 0
@@ -82,7 +82,7 @@ IsRefuted p set t cex = IsFailure p set t cex × (RunsTo p set t cex (Stops (Fai
 
 -- a verdict on a place, under a set of candidates
 abbrev pub IsRight : Budget → Prog → (ℕ → Bool) → Place → Verdict → Type 0
-IsRight budget p set t (Proved instances cert) = HasCertificate p set t (instances_of instances.items) cert
+IsRight budget p set t (Proved lines cert) = HasCertificate p set t (lines_of lines.items) cert
 IsRight budget p set t (Refuted cex) = IsRefuted p set t cex
 IsRight budget p set t (Unknown rounds cause) =
     (length rounds.items ≤ budget.nodes) × (AreRounds p set t [] rounds.items × IsUnknown (left_after rounds.items budget) p set t (brought rounds.items) cause)
@@ -112,7 +112,7 @@ abbrev pub AreRightUnder : (ℕ → Bool) → Budget → r.Program → List (Lis
 AreRightUnder set budget p outcome = AreRightFrom budget p set 0 p.implementations outcome
 
 abbrev pub is_proved : Verdict → Bool
-is_proved (Proved instances cert) = true
+is_proved (Proved lines cert) = true
 is_proved (Refuted cex) = false
 is_proved (Unknown rounds cause) = false
 

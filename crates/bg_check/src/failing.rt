@@ -1,5 +1,5 @@
 //! The counterexample of a complete leaf.
-ghost use Rattle.std.specs.Prelude.{◌≡◌, take, map, true, IfOk};
+ghost use Rattle.std.specs.Prelude.{◌≡◌, [], take, map, true, IfOk};
 ghost use Rattle.bg_ast.specs.Meaning.{meaning_of, named_of, impl_of, proc_of};
 ghost use Rattle.bg_ast.specs.Views.{program_of};
 ghost use Rattle.bg_sense.specs.Typed.{IsTyped};
@@ -11,16 +11,18 @@ ghost use Rattle.bg_tree.specs.Ends.{IsLeaf};
 ghost use Rattle.bg_fits.specs.Scalars.{is_over_scalars};
 ghost use Rattle.bg_scalar.specs.Values.{val_of};
 ghost use Rattle.bg_scalar.specs.Views.{tables_in};
-ghost use Rattle.bg_term_table.specs.Instances.{instances_of};
+ghost use Rattle.bg_term_table.specs.Lines.{lines_of};
 ghost use Rattle.bg_termed.specs.Termed.{count_in, terms_in};
 ghost use Rattle.bg_finish.specs.Finished.{AreReadOff};
 ghost use Rattle.bg_task.specs.Asked.{IsAsked};
 ghost use Rattle.bg_task.specs.Prepared.{IsPrepared};
 ghost use Rattle.bg_task.specs.Slices.{IsSliceFor};
+ghost use Rattle.bg_task.specs.Lines.{AreThere};
 ghost use Rattle.bg_task.specs.Made.{ClausesOf};
 ghost use Rattle.bg_check.specs.LeafRuns.{leaf_bools, vals_in, HasLeaf};
 ghost use Rattle.bg_check.specs.Verdicts.{IsFailure};
 
+use crate::front::many_said;
 use bg_clause::laws::{atoms_of_clauses, clauses_fail_alike};
 use bg_faithful::laws::{
     checks_of_passive_blocks_are_places, clauses_of_encodings_are_whole,
@@ -34,10 +36,10 @@ use bg_scalar::{Scalar, Table};
 use bg_sense::laws::typed_programs_have_typed_bodies;
 use bg_sense::resolved::places_have_spots_of_their_own;
 use bg_task::{Cut, Question, forms_left};
-use bg_term_table::Instance;
+use bg_term_table::Line;
 use bg_termed::laws::{
     built_values_are_models, built_values_are_typed, implementations_over_scalars_have_no_maps,
-    passive_blocks_have_terms, programs_over_scalars_are_tabled,
+    lines_over_scalars_bring_nothing, passive_blocks_have_terms, programs_over_scalars_are_tabled,
 };
 use bg_terms::laws::{flat_expressions_say_the_same, scalars_say_the_same};
 use bg_tree::Leaf;
@@ -61,12 +63,12 @@ fn first(values: &[Scalar], many: usize) -> &[Scalar]
     &values[..width]
 }
 
-/// The counterexample of a complete leaf of a place's clauses behind instances, where these tables are read off its values.
+/// The counterexample of a complete leaf of a place's clauses behind lines, where these tables are read off its values.
 pub fn failing(
     alloc: Global,
     question: Question<'_, '_>,
     cut: &Cut<'_>,
-    instances: &[Instance],
+    lines: &[Line],
     met: Met<'_>,
     tables: Vec<Table>,
 ) -> Result<Counterexample, AllocError>
@@ -74,13 +76,14 @@ pub fn failing(
     requires scalars { is_over_scalars true (meaning_of (program_of question.program.now)) ≡ true }
     requires prepared { IsPrepared (program_of question.program.now) question.place.now.implementation question.prepared.now }
     requires asked { IsAsked (meaning_of (program_of question.program.now)) (has question.set.now) (placed_of question.place.now).place }
-    requires slice { IsSliceFor (program_of question.program.now) question.place.now.implementation question.prepared.now (instances_of instances.now) (spot_of question.place.now.spot) cut.now }
+    requires slice { IsSliceFor (program_of question.program.now) question.place.now.implementation question.prepared.now (lines_of lines.now) (spot_of question.place.now.spot) cut.now }
+    requires there { AreThere (program_of question.program.now) question.place.now.implementation question.prepared.now (lines_of lines.now) }
     requires clauses { ClausesOf cut.now (placed_of question.place.now).place (formula_of met.clauses.now) }
     requires leaf { IsLeaf (target_of question.prepared.now.targets.items) (formula_of met.clauses.now) (has question.set.now) met.leaf.now }
     requires truths { met.truths.now ≡ leaf_bools (formula_of met.clauses.now) met.leaf.now }
-    requires values { (h : IsPrepared (program_of question.program.now) question.place.now.implementation question.prepared.now) → map val_of met.values.now ≡ vals_in (meaning_of (program_of question.program.now)) question.place.now.implementation (impl_of (named_of (program_of question.program.now).types) h.implementation) (proc_of (named_of (program_of question.program.now).types) h.procedure) (formula_of met.clauses.now) met.leaf.now }
+    requires values { (h : IsPrepared (program_of question.program.now) question.place.now.implementation question.prepared.now) → map val_of met.values.now ≡ vals_in (meaning_of (program_of question.program.now)) question.place.now.implementation (impl_of (named_of (program_of question.program.now).types) h.implementation) (proc_of (named_of (program_of question.program.now).types) h.procedure) [] (formula_of met.clauses.now) met.leaf.now }
     requires read_off { (h : IsPrepared (program_of question.program.now) question.place.now.implementation question.prepared.now) → AreReadOff (meaning_of (program_of question.program.now)).functions (count_in (meaning_of (program_of question.program.now)) question.place.now.implementation (impl_of (named_of (program_of question.program.now).types) h.implementation) (proc_of (named_of (program_of question.program.now).types) h.procedure)) (terms_in (meaning_of (program_of question.program.now)) question.place.now.implementation (impl_of (named_of (program_of question.program.now).types) h.implementation) (proc_of (named_of (program_of question.program.now).types) h.procedure)) (map val_of met.values.now) (tables_in tables.items) }
-    ensures { IfOk result (λ cex. HasLeaf (meaning_of (program_of question.entry.program.now)) (has question.entry.set.now) (placed_of question.entry.place.now).place (instances_of instances.now) cex × IsFailure (meaning_of (program_of question.entry.program.now)) (has question.entry.set.now) (placed_of question.entry.place.now).place cex) }
+    ensures { IfOk result (λ cex. HasLeaf (meaning_of (program_of question.entry.program.now)) (has question.entry.set.now) (placed_of question.entry.place.now).place (lines_of lines.now) cex × IsFailure (meaning_of (program_of question.entry.program.now)) (has question.entry.set.now) (placed_of question.entry.place.now).place cex) }
 {
     typed_programs_have_typed_bodies();
     arrivals_fit();
@@ -100,15 +103,17 @@ pub fn failing(
     flat_expressions_say_the_same();
     scalars_say_the_same();
     built_values_are_models();
+    lines_over_scalars_bring_nothing();
     let prepared = question.prepared;
     let forms = forms_left(alloc, cut)?;
+    let front = many_said(lines)?;
     let routine = Routine {
         program: question.program,
         frame: prepared.frame,
         blocks: &prepared.blocks,
         firsts: &prepared.firsts,
         forms: &forms,
-        front: instances.len(),
+        front,
     };
     let valuation = Valuation {
         truths: met.truths,

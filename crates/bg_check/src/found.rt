@@ -3,7 +3,7 @@ use crate::verdict::{Cause, Round};
 use bg_cert::Cert;
 use bg_model::Counterexample;
 
-/// What a search for a place finds behind the instances so far: a certificate, a counterexample, why neither was found, or what comes
+/// What a search for a place finds behind the lines so far: a certificate, a counterexample, why neither was found, or what comes
 /// in at a complete leaf that isn't finished.
 #[derive(Drop)]
 pub enum Found {

@@ -41,8 +41,8 @@ use bg_replay::laws::replays_are_induction_runs;
 use bg_sense::laws::{typed_programs_have_typed_bodies, what_fails_at_no_place_is_safe};
 use bg_task::laws::proved_places_do_not_fail;
 use bg_termed::laws::{
-    denied_passive_blocks_have_valuations, implementations_over_scalars_have_no_maps,
-    programs_over_scalars_are_tabled,
+    denied_passive_blocks_have_lined_valuations, implementations_over_scalars_have_no_maps,
+    passive_blocks_have_terms, programs_over_scalars_are_tabled,
 };
 
 /// An implementation of a typed program over scalars is safe under an inductive set of candidates where each of its
@@ -58,7 +58,8 @@ pub fn proved_under_a_set_is_safe()
     equations_deny_failing_walks();
     programs_over_scalars_are_tabled();
     implementations_over_scalars_have_no_maps();
-    denied_passive_blocks_have_valuations();
+    passive_blocks_have_terms();
+    denied_passive_blocks_have_lined_valuations();
     accepted_has_no_valuation();
     accepted_where_used();
     atoms_of_clauses()

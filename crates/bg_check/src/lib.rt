@@ -1,5 +1,5 @@
 //! What is known of a place of a program over truth values, whole numbers, elements of user types and functions on them: proved with a
-//! certificate behind instances, refuted with a counterexample, or unknown with the rounds of instances and what is kept of a budget, or
+//! certificate behind lines, refuted with a counterexample, or unknown with the rounds of lines and what is kept of a budget, or
 //! an operation that leaves 128 bits.
 #![tactic(auto)]
 
@@ -7,6 +7,7 @@ mod defaults;
 mod dropping;
 mod failing;
 mod found;
+mod front;
 mod implementation;
 pub mod laws;
 mod leaf;

@@ -1,5 +1,5 @@
 //! One search for a place.
-ghost use Rattle.std.specs.Prelude.{◌≡◌, length, true, IfOk};
+ghost use Rattle.std.specs.Prelude.{◌≡◌, true, IfOk};
 ghost use Rattle.bg_ast.specs.Meaning.{meaning_of};
 ghost use Rattle.bg_ast.specs.Views.{program_of};
 ghost use Rattle.bg_sense.specs.Typed.{IsTyped};
@@ -10,8 +10,8 @@ ghost use Rattle.bg_point.specs.Points.{target_of};
 ghost use Rattle.bg_tree.specs.declared.outcome.Budget.{Budget};
 ghost use Rattle.bg_tree.specs.Ends.{IsLeaf};
 ghost use Rattle.bg_fits.specs.Scalars.{is_over_scalars};
-ghost use Rattle.bg_term_table.specs.Instances.{instances_of};
-ghost use Rattle.bg_termed.specs.There.{AreThere};
+ghost use Rattle.bg_term_table.specs.Lines.{lines_of};
+ghost use Rattle.bg_task.specs.Lines.{AreThere};
 ghost use Rattle.bg_task.specs.Asked.{IsAsked};
 ghost use Rattle.bg_task.specs.Prepared.{IsPrepared};
 ghost use Rattle.bg_task.specs.Slices.{IsSliceFor};
@@ -29,20 +29,21 @@ use bg_finish::{Finish, finish};
 use bg_formula::Clauses;
 use bg_search::search;
 use bg_task::{Cut, Made, Question, cut_down, place_clauses};
-use bg_term_table::Instance;
+use bg_term_table::Line;
 use bg_termed::laws::{
-    built_values_are_typed, implementations_over_scalars_have_no_maps, passive_blocks_have_terms,
-    programs_over_scalars_are_tabled, terms_over_scalars_are_applications,
+    built_values_are_models, built_values_are_typed, implementations_over_scalars_have_no_maps,
+    lines_over_scalars_bring_nothing, passive_blocks_have_terms, programs_over_scalars_are_tabled,
+    terms_over_scalars_are_applications,
 };
 use bg_tree::{Budget, Leaf, Outcome};
 use std::alloc::{AllocError, Global};
 
-/// What a complete leaf of a place's clauses behind instances comes to.
+/// What a complete leaf of a place's clauses behind lines comes to.
 fn leaf_found(
     alloc: Global,
     question: Question<'_, '_>,
     cut: &Cut<'_>,
-    instances: &[Instance],
+    lines: &[Line],
     f: &Clauses,
     leaf: Leaf,
 ) -> Result<Found, AllocError>
@@ -50,16 +51,19 @@ fn leaf_found(
     requires scalars { is_over_scalars true (meaning_of (program_of question.program.now)) ≡ true }
     requires prepared { IsPrepared (program_of question.program.now) question.place.now.implementation question.prepared.now }
     requires asked { IsAsked (meaning_of (program_of question.program.now)) (has question.set.now) (placed_of question.place.now).place }
-    requires slice { IsSliceFor (program_of question.program.now) question.place.now.implementation question.prepared.now (instances_of instances.now) (spot_of question.place.now.spot) cut.now }
+    requires slice { IsSliceFor (program_of question.program.now) question.place.now.implementation question.prepared.now (lines_of lines.now) (spot_of question.place.now.spot) cut.now }
+    requires there { AreThere (program_of question.program.now) question.place.now.implementation question.prepared.now (lines_of lines.now) }
     requires clauses { ClausesOf cut.now (placed_of question.place.now).place (formula_of f.now) }
     requires leaf { IsLeaf (target_of question.prepared.now.targets.items) (formula_of f.now) (has question.set.now) leaf }
-    ensures { IfOk result (λ found. (left : Budget) → IsFound left (meaning_of (program_of question.entry.program.now)) (has question.entry.set.now) (placed_of question.entry.place.now).place (instances_of instances.now) found) }
+    ensures { IfOk result (λ found. (left : Budget) → IsFound left (meaning_of (program_of question.entry.program.now)) (has question.entry.set.now) (placed_of question.entry.place.now).place (lines_of lines.now) found) }
 {
     programs_over_scalars_are_tabled();
     implementations_over_scalars_have_no_maps();
     passive_blocks_have_terms();
     terms_over_scalars_are_applications();
+    lines_over_scalars_bring_nothing();
     built_values_are_typed();
+    built_values_are_models();
     let prepared = question.prepared;
     let truths = leaf_truths(alloc, f.atoms.len(), &leaf.path)?;
     let values = leaf_values(alloc, &prepared.kinds, &truths, &leaf.spots)?;
@@ -72,24 +76,21 @@ fn leaf_found(
                 truths: &truths,
                 values: &values,
             };
-            let cex = failing(alloc, question, cut, instances, met, tables)?;
+            let cex = failing(alloc, question, cut, lines, met, tables)?;
             replayed(alloc, question, cex)
         }
-        Finish::Instances(more) => Ok(Found::Wanted(Round {
-            leaf,
-            instances: more,
-        })),
+        Finish::Lines(more) => Ok(Found::Wanted(Round { leaf, lines: more })),
         Finish::Leaves(o) => Ok(Found::Unknown(Cause::Argument(leaf, o))),
         Finish::NoScalars => unreachable!(),
     }
 }
 
-/// What a search for a place finds that has these clauses behind instances, of terms that are there, where so much of the budget is left.
+/// What a search for a place finds that has these clauses behind lines, which name what is there, where so much of the budget is left.
 fn clauses_found(
     alloc: Global,
     question: Question<'_, '_>,
     left: Budget,
-    instances: &[Instance],
+    lines: &[Line],
     cut: &Cut<'_>,
     f: &Clauses,
 ) -> Result<Found, AllocError>
@@ -97,43 +98,43 @@ fn clauses_found(
     requires scalars { is_over_scalars true (meaning_of (program_of question.program.now)) ≡ true }
     requires prepared { IsPrepared (program_of question.program.now) question.place.now.implementation question.prepared.now }
     requires asked { IsAsked (meaning_of (program_of question.program.now)) (has question.set.now) (placed_of question.place.now).place }
-    requires there { AreThere (length question.prepared.now.terms.items) (instances_of instances.now) }
-    requires slice { IsSliceFor (program_of question.program.now) question.place.now.implementation question.prepared.now (instances_of instances.now) (spot_of question.place.now.spot) cut.now }
+    requires there { AreThere (program_of question.program.now) question.place.now.implementation question.prepared.now (lines_of lines.now) }
+    requires slice { IsSliceFor (program_of question.program.now) question.place.now.implementation question.prepared.now (lines_of lines.now) (spot_of question.place.now.spot) cut.now }
     requires clauses { ClausesOf cut.now (placed_of question.place.now).place (formula_of f.now) }
-    ensures { IfOk result (λ found. IsFound left (meaning_of (program_of question.entry.program.now)) (has question.entry.set.now) (placed_of question.entry.place.now).place (instances_of instances.now) found) }
+    ensures { IfOk result (λ found. IsFound left (meaning_of (program_of question.entry.program.now)) (has question.entry.set.now) (placed_of question.entry.place.now).place (lines_of lines.now) found) }
 {
     clauses_of_encodings_are_whole();
     let targets = &question.prepared.targets;
     match search(alloc, f, question.set, targets, left)? {
         Outcome::Closed(cert) => Ok(Found::Proved(cert)),
         Outcome::Unknown(why) => Ok(Found::Unknown(Cause::Search(why))),
-        Outcome::Leaf(leaf) => leaf_found(alloc, question, cut, instances, f, leaf),
+        Outcome::Leaf(leaf) => leaf_found(alloc, question, cut, lines, f, leaf),
     }
 }
 
-/// What a search for a place finds behind instances of terms that are there, where so much of the budget is left.
+/// What a search for a place finds behind lines that name what is there, where so much of the budget is left.
 pub fn search_place(
     alloc: Global,
     question: Question<'_, '_>,
     left: Budget,
-    instances: &[Instance],
+    lines: &[Line],
 ) -> Result<Found, AllocError>
     requires typed { IsTyped (meaning_of (program_of question.program.now)) }
     requires scalars { is_over_scalars true (meaning_of (program_of question.program.now)) ≡ true }
     requires prepared { IsPrepared (program_of question.program.now) question.place.now.implementation question.prepared.now }
     requires asked { IsAsked (meaning_of (program_of question.program.now)) (has question.set.now) (placed_of question.place.now).place }
-    requires there { AreThere (length question.prepared.now.terms.items) (instances_of instances.now) }
-    ensures { IfOk result (λ found. IsFound left (meaning_of (program_of question.entry.program.now)) (has question.entry.set.now) (placed_of question.entry.place.now).place (instances_of instances.now) found) }
+    requires there { AreThere (program_of question.program.now) question.place.now.implementation question.prepared.now (lines_of lines.now) }
+    ensures { IfOk result (λ found. IsFound left (meaning_of (program_of question.entry.program.now)) (has question.entry.set.now) (placed_of question.entry.place.now).place (lines_of lines.now) found) }
 {
     let cut = cut_down(
         alloc,
         question.program,
         question.prepared,
         question.place,
-        instances,
+        lines,
     )?;
     match place_clauses(alloc, question, &cut)? {
         Made::Outside(o) => Ok(Found::Unknown(Cause::Form(o))),
-        Made::Clauses(f) => clauses_found(alloc, question, left, instances, &cut, &f),
+        Made::Clauses(f) => clauses_found(alloc, question, left, lines, &cut, &f),
     }
 }

@@ -9,7 +9,7 @@ ghost use Rattle.bg_tree.specs.declared.outcome.Budget.{Budget};
 ghost use Rattle.bg_fits.specs.Scalars.{is_over_scalars};
 ghost use Rattle.bg_check.specs.LeafRuns.{HasLeaf};
 ghost use Rattle.bg_task.specs.Prepared.{IsPrepared};
-ghost use Rattle.bg_terms.specs.Instances.{Instance};
+ghost use Rattle.bg_numbered.specs.Lines.{Line};
 ghost use Rattle.bg_check.specs.Verdicts.{IsFailure};
 ghost use Rattle.bg_check.specs.Found.{IsFound};
 
@@ -34,7 +34,7 @@ pub fn replayed(
     requires scalars { is_over_scalars true (meaning_of (program_of question.program.now)) ≡ true }
     requires prepared { IsPrepared (program_of question.program.now) question.place.now.implementation question.prepared.now }
     requires fails { IsFailure (meaning_of (program_of question.program.now)) (has question.set.now) (placed_of question.place.now).place cex }
-    ensures { IfOk result (λ found. (left : Budget) (instances : List Instance) → HasLeaf (meaning_of (program_of question.entry.program.now)) (has question.entry.set.now) (placed_of question.entry.place.now).place instances cex → IsFound left (meaning_of (program_of question.entry.program.now)) (has question.entry.set.now) (placed_of question.entry.place.now).place instances found) }
+    ensures { IfOk result (λ found. (left : Budget) (lines : List Line) → HasLeaf (meaning_of (program_of question.entry.program.now)) (has question.entry.set.now) (placed_of question.entry.place.now).place lines cex → IsFound left (meaning_of (program_of question.entry.program.now)) (has question.entry.set.now) (placed_of question.entry.place.now).place lines found) }
 {
     blocks_are_typed();
     replays_are_induction_runs();

@@ -1,4 +1,4 @@
-//! Rounds of instances.
+//! Rounds of lines.
 ghost use Rattle.std.specs.Prelude.{◌≡◌, ◌<◌, ◌++◌, true, OnOk, IfOk};
 ghost use Rattle.bg_ast.specs.Meaning.{meaning_of};
 ghost use Rattle.bg_ast.specs.Views.{program_of};
@@ -15,41 +15,41 @@ use crate::found::Found;
 use crate::place::search_place;
 use crate::verdict::{Cause, Round, Verdict};
 use bg_task::Question;
-use bg_term_table::Instance;
+use bg_term_table::Line;
 use bg_tree::Budget;
 use std::alloc::{AllocError, Global};
 
-/// The rounds so far, their instances, and how many of the budget's nodes are left.
+/// The rounds so far, their lines, and how many of the budget's nodes are left.
 #[derive(Drop)]
 pub struct Stand {
     pub rounds: Vec<Round>,
-    pub instances: Vec<Instance>,
+    pub lines: Vec<Line>,
     pub left: u32,
 }
 
-/// Adds these instances.
-fn push_all(made: &mut Vec<Instance>, more: &[Instance]) -> Result<(), AllocError>
+/// Adds these lines.
+fn push_all(made: &mut Vec<Line>, more: &[Line]) -> Result<(), AllocError>
     ensures { OnOk result (made.new.items ≡ made.old.items ++ more.now) }
 {
-    for e in more {
-        made.push(*e)?;
+    for line in more {
+        made.push(*line)?;
     }
     Ok(())
 }
 
-/// One more round, and its instances.
+/// One more round, and its lines.
 fn add(stand: &mut Stand, round: Round) -> Result<(), AllocError>
     requires { 0 < stand.old.left }
     ensures { OnOk result (IsMore stand.old round stand.new) }
 {
-    push_all(&mut stand.instances, &round.instances)?;
+    push_all(&mut stand.lines, &round.lines)?;
     stand.rounds.push(round)?;
     stand.left -= 1;
     Ok(())
 }
 
 /// What is known of a place of a typed program over scalars, under a set of candidates that has the place's
-/// own, if it has one. At each complete leaf at which a congruence of terms is false instances come in, and the search begins anew. A
+/// own, if it has one. At each complete leaf at which a congruence of terms is false lines come in, and the search begins anew. A
 /// round counts as one of the budget's nodes, and in a search at most those count that are left; it keeps at most the budget's rows.
 ///
 /// Only want of memory is an error; 2^32 atoms count as such.
@@ -66,7 +66,7 @@ pub fn check_place(
 {
     let mut stand = Stand {
         rounds: Vec::new(alloc),
-        instances: Vec::new(alloc),
+        lines: Vec::new(alloc),
         left: budget.nodes,
     };
     loop {
@@ -74,8 +74,8 @@ pub fn check_place(
             nodes: stand.left,
             rows: budget.rows,
         };
-        match search_place(alloc, question, left, &stand.instances)? {
-            Found::Proved(cert) => return Ok(Verdict::Proved(stand.instances, cert)),
+        match search_place(alloc, question, left, &stand.lines)? {
+            Found::Proved(cert) => return Ok(Verdict::Proved(stand.lines, cert)),
             Found::Refuted(cex) => return Ok(Verdict::Refuted(cex)),
             Found::Unknown(cause) => return Ok(Verdict::Unknown(stand.rounds, cause)),
             Found::Wanted(round) => {

@@ -3,17 +3,18 @@ use bg_base::OutOfRange;
 use bg_cert::Cert;
 use bg_model::Counterexample;
 use bg_places::Place;
-use bg_term_table::Instance;
+use bg_term_table::Line;
 use bg_tree::{Leaf, Why};
 
-/// A complete leaf that isn't finished, and the instances that come in there: at least one, each false at the leaf.
+/// A complete leaf that isn't finished, and the lines that come in there: at least one is an instance, and each instance is false at the leaf
+/// or names a term that comes in with it.
 #[derive(Drop)]
 pub struct Round {
     pub leaf: Leaf,
-    pub instances: Vec<Instance>,
+    pub lines: Vec<Line>,
 }
 
-/// Why a place is left unknown, behind the instances of its rounds.
+/// Why a place is left unknown, behind the lines of its rounds.
 #[derive(Drop)]
 pub enum Cause {
     /// The search finds neither a certificate nor a complete leaf.
@@ -28,11 +29,11 @@ pub enum Cause {
     Replay(Counterexample, OutOfRange),
 }
 
-/// What is known of a place: a certificate, behind instances, that its check never fails; a counterexample, with which the induction run
-/// fails there, each operation on its way within 128 bits; or why neither was found, after rounds of instances.
+/// What is known of a place: a certificate, behind lines, that its check never fails; a counterexample, with which the induction run
+/// fails there, each operation on its way within 128 bits; or why neither was found, after rounds of lines.
 #[derive(Drop)]
 pub enum Verdict {
-    Proved(Vec<Instance>, Cert),
+    Proved(Vec<Line>, Cert),
     Refuted(Counterexample),
     Unknown(Vec<Round>, Cause),
 }

@@ -63,7 +63,7 @@ module _ (fails : FailLaw) (place : PlaceLaw) (p : r.Program) (c : CertOf) (t : 
   shown_holds i u x j s choices bad =
       let nodes = map (node_in p.candidates) x.section.nodes in
       let a = certified_by x.formula kept_set nodes (table_in x.section.table) x.accepted in
-      fails (meaning_of p) kept_set u x.instances x.formula (record { table = a.table; nodes = nodes }) t over x.is (table_agrees x.section.table a.table a.is_its) a.accepted j s choices bad
+      fails (meaning_of p) kept_set u x.lines x.formula (record { table = a.table; nodes = nodes }) t over x.is (table_agrees x.section.table a.table a.is_its) a.accepted j s choices bad
 
   pub not_failing : (u : Place) → Contains (places (meaning_of p)) u → is_kept kept_set u.candidate ≡ true → (j : Interp) (s : State) (choices : List Choice) → Fails (meaning_of p) kept_set u j s choices → ⊥
   not_failing u w kept j s choices bad =

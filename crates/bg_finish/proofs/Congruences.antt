@@ -1,5 +1,5 @@
 -- Congruences by rows.
-use Rattle.std.proofs.Common.{◌≡◌, ℕ, ◌+◌, Bool, true, false, List, [], ◌∷◌, map, Option, Some, None, refl, sym, ap, ◌∙◌, arith}
+use Rattle.std.proofs.Common.{◌≡◌, ℕ, ◌+◌, Bool, true, false, List, [], ◌∷◌, map, Option, Some, None, refl, sym, ap, ◌∙◌, subst, arith}
 use Rattle.std.specs.Prelude.{slice_get, drop, not, ◌||◌, ◌==◌, if◌then◌else◌}
 use Rattle.std.proofs.lemmas.Bool.{eqb-true}
 use Rattle.std.proofs.lemmas.Bool.Decides.{nat_tests}
@@ -10,8 +10,8 @@ use Rattle.bg_terms.specs.Terms.{Head, Applies, Term, over, head_eq}
 use Rattle.bg_terms.specs.Instances.{term, equal, all_equal, congruent, instance_ex}
 use Rattle.bg_terms.proofs.True.{equal_alike, equal_back, same_eq, if_then}
 use Rattle.bg_read_off.specs.Leaves.{AreCongruent}
-use Rattle.bg_term_table.specs.declared.instance.Instance as code
-use Rattle.bg_term_table.specs.Instances.{instance_of, instances_of}
+use Rattle.bg_term_table.specs.declared.line.Line as code
+use Rattle.bg_term_table.specs.Lines.{line_of, lines_of}
 use Rattle.bg_scalar.specs.declared.scalar.Scalar.{Scalar}
 use Rattle.bg_scalar.specs.declared.scalar.Scalar.TheVariants.{Truth, Number, Element}
 use Rattle.bg_scalar.specs.Values.{val_of}
@@ -98,14 +98,14 @@ module _ (values : List Scalar) (n : ℕ) (ts : List Term) (rs : List RowOf) (ro
       on (Some x) None e f = refl
       on (Some x) (Some y) e f = both_there x y (of_term a x e) (of_term b y f) (head_eq x.head y.head) refl
 
-  is_false : (e : code.Instance) → IsApart rs e → IsFalse s n ts (instance_of e)
+  is_false : (e : code.Line) → IsApart rs e → IsFalse s n ts (line_of e)
   is_false e w =
       let u = its_term values n 0 ts rs rows w.a w.r w.first in
       let v = its_term values n 0 ts rs rows w.b w.q w.other in
-      ap (λ i. truth_of (ev (instance_ex n ts (instance_of i)) (over s))) w.is
-      ∙ ap (λ o. truth_of (ev (congruent n w.a w.b o (slice_get ts w.b)) (over s))) u.1.0
+      subst (λ l. IsFalse s n ts (line_of l)) (sym w.is)
+      (ap (λ o. truth_of (ev (congruent n w.a w.b o (slice_get ts w.b)) (over s))) u.1.0
       ∙ ap (λ o. truth_of (ev (congruent n w.a w.b (Some u.0) o) (over s))) v.1.0
-      ∙ on (u.0) (v.0) (head_eq (u.0).head (v.0).head) (one_head w.r.function (u.0).head (v.0).head u.1.1.0 (v.1.1.0 ∙ ap Applies (sym (ap (λ (k : ℕ × List Scalar). k.0) w.key)))) (u.1.1) (v.1.1)
+      ∙ on (u.0) (v.0) (head_eq (u.0).head (v.0).head) (one_head w.r.function (u.0).head (v.0).head u.1.1.0 (v.1.1.0 ∙ ap Applies (sym (ap (λ (k : ℕ × List Scalar). k.0) w.key)))) (u.1.1) (v.1.1))
     where
       on : (x y : Term) (c : Bool) → c ≡ true → IsRow values x (slice_get (drop n values) (0 + w.a)) w.r → IsRow values y (slice_get (drop n values) (0 + w.b)) w.q → truth_of (ev (if c then Binary Implies (all_equal x.args y.args) (equal (term n w.a) (term n w.b)) else Fact true) (over s)) ≡ false
       on x y false k h g = absurd (let bad : ⊥ = cc in bad)
@@ -114,6 +114,6 @@ module _ (values : List Scalar) (n : ℕ) (ts : List Term) (rs : List RowOf) (ro
           (equal_back s x.args y.args (args_worth values x w.r.args h.1.0 ∙ ap (map val_of) (ap (λ (k : ℕ × List Scalar). k.1) w.key) ∙ sym (args_worth values y w.q.args g.1.0)))
           (ap (λ v. val_eq v (value_at s (n + w.b))) (own_value values n w.a w.r.value (ap (slice_get (drop n values)) (let q : w.a ≡ 0 + w.a = omega arith in q) ∙ h.1.1)) ∙ ap (val_eq (val_of w.r.value)) (own_value values n w.b w.q.value (ap (slice_get (drop n values)) (let q : w.b ≡ 0 + w.b = omega arith in q) ∙ g.1.1)) ∙ w.differ)
 
-  pub are_false : (es : List code.Instance) → Each (IsApart rs) es → Each (IsFalse s n ts) (instances_of es)
+  pub are_false : (es : List code.Line) → Each (IsApart rs) es → Each (IsFalse s n ts) (lines_of es)
   are_false [] h = tt
   are_false (e ∷ es) h = (is_false e h.0, are_false es h.1)

@@ -10,8 +10,8 @@ use Rattle.std.proofs.lemmas.Cmp.{nat_cmp_total, int_cmp_total}
 use Rattle.std.proofs.lemmas.Map.Lookups.{exact_unsigned, exact_signed}
 use Rattle.bg_ast.specs.Values.{val_eq}
 use Rattle.bg_sense.proofs.MapLaws.{val_same}
-use Rattle.bg_term_table.specs.declared.instance.Instance.{Instance}
-use Rattle.bg_term_table.specs.declared.instance.Instance.TheVariants.{Congruent}
+use Rattle.bg_term_table.specs.declared.line.Line.{Line}
+use Rattle.bg_term_table.specs.declared.line.Line.TheVariants.{Congruent}
 use Rattle.bg_scalar.specs.declared.scalar.Scalar.{Scalar}
 use Rattle.bg_scalar.specs.declared.scalar.Scalar.TheVariants.{Truth, Number, Element}
 use Rattle.bg_scalar.specs.Values.{val_of}
@@ -215,11 +215,11 @@ agreeing_more rs r all one a b p q e f k = ⊎_elim first last (last_or rs r a p
     last : p ≡ r → p.value ≡ q.value
     last s = ⊎_elim (λ f. ap (λ z. z.value) s ∙ sym (one b q f (sym k ∙ ap key_of s))) (λ t. ap (λ z. z.value) (s ∙ sym t)) (last_or rs r b q f)
 
-apart_more : (rs : List RowOf) (r : RowOf) (e : Instance) → IsApart rs e → IsApart (rs ++ r ∷ []) e
+apart_more : (rs : List RowOf) (r : RowOf) (e : Line) → IsApart rs e → IsApart (rs ++ r ∷ []) e
 apart_more rs r e w =
     record { a = w.a; b = w.b; r = w.r; q = w.q; is = w.is; first = at_front rs r w.a w.r w.first; other = at_front rs r w.b w.q w.other; key = w.key; differ = w.differ }
 
-each_more : (rs : List RowOf) (r : RowOf) (es : List Instance) → Each (IsApart rs) es → Each (IsApart (rs ++ r ∷ [])) es
+each_more : (rs : List RowOf) (r : RowOf) (es : List Line) → Each (IsApart rs) es → Each (IsApart (rs ++ r ∷ [])) es
 each_more rs r [] h = tt
 each_more rs r (e ∷ es) h = (apart_more rs r e h.0, each_more rs r es h.1)
 
@@ -227,17 +227,17 @@ each_last : {A : Type 0} (P : A → Type 0) (es : List A) (e : A) → Each P es 
 each_last P [] e h k = (k, tt)
 each_last P (d ∷ es) e h k = (h.0, each_last P es e h.1 k)
 
-not_empty : (es : List Instance) (e : Instance) → es ++ e ∷ [] ≡ [] → ⊥
+not_empty : (es : List Line) (e : Line) → es ++ e ∷ [] ≡ [] → ⊥
 not_empty [] e h = let bad : ⊥ = cc in bad
 not_empty (d ∷ es) e h = let bad : ⊥ = cc in bad
 
 pub none_at : (m : BTreeMap (ℕ × Vec Scalar Global) (ℕ × Scalar)) (k : ℕ × Vec Scalar Global) → m.entries ≡ [] → first_at m (k.0, k.1.items) ≡ None
 none_at m k h = ap (λ es. lookup (is_at (λ (y : ℕ × Vec Scalar Global). key_cmp (k.0, k.1.items) (y.0, y.1.items))) es) h
 
-pub none_yet : (m : BTreeMap (ℕ × Vec Scalar Global) (ℕ × Scalar)) (es : List Instance) → ((k : ℕ × Vec Scalar Global) → first_at m (k.0, k.1.items) ≡ None) → es ≡ [] → IsSoFar m es []
+pub none_yet : (m : BTreeMap (ℕ × Vec Scalar Global) (ℕ × Scalar)) (es : List Line) → ((k : ℕ × Vec Scalar Global) → first_at m (k.0, k.1.items) ≡ None) → es ≡ [] → IsSoFar m es []
 none_yet m es h e = (h, (subst (Each (IsApart [])) (sym e) tt, λ q a b r p f. absurd (let bad : ⊥ = cc in bad)))
 
-module _ (m : BTreeMap (ℕ × Vec Scalar Global) (ℕ × Scalar)) (es : List Instance) (rs : List RowOf) (r : RowOf) (so : IsSoFar m es rs) where
+module _ (m : BTreeMap (ℕ × Vec Scalar Global) (ℕ × Scalar)) (es : List Line) (rs : List RowOf) (r : RowOf) (so : IsSoFar m es rs) where
   -- a row whose key is new
   pub new_row : (w : BTreeMap (ℕ × Vec Scalar Global) (ℕ × Scalar)) (b : ℕ) (at : ℕ × Vec Scalar Global) → key_of r ≡ (at.0, at.1.items) → b ≡ length rs → first_at m (at.0, at.1.items) ≡ None → ((k : ℕ × Vec Scalar Global) → first_at w (k.0, k.1.items) ≡ cond (is_eq (key_cmp (at.0, at.1.items) (k.0, k.1.items))) (Some (b, r.value)) (first_at m (k.0, k.1.items))) → IsSoFar w es (rs ++ r ∷ [])
   new_row w b at its place none put =
@@ -247,7 +247,7 @@ module _ (m : BTreeMap (ℕ × Vec Scalar Global) (ℕ × Scalar)) (es : List In
       )
 
   -- a row whose key is there
-  pub old_row : (b p : ℕ) (x : Scalar) (at : ℕ × Vec Scalar Global) (fs : List Instance) → key_of r ≡ (at.0, at.1.items) → b ≡ length rs → first_at m (at.0, at.1.items) ≡ Some (p, x) → fs ≡ (if val_eq (val_of x) (val_of r.value) then es else es ++ Congruent p b ∷ []) → IsSoFar m fs (rs ++ r ∷ [])
+  pub old_row : (b p : ℕ) (x : Scalar) (at : ℕ × Vec Scalar Global) (fs : List Line) → key_of r ≡ (at.0, at.1.items) → b ≡ length rs → first_at m (at.0, at.1.items) ≡ Some (p, x) → fs ≡ (if val_eq (val_of x) (val_of r.value) then es else es ++ Congruent p b ∷ []) → IsSoFar m fs (rs ++ r ∷ [])
   old_row b p x at fs its place there told =
       let found : first_row (at.0, at.1.items) 0 rs ≡ Some (p, x) = sym (so.0 at) ∙ there in
       let f = first_is (at.0, at.1.items) 0 rs p x found in (

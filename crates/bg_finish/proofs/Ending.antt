@@ -11,8 +11,8 @@ use Rattle.bg_sense.proofs.TypedRuns.{default_typed}
 use Rattle.bg_terms.specs.Terms.{Applies, Term}
 use Rattle.bg_terms.specs.Tables.{entries_of}
 use Rattle.bg_read_off.proofs.Entries.{EachTyped, entries_typed, no_entries}
-use Rattle.bg_term_table.specs.declared.instance.Instance as code
-use Rattle.bg_term_table.specs.Instances.{instances_of}
+use Rattle.bg_term_table.specs.declared.line.Line as code
+use Rattle.bg_term_table.specs.Lines.{lines_of}
 use Rattle.bg_scalar.specs.declared.scalar.Scalar.{Scalar}
 use Rattle.bg_finish.specs.Scalars.{TableOf}
 use Rattle.bg_scalar.specs.Values.{val_of}
@@ -139,11 +139,11 @@ module _ (fs : List Fun) (incs : List Ty) (ts : List Term) (values ds : List Sca
 
 -- ---- as the code has it
 
-pub empty_is : (es : List code.Instance) → length es ≡ 0 → es ≡ []
+pub empty_is : (es : List code.Line) → length es ≡ 0 → es ≡ []
 empty_is [] h = refl
 empty_is (e ∷ es) h = absurd (omega (arith, h))
 
-pub still_some : (es : List code.Instance) → 0 < length es → 0 < length (instances_of es)
+pub still_some : (es : List code.Line) → 0 < length es → 0 < length (lines_of es)
 still_some [] h = absurd (omega (arith, h))
 still_some (e ∷ es) h = omega arith
 

@@ -12,9 +12,10 @@ use Rattle.bg_terms.specs.Terms.{Term, over}
 use Rattle.bg_terms.specs.Flat.{HaveNoBodies}
 use Rattle.bg_terms.specs.Typed.{TermsTyped, types_with}
 use Rattle.bg_terms.specs.Tables.{IsReadOff}
-use Rattle.bg_terms.specs.Instances.{Instance, instance_ex}
+use Rattle.bg_terms.specs.Instances.{instance_ex}
+use Rattle.bg_numbered.specs.Lines.{Line, Pick, Names, Says}
 use Rattle.bg_read_off.specs.Leaves.{AreApplications, AreCongruent, silent}
-use Rattle.bg_term_table.specs.Instances.{instances_of}
+use Rattle.bg_term_table.specs.Lines.{lines_of}
 use Rattle.bg_scalar.specs.Worths.{Seen, Are, Leave, worths}
 use Rattle.bg_scalar.specs.Views.{tables_in}
 use Rattle.bg_finish.specs.declared.kind.Finish.{Finish}
@@ -43,13 +44,16 @@ abbrev pub Each : {A : Type 0} → (A → Type 0) → List A → Type 0
 Each P [] = Unit {0}
 Each P (a ∷ xs) = P a × Each P xs
 
-abbrev pub IsFalse : List Val → ℕ → List Term → Instance → Type 0
-IsFalse s n ts e = truth_of (ev (instance_ex n ts e) (over s)) ≡ false
+-- an instance that is false
+abbrev pub IsFalse : List Val → ℕ → List Term → Line → Type 0
+IsFalse s n ts (Pick m a) = ⊥
+IsFalse s n ts (Names m o) = ⊥
+IsFalse s n ts (Says e) = truth_of (ev (instance_ex n ts e) (over s)) ≡ false
 
--- there is an instance, and each is false
-pub record AreFalse (n : ℕ) (ts : List Term) (s : List Val) (es : List Instance) : Type 0 where
-  pub some : 0 < length es
-  pub each : Each (IsFalse s n ts) es
+-- there is a line, and each is an instance that is false
+pub record AreFalse (n : ℕ) (ts : List Term) (s : List Val) (ls : List Line) : Type 0 where
+  pub some : 0 < length ls
+  pub each : Each (IsFalse s n ts) ls
 
 -- what incarnations and terms are worth, and nothing else
 abbrev pub seen_at : List Val → Seen
@@ -66,6 +70,6 @@ pub record LeavesFirst (ts : List Term) (values : List Val) (o : OutOfRange) : T
 -- what a leaf comes to
 abbrev pub IsFinish : List Fun → ℕ → List Term → List Val → Finish → Type 0
 IsFinish fs n ts s (come.Tables made) = AreReadOff fs n ts s (tables_in made.items)
-IsFinish fs n ts s (come.Instances made) = AreFalse n ts s (instances_of made.items)
+IsFinish fs n ts s (come.Lines made) = AreFalse n ts s (lines_of made.items)
 IsFinish fs n ts s (come.Leaves o) = LeavesFirst ts s o
 IsFinish fs n ts s come.NoScalars = ⊥

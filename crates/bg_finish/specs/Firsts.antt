@@ -6,8 +6,8 @@ use Rattle.std.specs.Cmp.Lexicographic.{slice_cmp}
 use Rattle.std.specs.BTreeMap.{BTreeMap, get_by}
 use Rattle.std.specs.declared.alloc.Global.{Global}
 use Rattle.bg_ast.specs.Values.{val_eq}
-use Rattle.bg_term_table.specs.declared.instance.Instance.{Instance}
-use Rattle.bg_term_table.specs.declared.instance.Instance.TheVariants.{Congruent}
+use Rattle.bg_term_table.specs.declared.line.Line.{Line}
+use Rattle.bg_term_table.specs.declared.line.Line.TheVariants.{Congruent}
 use Rattle.bg_scalar.specs.declared.scalar.Scalar.{Scalar}
 use Rattle.bg_scalar.specs.contracts.scalar.ScalarOrd.TheImpl.{ghosts}
 use Rattle.bg_scalar.specs.Values.{val_of}
@@ -50,7 +50,7 @@ Agreeing rs =
     (a b : ℕ) (r q : RowOf) → slice_get rs a ≡ Some r → slice_get rs b ≡ Some q → key_of r ≡ key_of q → r.value ≡ q.value
 
 -- the values of two rows with one key differ
-pub record IsApart (rs : List RowOf) (e : Instance) : Type 0 where
+pub record IsApart (rs : List RowOf) (e : Line) : Type 0 where
   pub a : ℕ
   pub b : ℕ
   pub r : RowOf
@@ -62,9 +62,9 @@ pub record IsApart (rs : List RowOf) (e : Instance) : Type 0 where
   pub differ : val_eq (val_of r.value) (val_of q.value) ≡ false
 
 -- these tell what is apart, and nothing is where there are none
-abbrev pub AreApart : List RowOf → List Instance → Type 0
+abbrev pub AreApart : List RowOf → List Line → Type 0
 AreApart rs es = Each (IsApart rs) es × (es ≡ [] → Agreeing rs)
 
 -- so it is of the rows so far
-abbrev pub IsSoFar : BTreeMap (ℕ × Vec Scalar Global) (ℕ × Scalar) → List Instance → List RowOf → Type 0
+abbrev pub IsSoFar : BTreeMap (ℕ × Vec Scalar Global) (ℕ × Scalar) → List Line → List RowOf → Type 0
 IsSoFar m es rs = HasFirsts m rs × AreApart rs es

@@ -1,5 +1,6 @@
 pub mod Scalars
 pub mod Finished
+pub mod Wanting
 pub mod Rows
 pub mod Firsts
 pub mod Filled

@@ -1,6 +1,6 @@
 //! Congruences that are false.
 ghost use Rattle.std.specs.Prelude.{◌≡◌, ◌∷◌, [], ◌++◌, if◌then◌else◌, List, length, IfOk, OnOk};
-ghost use Rattle.bg_term_table.specs.declared.instance.Instance.TheVariants.{Congruent};
+ghost use Rattle.bg_term_table.specs.declared.line.Line.TheVariants.{Congruent};
 ghost use Rattle.bg_ast.specs.Values.{val_eq};
 ghost use Rattle.bg_scalar.specs.Values.{val_of};
 ghost use Rattle.bg_finish.specs.Rows.{RowOf, row_of, rows_of};
@@ -8,7 +8,7 @@ ghost use Rattle.bg_finish.specs.Firsts.{IsSoFar, AreApart};
 
 use crate::row::Row;
 use bg_scalar::Scalar;
-use bg_term_table::Instance;
+use bg_term_table::Line;
 use std::alloc::{AllocError, Global};
 use std::collections::BTreeMap;
 
@@ -48,13 +48,13 @@ pub fn is_same(x: Scalar, y: Scalar) -> bool
 }
 
 /// The congruence of these terms, unless they are the same.
-fn tell(made: &mut Vec<Instance>, a: u32, b: u32, same: bool) -> Result<(), AllocError>
+fn tell(made: &mut Vec<Line>, a: u32, b: u32, same: bool) -> Result<(), AllocError>
     ensures { OnOk result (made.new.items ≡ (if same then made.old.items else made.old.items ++ Congruent a b ∷ [])) }
 {
     if same {
         return Ok(());
     }
-    made.push(Instance::Congruent(a, b))?;
+    made.push(Line::Congruent(a, b))?;
     Ok(())
 }
 
@@ -62,7 +62,7 @@ fn tell(made: &mut Vec<Instance>, a: u32, b: u32, same: bool) -> Result<(), Allo
 fn compare(
     alloc: Global,
     known: &mut BTreeMap<Key, (u32, Scalar)>,
-    made: &mut Vec<Instance>,
+    made: &mut Vec<Line>,
     b: u32,
     row: &Row,
 ) -> Result<(), AllocError>
@@ -80,7 +80,7 @@ fn compare(
 }
 
 /// The congruences of each application with the first one that has its function and its arguments' values, where these differ.
-pub fn instances(alloc: Global, rows: &[Row]) -> Result<Vec<Instance>, AllocError>
+pub fn congruences(alloc: Global, rows: &[Row]) -> Result<Vec<Line>, AllocError>
     ensures { IfOk result (λ made. AreApart (rows_of rows.now) made.items) }
 {
     let mut known = BTreeMap::new(alloc);

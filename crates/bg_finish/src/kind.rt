@@ -1,7 +1,7 @@
 //! What a leaf comes to.
 use bg_base::OutOfRange;
 use bg_scalar::Table;
-use bg_term_table::Instance;
+use bg_term_table::Line;
 
 /// What a leaf comes to: a table for each function, where no congruence of the terms is false; congruences that are false, at least one;
 /// or neither, since this operation of the terms' arguments, the first that does, leaves 128 bits, or since something is no scalar or
@@ -9,7 +9,7 @@ use bg_term_table::Instance;
 #[derive(Drop)]
 pub enum Finish {
     Tables(Vec<Table>),
-    Instances(Vec<Instance>),
+    Lines(Vec<Line>),
     Leaves(OutOfRange),
     NoScalars,
 }

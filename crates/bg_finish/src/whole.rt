@@ -6,7 +6,7 @@ ghost use Rattle.bg_term_table.specs.Views.{terms_in};
 ghost use Rattle.bg_scalar.specs.Values.{val_of};
 ghost use Rattle.bg_finish.specs.Finished.{IsScalarLeaf, IsFinish};
 
-use crate::firsts::instances;
+use crate::firsts::congruences;
 use crate::kind::Finish;
 use crate::row::Rows;
 use crate::rows::rows;
@@ -37,9 +37,9 @@ pub fn finish(
         Rows::Leave(o) => Ok(Finish::Leaves(o)),
         Rows::NoRows => Ok(Finish::NoScalars),
         Rows::Are(rows) => {
-            let apart = instances(alloc, &rows)?;
+            let apart = congruences(alloc, &rows)?;
             if !apart.is_empty() {
-                return Ok(Finish::Instances(apart));
+                return Ok(Finish::Lines(apart));
             }
             let made = tables(alloc, defaults, &rows)?;
             Ok(Finish::Tables(made))

@@ -5,14 +5,15 @@ ghost use Rattle.bg_incarnate.specs.Views.{cmds_of, passive_block_of};
 ghost use Rattle.bg_flat.specs.Blocks.{in_front};
 ghost use Rattle.bg_flat.specs.Fronts.{stated};
 ghost use Rattle.bg_flatten.specs.Plain.{PlainBlocks};
+ghost use Rattle.bg_numbered.specs.Lines.{instances_in};
 ghost use Rattle.bg_term_table.specs.Views.{terms_in};
-ghost use Rattle.bg_term_table.specs.Instances.{instances_of};
+ghost use Rattle.bg_term_table.specs.Lines.{lines_of};
 
-use crate::stated::supposing;
+use crate::lines::supposing_lines;
 use bg_flatten::laws::plain_blocks_stay;
 use bg_flatten::{Flat, flattened};
 use bg_incarnate::{PassiveBlock, PassiveCmd};
-use bg_term_table::{Around, Instance, Term};
+use bg_term_table::{Around, Line, Term};
 use std::alloc::{AllocError, Global};
 use std::mem::replace;
 
@@ -36,7 +37,7 @@ fn nothing() -> Around<'static>
     }
 }
 
-/// Flat blocks, which hold no application, select, update and `old`, behind what instances say of terms that stand behind so many incarnations. All of
+/// Flat blocks, which hold no application, select, update and `old`, behind what lines say of terms that stand behind so many incarnations. All of
 /// it is copied.
 ///
 /// Only want of memory is an error; 2^32 incarnations and terms count as such.
@@ -44,10 +45,10 @@ pub fn behind(
     alloc: Global,
     count: u32,
     terms: &[Term],
-    instances: &[Instance],
+    lines: &[Line],
     flats: &[PassiveBlock],
 ) -> Result<Vec<PassiveBlock>, AllocError>
-    ensures { IfOk result (λ made. (fs : List Fun) → PlainBlocks (map passive_block_of flats.now) → map passive_block_of made.items ≡ in_front (stated count (terms_in fs terms.now) (instances_of instances.now)) (map passive_block_of flats.now)) }
+    ensures { IfOk result (λ made. (fs : List Fun) → PlainBlocks (map passive_block_of flats.now) → map passive_block_of made.items ≡ in_front (stated count (terms_in fs terms.now) (instances_in (lines_of lines.now))) (map passive_block_of flats.now)) }
 {
     plain_blocks_stay();
     let around = nothing();
@@ -58,7 +59,7 @@ pub fn behind(
     if blocks.is_empty() {
         return Ok(blocks);
     }
-    let front = supposing(alloc, count, terms, instances)?;
+    let front = supposing_lines(alloc, count, terms, lines)?;
     let blank = PassiveBlock {
         cmds: Vec::new(alloc),
         next: Vec::new(alloc),

@@ -1,17 +1,12 @@
-//! What instances say, as commands.
+//! What congruences say.
 ghost use Rattle.std.specs.Prelude.{◌≡◌, ◌⊎◌, ◌+◌, ◌≤◌, List, Some, slice_get, IfOk};
 ghost use Rattle.bg_ast.specs.Syntax.{Fun};
-ghost use Rattle.bg_terms.specs.Instances.{equal, all_equal, congruent, instance_ex};
-ghost use Rattle.bg_incarnate.specs.Views.{cmds_of};
-ghost use Rattle.bg_flat.specs.Blocks.{supposed};
-ghost use Rattle.bg_flat.specs.Fronts.{stated};
+ghost use Rattle.bg_terms.specs.Instances.{equal, all_equal, congruent};
 ghost use Rattle.bg_term_table.specs.Views.{meaning, meanings, listed, term_of, terms_in};
-ghost use Rattle.bg_term_table.specs.Instances.{instance_of, instances_of};
 
 use crate::build::{NOWHERE, both, equal, implied, reads};
 use bg_ast::resolved::Expr;
-use bg_incarnate::PassiveCmd;
-use bg_term_table::{Instance, Term, copy, is_one_head};
+use bg_term_table::{Term, copy, is_one_head};
 use std::alloc::{AllocError, Global};
 
 /// What says that both are equal.
@@ -96,32 +91,4 @@ pub fn numbered(
         return Ok(Expr::Truth(NOWHERE, true));
     };
     congruence(alloc, count, a, b, s, t)
-}
-
-/// What an instance says, where the terms stand behind so many incarnations.
-fn said(alloc: Global, count: u32, terms: &[Term], instance: &Instance) -> Result<Expr, AllocError>
-    ensures { IfOk result (λ z. (fs : List Fun) → meaning z ≡ instance_ex count (terms_in fs terms.now) (instance_of instance.now)) }
-{
-    match instance {
-        Instance::Congruent(a, b) => numbered(alloc, count, terms, *a, *b),
-    }
-}
-
-/// Commands that suppose what instances say, where the terms stand behind so many incarnations.
-pub fn supposing(
-    alloc: Global,
-    count: u32,
-    terms: &[Term],
-    instances: &[Instance],
-) -> Result<Vec<PassiveCmd>, AllocError>
-    ensures { IfOk result (λ made. (fs : List Fun) → cmds_of made.items ≡ supposed (stated count (terms_in fs terms.now) (instances_of instances.now))) }
-{
-    let mut made = Vec::new(alloc);
-    let mut i = 0;
-    while i < instances.len() {
-        let one = said(alloc, count, terms, &instances[i])?;
-        made.push(PassiveCmd::Supposes(None, one))?;
-        i += 1;
-    }
-    Ok(made)
 }

@@ -18,7 +18,7 @@ use Rattle.bg_tree.specs.declared.outcome.Budget.{Budget}
 use Rattle.bg_rounds.specs.Outcomes.{NoneUnknown}
 use Rattle.bg_rounds.proofs.Laws.{inductive, greatest, both_ways}
 use Rattle.bg_rounds.proofs.Lists.{has_below}
-use Rattle.bg_term_table.specs.Instances.{instances_of}
+use Rattle.bg_term_table.specs.Lines.{lines_of}
 use Rattle.bg_task.specs.Certified.{HasCertificate}
 use Rattle.bg_houdini.specs.declared.proof.Proof.{Proof}
 use Rattle.bg_houdini.specs.declared.outcome.Outcome.{Outcome}
@@ -74,14 +74,14 @@ module _ (budget : Budget) (p : r.Program) (o : Outcome) (hold : CertificatesHol
 
 -- each place of a retained candidate has a certificate under what is retained
 pub certified : (budget : Budget) (p : r.Program) (o : Outcome) → IsTrueOutcome budget p o → (t : Place) (b : ℕ) → Contains (places (meaning_of p)) t → t.candidate ≡ Some b → has o.inferred.retained b ≡ true
-    → (proof : Proof) × HasCertificate (meaning_of p) (has o.inferred.retained) t (instances_of proof.instances.items) proof.cert
+    → (proof : Proof) × HasCertificate (meaning_of p) (has o.inferred.retained) t (lines_of proof.lines.items) proof.cert
 certified budget p o truth t b there is here =
     let q = meaning_of p in
     let k = as_task q t b there is in
     let c = truth.inferred.certificates k.0 (get_below (tasks_of q) k.0 t k.1) (ap (has o.inferred.retained) (candidate_is q k.0 t b k.1 is) ∙ here) in
     let h : TaskPasses q k.0 (has c.0.used) c.0.proof = c.2.shown in
     let cert = c.0.proof.cert in
-    let g : HasCertificate q (has c.0.used) t (instances_of c.0.proof.instances.items) cert = subst (λ (u : Place). HasCertificate q (has c.0.used) u (instances_of c.0.proof.instances.items) cert) (same_task q k.0 h.task t h.is_there k.1) h.so in
+    let g : HasCertificate q (has c.0.used) t (lines_of c.0.proof.lines.items) cert = subst (λ (u : Place). HasCertificate q (has c.0.used) u (lines_of c.0.proof.lines.items) cert) (same_task q k.0 h.task t h.is_there k.1) h.so in
     let names = (cert_of cert).nodes in
     let within : (x : ℕ) → uses names x ≡ true → has o.inferred.retained x ≡ true = λ x u. c.3 x (certificate_lies_in g.formula (has c.0.used) no_instance (cert_of cert) g.accepted x u) in (
       c.0.proof,

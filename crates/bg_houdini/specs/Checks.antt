@@ -9,7 +9,7 @@ use Rattle.bg_cert.specs.Certs.{cert_of, uses}
 use Rattle.bg_tree.specs.declared.outcome.Budget.{Budget}
 use Rattle.bg_check.specs.declared.verdict.Verdict.TheVariants as verdict
 use Rattle.bg_check.specs.Verdicts.{IsRight}
-use Rattle.bg_term_table.specs.Instances.{instances_of}
+use Rattle.bg_term_table.specs.Lines.{lines_of}
 use Rattle.bg_task.specs.Certified.{HasCertificate}
 use Rattle.bg_houdini.specs.declared.proof.Proof.{Proof}
 use Rattle.bg_houdini.specs.declared.reason.Reason.{Reason}
@@ -38,9 +38,9 @@ pub record IsSo (p : Prog) (k : ℕ) (says : Place → Type 0) : Type 0 where
 abbrev pub TaskFails : Prog → ℕ → (ℕ → Bool) → Type 0
 TaskFails p k set = IsSo p k (FailsAt p set)
 
--- the task's clauses behind these instances have this certificate under these candidates
+-- the task's clauses behind these lines have this certificate under these candidates
 abbrev pub TaskPasses : Prog → ℕ → (ℕ → Bool) → Proof → Type 0
-TaskPasses p k used proof = IsSo p k (λ t. HasCertificate p used t (instances_of proof.instances.items) proof.cert)
+TaskPasses p k used proof = IsSo p k (λ t. HasCertificate p used t (lines_of proof.lines.items) proof.cert)
 
 -- why the place isn't proved under the set: a run that fails there, or, where the flag says so, a cause to leave it unknown
 abbrev pub IsReason : Budget → Prog → (ℕ → Bool) → Place → Bool → Reason → Type 0

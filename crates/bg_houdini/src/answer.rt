@@ -17,7 +17,7 @@ use bg_rounds::{Answer, Finding, Kept};
 use bg_tree::Budget;
 use std::alloc::{AllocError, Global};
 
-/// A certificate behind instances with the candidates that it uses.
+/// A certificate behind lines with the candidates that it uses.
 fn kept(alloc: Global, proof: Proof, candidates: u32) -> Result<Kept<Proof>, AllocError>
     ensures proof { IfOk result (λ made. made.proof ≡ proof) }
     ensures used { IfOk result (λ made. AreUsed candidates proof.cert made.used) }
@@ -37,8 +37,8 @@ pub fn answer(
 {
     accepted_where_used();
     match verdict {
-        Verdict::Proved(instances, cert) => {
-            let proof = Proof { instances, cert };
+        Verdict::Proved(lines, cert) => {
+            let proof = Proof { lines, cert };
             Ok(Answer::Passes(kept(alloc, proof, candidates)?))
         }
         Verdict::Refuted(cex) => Ok(Answer::Drops(Finding {

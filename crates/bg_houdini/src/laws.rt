@@ -13,7 +13,7 @@ ghost use Rattle.bg_tree.specs.declared.outcome.Budget.{Budget};
 ghost use Rattle.bg_sound.specs.Told.{Why};
 ghost use Rattle.bg_sound.specs.Sound.{IsSound};
 ghost use Rattle.bg_check.specs.declared.verdict.Cause.{Cause};
-ghost use Rattle.bg_term_table.specs.Instances.{instances_of};
+ghost use Rattle.bg_term_table.specs.Lines.{lines_of};
 ghost use Rattle.bg_task.specs.Certified.{HasCertificate};
 ghost use Rattle.bg_rounds.specs.Outcomes.{NoneUnknown};
 ghost use Rattle.bg_houdini.specs.declared.outcome.Outcome.{Outcome};
@@ -24,11 +24,11 @@ ghost use Rattle.bg_houdini.specs.Told.{outcome_of};
 use bg_check::laws::right_verdicts_are_true;
 use bg_task::laws::proved_places_do_not_fail;
 
-/// Each place of a retained candidate of a true outcome has a certificate that is accepted for its clauses, behind instances, under what
+/// Each place of a retained candidate of a true outcome has a certificate that is accepted for its clauses, behind lines, under what
 /// is retained.
 pub fn retained_places_have_certificates()
     ensures { (budget : Budget) (p : Program) (o : Outcome) (t : Place) (b : ℕ) → IsTrueOutcome budget p o →
-        Contains (places (meaning_of p)) t → t.candidate ≡ Some b → has o.inferred.retained b ≡ true → (proof : Proof) × HasCertificate (meaning_of p) (has o.inferred.retained) t (instances_of proof.instances.items) proof.cert }
+        Contains (places (meaning_of p)) t → t.candidate ≡ Some b → has o.inferred.retained b ≡ true → (proof : Proof) × HasCertificate (meaning_of p) (has o.inferred.retained) t (lines_of proof.lines.items) proof.cert }
 {}
 
 /// The retained set of a true outcome is inductive: no place of a candidate in it fails under it.

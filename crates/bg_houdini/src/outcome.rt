@@ -2,7 +2,7 @@
 use crate::{Proof, Reason};
 use bg_check::Judged;
 
-/// The retained candidates, the history of the dropped ones and the kept certificates behind instances, by the number of the task; and
+/// The retained candidates, the history of the dropped ones and the kept certificates behind lines, by the number of the task; and
 /// what is known of each ordinary place under the retained candidates, by implementation and place.
 #[derive(Drop)]
 pub struct Outcome {

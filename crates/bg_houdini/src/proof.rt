@@ -1,10 +1,10 @@
 //! Why a task passes.
 use bg_cert::Cert;
-use bg_term_table::Instance;
+use bg_term_table::Line;
 
-/// A certificate of the clauses of a place behind instances, and these instances.
+/// A certificate of the clauses of a place behind lines, and these lines.
 #[derive(Drop)]
 pub struct Proof {
-    pub instances: Vec<Instance>,
+    pub lines: Vec<Line>,
     pub cert: Cert,
 }

@@ -19,7 +19,7 @@ use Rattle.bg_cert.specs.Walks.{no_instance}
 use Rattle.bg_fits.specs.Scalars.{is_over_scalars}
 use Rattle.bg_forms.specs.Worth.{bools_at}
 use Rattle.bg_clause.specs.Tables.{there_in}
-use Rattle.bg_terms.specs.Instances.{Instance}
+use Rattle.bg_numbered.specs.Lines.{Line}
 use Rattle.bg_termed.specs.Clauses.{HasClauses}
 use Rattle.bg_task.specs.Certified.{HasCertificate}
 use Rattle.bg_task.proofs.LawTypes.{FunctionLaw, BodyLaw, PassiveLaw, FitLaw, DenyLaw, MetLaw, CertLaw, UsedLaw, UnitAtomLaw, NamedUnitLaw}
@@ -27,7 +27,7 @@ use Rattle.bg_task.proofs.Formulas.{plain_formula, plain_agree, meets_units}
 
 module _ (functions : FunctionLaw) (bodies : BodyLaw) (runs : PassiveLaw) (fits : FitLaw) (denies : DenyLaw) (met : MetLaw) (p : Prog) (t : IsTyped p) (o : is_over_scalars true p ≡ true) where
   -- a failing run gives a valuation that makes the clauses true, and the candidates as they are in the set
-  valued : (set : ℕ → Bool) (u : Place) (es : List Instance) (f : Formula) (h : HasClauses p u es f) (i : Interp) (s : State) (choices : List Choice) → Meets p i → IsState p u.implementation s → induction_run p set i u.implementation s choices ≡ Failed u.spot → (v : Valuation) × ((clauses_true v f.atoms f.clauses ≡ true) × ((b : ℕ) → bools_at h.encoding.named b ≡ true → there_in f.candidates v.truths b ≡ set b))
+  valued : (set : ℕ → Bool) (u : Place) (es : List Line) (f : Formula) (h : HasClauses p u es f) (i : Interp) (s : State) (choices : List Choice) → Meets p i → IsState p u.implementation s → induction_run p set i u.implementation s choices ≡ Failed u.spot → (v : Valuation) × ((clauses_true v f.atoms f.clauses ≡ true) × ((b : ℕ) → bools_at h.encoding.named b ≡ true → there_in f.candidates v.truths b ≡ set b))
   valued set u es f h i s choices meets state e =
       let k = u.implementation in
       let m = h.implementation in
@@ -41,7 +41,7 @@ module _ (functions : FunctionLaw) (bodies : BodyLaw) (runs : PassiveLaw) (fits 
 
   module _ (certs : CertLaw) (used : UsedLaw) (units : UnitAtomLaw) (named : NamedUnitLaw) where
     -- where the clauses accept a certificate
-    pub no_failure_of : (set : ℕ → Bool) (u : Place) (es : List Instance) (f : Formula) → HasClauses p u es f → (cert : CertOf) → AtomsAgree cert.table → Accepts f set no_instance cert → (i : Interp) (s : State) (choices : List Choice) → Fails p set u i s choices → ⊥
+    pub no_failure_of : (set : ℕ → Bool) (u : Place) (es : List Line) (f : Formula) → HasClauses p u es f → (cert : CertOf) → AtomsAgree cert.table → Accepts f set no_instance cert → (i : Interp) (s : State) (choices : List Choice) → Fails p set u i s choices → ⊥
     no_failure_of set u es f h cert agree accepted i s choices fails =
         let a = h.encoding in
         let plain = plain_formula a.first a.terms a.named a.rows u.spot a.blocks f h.clauses in
@@ -50,6 +50,6 @@ module _ (functions : FunctionLaw) (bodies : BodyLaw) (runs : PassiveLaw) (fits 
         certs f set no_instance cert (plain_agree a.first a.rows f h.is_encoding.denials plain) agree (λ j cs g. absurd (let bad : ⊥ = cc in bad)) accepted
         v.0 v.1.0 met (λ j cs g. absurd (let bad : ⊥ = cc in bad))
 
-    pub no_failure : (set other : ℕ → Bool) (u : Place) (es : List Instance) (cert : Cert) → HasCertificate p set u es cert → ((c : ℕ) → uses (cert_of cert).nodes c ≡ true → other c ≡ true) → (i : Interp) (s : State) (choices : List Choice) → Fails p other u i s choices → ⊥
+    pub no_failure : (set other : ℕ → Bool) (u : Place) (es : List Line) (cert : Cert) → HasCertificate p set u es cert → ((c : ℕ) → uses (cert_of cert).nodes c ≡ true → other c ≡ true) → (i : Interp) (s : State) (choices : List Choice) → Fails p other u i s choices → ⊥
     no_failure set other u es cert c us =
         no_failure_of other u es c.formula c.is.clauses (cert_of cert) (table_agrees cert.table.items) (used c.formula set other no_instance (cert_of cert) c.accepted us)

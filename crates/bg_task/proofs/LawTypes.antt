@@ -33,9 +33,10 @@ use Rattle.bg_clause.specs.Tables.{there_in}
 use Rattle.bg_clause.specs.Whole.{clauses_of}
 use Rattle.bg_atoms.specs.Sorted.{blocks_sorted}
 use Rattle.bg_faithful.specs.Encoded.{Encoding}
-use Rattle.bg_terms.specs.Instances as terms
-use Rattle.bg_termed.specs.Termed.{IsTabled, sorts_in, behind_in}
-use Rattle.bg_termed.specs.Clauses.{IsEncoding}
+use Rattle.bg_terms.specs.Flat.{HaveNoBodies}
+use Rattle.bg_numbered.specs.Lines.{Line}
+use Rattle.bg_termed.specs.Termed.{IsTabled}
+use Rattle.bg_termed.specs.Lined.{HasFlats, IsLinedEncoding, lined_behind, lined_sorts}
 use Rattle.bg_flat.specs.Mapless.{are_mapless}
 use Rattle.bg_flat_clauses.specs.Linear.{LinearBlocks}
 use Rattle.bg_fits.specs.Scalars.{is_over_scalars}
@@ -78,7 +79,7 @@ abbrev pub MetLaw : Type 0
 MetLaw =
     (p : Prog) (k : ℕ) (m : Impl) (q : Proc) → IsTyped p → is_over_scalars true p ≡ true →
     slice_get p.implementations k ≡ Some m → procedure_of p m.procedure ≡ Some q →
-    (instances : List terms.Instance) (a : Encoding) → IsEncoding p k m q instances a →
+    (lines : List Line) (a : Encoding) → IsLinedEncoding p k m q lines a →
     (target : Spot) (f : Formula) → clauses_of a.first a.named a.terms a.rows target a.blocks ≡ Ok f →
     (i : Interp) (values : List Val) (set : ℕ → Bool) → IsInterp p i → are_of (incarnations_in p k m q) values ≡ true →
     is_well (slice_get (equations set target (passive_scope p i values) (passives_in p k m q)) 0) ≡ false →
@@ -116,7 +117,7 @@ abbrev pub SortLaw : Type 0
 SortLaw =
     (p : Prog) (k : ℕ) (m : Impl) (q : Proc) → IsTyped p → is_over_scalars true p ≡ true →
     slice_get p.implementations k ≡ Some m → procedure_of p m.procedure ≡ Some q →
-    (instances : List terms.Instance) → blocks_sorted (sorts_in p k m q) p.candidates (behind_in p k m q instances) ≡ true
+    (lines : List Line) → blocks_sorted (lined_sorts p k m q lines) p.candidates (lined_behind p k m q lines) ≡ true
 
 -- ---- laws of programs whose functions have tables, for programs over scalars
 
@@ -133,11 +134,15 @@ LinearLaw =
     (p : Prog) (k : ℕ) (m : Impl) (q : Proc) → IsTyped p → is_over_scalars true p ≡ true →
     slice_get p.implementations k ≡ Some m → procedure_of p m.procedure ≡ Some q → LinearBlocks p.candidates (passives_in p k m q)
 
+abbrev pub FlatsLaw : Type 0
+FlatsLaw =
+    (p : Prog) (k : ℕ) (m : Impl) (q : Proc) → IsTabled p → slice_get p.implementations k ≡ Some m → procedure_of p m.procedure ≡ Some q →
+    are_mapless (incarnations_in p k m q) ≡ true → HasFlats p k m q
+
 abbrev pub AnyMetLaw : Type 0
 AnyMetLaw =
-    (p : Prog) (k : ℕ) (m : Impl) (q : Proc) → IsTabled p → slice_get p.implementations k ≡ Some m → procedure_of p m.procedure ≡ Some q →
-    are_mapless (incarnations_in p k m q) ≡ true →
-    (instances : List terms.Instance) (a : Encoding) → IsEncoding p k m q instances a →
+    (p : Prog) (k : ℕ) (m : Impl) (q : Proc) → HaveNoBodies p.functions → HasFlats p k m q →
+    (lines : List Line) (a : Encoding) → IsLinedEncoding p k m q lines a →
     (target : Spot) (f : Formula) → clauses_of a.first a.named a.terms a.rows target a.blocks ≡ Ok f →
     (i : Interp) (values : List Val) (set : ℕ → Bool) → IsInterp p i → are_of (incarnations_in p k m q) values ≡ true →
     is_well (slice_get (equations set target (passive_scope p i values) (passives_in p k m q)) 0) ≡ false →
@@ -146,13 +151,14 @@ AnyMetLaw =
 
 abbrev pub AnySortLaw : Type 0
 AnySortLaw =
-    (p : Prog) (k : ℕ) (m : Impl) (q : Proc) → IsTabled p → slice_get p.implementations k ≡ Some m → procedure_of p m.procedure ≡ Some q →
-    are_mapless (incarnations_in p k m q) ≡ true → LinearBlocks p.candidates (passives_in p k m q) →
-    (instances : List terms.Instance) → blocks_sorted (sorts_in p k m q) p.candidates (behind_in p k m q instances) ≡ true
+    (p : Prog) (k : ℕ) (m : Impl) (q : Proc) → HasFlats p k m q → LinearBlocks p.candidates (passives_in p k m q) →
+    (lines : List Line) → blocks_sorted (lined_sorts p k m q lines) p.candidates (lined_behind p k m q lines) ≡ true
 
-pub met_law : TabledLaw → MaplessLaw → AnyMetLaw → MetLaw
-met_law tabled mapless met p k m q t o im pr = met p k m q (tabled p t o) im pr (mapless p k m q t o im pr)
+pub met_law : TabledLaw → MaplessLaw → FlatsLaw → AnyMetLaw → MetLaw
+met_law tabled mapless flats met p k m q t o im pr =
+    let its = tabled p t o in
+    met p k m q its.bodies (flats p k m q its im pr (mapless p k m q t o im pr))
 
-pub sort_law : TabledLaw → MaplessLaw → LinearLaw → AnySortLaw → SortLaw
-sort_law tabled mapless linear sorted p k m q t o im pr =
-    sorted p k m q (tabled p t o) im pr (mapless p k m q t o im pr) (linear p k m q t o im pr)
+pub sort_law : TabledLaw → MaplessLaw → FlatsLaw → LinearLaw → AnySortLaw → SortLaw
+sort_law tabled mapless flats linear sorted p k m q t o im pr =
+    sorted p k m q (flats p k m q (tabled p t o) im pr (mapless p k m q t o im pr)) (linear p k m q t o im pr)

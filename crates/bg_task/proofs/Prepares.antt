@@ -50,9 +50,10 @@ use Rattle.bg_linear.specs.declared.scalar.Sort.{Sort}
 use Rattle.bg_sorts.specs.Passive.{ArrivesAt}
 use Rattle.bg_atoms.specs.Sorted.{blocks_sorted}
 use Rattle.bg_faithful.specs.Encoded.{Encodes}
-use Rattle.bg_terms.specs.Instances.{Instance}
+use Rattle.bg_numbered.specs.Lines.{Line}
 use Rattle.bg_flat.specs.Blocks.{in_front}
-use Rattle.bg_termed.specs.Termed.{count_in, sorts_in, behind_in}
+use Rattle.bg_termed.specs.Termed.{count_in}
+use Rattle.bg_termed.specs.Lined.{lined_behind, lined_sorts}
 use Rattle.bg_task.specs.declared.cut.Cut.{Cut}
 use Rattle.bg_task.specs.declared.prepared.Prepared.{Prepared}
 use Rattle.bg_task.specs.Prepared.{IsPrepared, encoding_over, frame_declared, firsts_of}
@@ -140,7 +141,7 @@ module _ (p : r.Program) (n : ℕ) (w : Prepared) (h : IsPrepared p n w) where
       ∙ ap (λ l. map next_in (arrived (meaning_of p) (frame_decls impl proc) l).arrivals) blocks_are)
 
   -- an operation that leaves the range, of those that count for a place
-  pub outside_here : (es : List Instance) (spot : Spot) (candidate : Option ℕ) (x : Cut) (o : OutOfRange) (named : List Bool) (rows : List AtomOf) (forms : List FormBlock) → IsSliceFor p n w es spot x → forms ≡ (encoding_in x).blocks → clauses_of (encoding_in x).first named (encoding_in x).terms rows spot forms ≡ Err o → HasOutside (meaning_of p) (record { implementation = n; spot = spot; candidate = candidate }) es o
+  pub outside_here : (es : List Line) (spot : Spot) (candidate : Option ℕ) (x : Cut) (o : OutOfRange) (named : List Bool) (rows : List AtomOf) (forms : List FormBlock) → IsSliceFor p n w es spot x → forms ≡ (encoding_in x).blocks → clauses_of (encoding_in x).first named (encoding_in x).terms rows spot forms ≡ Err o → HasOutside (meaning_of p) (record { implementation = n; spot = spot; candidate = candidate }) es o
   outside_here es spot candidate x o named rows forms cut b e =
       record {
         implementation = impl;
@@ -157,7 +158,7 @@ module _ (p : r.Program) (n : ℕ) (w : Prepared) (h : IsPrepared p n w) where
       by (Some y) g k = let same : y ≡ o = cc in g ∙ ap Some same
 
   -- the clauses of a place
-  abbrev pub clauses_here : (es : List Instance) (spot : Spot) (candidate : Option ℕ) (x : Cut) (f : Formula) → IsSliceFor p n w es spot x → ClausesOf x (record { implementation = n; spot = spot; candidate = candidate }) f → HasOwnClauses (meaning_of p) (record { implementation = n; spot = spot; candidate = candidate }) es f
+  abbrev pub clauses_here : (es : List Line) (spot : Spot) (candidate : Option ℕ) (x : Cut) (f : Formula) → IsSliceFor p n w es spot x → ClausesOf x (record { implementation = n; spot = spot; candidate = candidate }) f → HasOwnClauses (meaning_of p) (record { implementation = n; spot = spot; candidate = candidate }) es f
   clauses_here es spot candidate x f cut e =
       record {
         clauses = record { implementation = impl; procedure = proc; is_there = impl_at; is_its = proc_at; encoding = encoding_in x; is_encoding = cut.encoding h; clauses = e };
@@ -189,23 +190,23 @@ listed_some ss bs None a e h = absurd (let bad : ⊥ = cc in bad)
 listed_some ss bs (Some x) a e h = let same : x ≡ a = cc in subst (λ y. rows_in y.rows ≡ rows_of ss bs) same h
 
 -- with the sorts, the number of candidates and the passive blocks of the implementation
-pub own_here : (p : s.Prog) (n : ℕ) (m : s.Impl) (q : s.Proc) (es : List Instance) (ss : List Sort) (k : ℕ) (bs : List PassiveBlock) (a : Atoms) → ss ≡ sorts_in p n m q → k ≡ p.candidates → bs ≡ behind_in p n m q es → Encodes ss k bs (encoding_over k a) → blocks_of a.blocks ≡ blocks_over ss a.first (rows_in a.rows) bs → rows_in a.rows ≡ rows_of ss bs → IsOwn p n m q es (encoding_over p.candidates a)
+pub own_here : (p : s.Prog) (n : ℕ) (m : s.Impl) (q : s.Proc) (es : List Line) (ss : List Sort) (k : ℕ) (bs : List PassiveBlock) (a : Atoms) → ss ≡ lined_sorts p n m q es → k ≡ p.candidates → bs ≡ lined_behind p n m q es → Encodes ss k bs (encoding_over k a) → blocks_of a.blocks ≡ blocks_over ss a.first (rows_in a.rows) bs → rows_in a.rows ≡ rows_of ss bs → IsOwn p n m q es (encoding_over p.candidates a)
 own_here p n m q es ss k bs a sorts count passives encodes exact listed =
     let x = subst (λ l. Encodes l k bs (encoding_over k a)) sorts encodes in
-    let y = subst (λ c. Encodes (sorts_in p n m q) c bs (encoding_over c a)) count x in
+    let y = subst (λ c. Encodes (lined_sorts p n m q es) c bs (encoding_over c a)) count x in
     record {
-      encodes = subst (λ l. Encodes (sorts_in p n m q) p.candidates l (encoding_over p.candidates a)) passives y;
-      blocks = exact ∙ ap (λ l. blocks_over l a.first (rows_in a.rows) bs) sorts ∙ ap (blocks_over (sorts_in p n m q) a.first (rows_in a.rows)) passives;
+      encodes = subst (λ l. Encodes (lined_sorts p n m q es) p.candidates l (encoding_over p.candidates a)) passives y;
+      blocks = exact ∙ ap (λ l. blocks_over l a.first (rows_in a.rows) bs) sorts ∙ ap (blocks_over (lined_sorts p n m q es) a.first (rows_in a.rows)) passives;
       named = refl;
-      rows = listed ∙ ap (λ l. rows_of l bs) sorts ∙ ap (rows_of (sorts_in p n m q)) passives;
+      rows = listed ∙ ap (λ l. rows_of l bs) sorts ∙ ap (rows_of (lined_sorts p n m q es)) passives;
     }
 
--- sorts of the blocks behind instances
-pub sorted_own : SortLaw → (p : s.Prog) (n : ℕ) (m : s.Impl) (q : s.Proc) (es : List Instance) → IsTyped p → is_over_scalars true p ≡ true → slice_get p.implementations n ≡ Some m → procedure_of p m.procedure ≡ Some q → (ss : List Sort) (k : ℕ) (bs : List PassiveBlock) → ss ≡ sorts_in p n m q → k ≡ p.candidates → bs ≡ behind_in p n m q es → blocks_sorted ss k bs ≡ true
+-- sorts of the blocks behind lines
+pub sorted_own : SortLaw → (p : s.Prog) (n : ℕ) (m : s.Impl) (q : s.Proc) (es : List Line) → IsTyped p → is_over_scalars true p ≡ true → slice_get p.implementations n ≡ Some m → procedure_of p m.procedure ≡ Some q → (ss : List Sort) (k : ℕ) (bs : List PassiveBlock) → ss ≡ lined_sorts p n m q es → k ≡ p.candidates → bs ≡ lined_behind p n m q es → blocks_sorted ss k bs ≡ true
 sorted_own law p n m q es t o im pr ss k bs sorts count passives =
     ap (λ x. blocks_sorted x k bs) sorts
-    ∙ (ap (λ x. blocks_sorted (sorts_in p n m q) x bs) count
-    ∙ (ap (λ x. blocks_sorted (sorts_in p n m q) p.candidates x) passives ∙ law p n m q t o im pr es))
+    ∙ (ap (λ x. blocks_sorted (lined_sorts p n m q es) x bs) count
+    ∙ (ap (λ x. blocks_sorted (lined_sorts p n m q es) p.candidates x) passives ∙ law p n m q t o im pr es))
 
 pub none_in_front : (xs : List PassiveBlock) → in_front [] xs ≡ xs
 none_in_front [] = refl

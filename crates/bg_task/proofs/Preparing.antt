@@ -1,7 +1,8 @@
--- Terms, flat blocks and sorts of an implementation that is prepared, and its blocks of forms behind instances.
-use Rattle.std.proofs.Common.{◌≡◌, ℕ, ◌+◌, true, List, [], ◌++◌, ℤ, map, Some, sym, ap, ◌∙◌, subst}
+-- Terms, flat blocks and sorts of an implementation that is prepared, and its blocks of forms behind lines.
+use Rattle.std.proofs.Common.{◌≡◌, ℕ, ◌+◌, true, List, [], ◌++◌, ℤ, map, take, Some, sym, ap, ◌∙◌, subst}
 use Rattle.std.specs.Prelude.{slice_get}
-use Rattle.std.proofs.lemmas.List.{map-append}
+use Rattle.std.proofs.lemmas.List.{take-map}
+use Rattle.std.proofs.Math.Seq.{take-append_seam}
 use Rattle.bg_ast.specs.Values.{Ty}
 use Rattle.bg_ast.specs.Syntax as s
 use Rattle.bg_ast.specs.Resolved as r
@@ -21,15 +22,19 @@ use Rattle.bg_atoms.specs.Sorted.{blocks_sorted}
 use Rattle.bg_atoms.specs.declared.product.Atoms.{Atoms}
 use Rattle.bg_faithful.specs.Encoded.{Encodes}
 use Rattle.bg_terms.specs.Terms.{Term}
-use Rattle.bg_terms.specs.Typed.{type_of}
-use Rattle.bg_terms.specs.Instances.{Instance}
+use Rattle.bg_terms.specs.Typed.{type_of, types_with}
+use Rattle.bg_numbered.specs.Lines.{Line, after_lines, instances_in}
 use Rattle.bg_flat.specs.Blocks.{in_front}
 use Rattle.bg_flat.specs.Fronts.{stated}
 use Rattle.bg_flat.specs.Mapless.{are_mapless}
 use Rattle.bg_flatten.specs.Numbered.{terms_of, flat_of}
 use Rattle.bg_flatten.specs.Plain.{PlainBlocks}
+use Rattle.bg_kinds.specs.declared.kinds.ValueType.{ValueType}
+use Rattle.bg_kinds.specs.Views.{ref_in}
+use Rattle.bg_term_table.specs.declared.table.Term as kept
 use Rattle.bg_term_table.specs.Views as table
-use Rattle.bg_termed.specs.Termed.{IsTabled, count_in, terms_in, flats_in, types_in, sorts_in, behind_in}
+use Rattle.bg_termed.specs.Termed.{IsTabled, count_in, terms_in, flats_in, types_in, sorts_in}
+use Rattle.bg_termed.specs.Lined.{lined_behind, lined_sorts, lined_terms, lined_types}
 use Rattle.bg_task.specs.declared.prepared.Prepared.{Prepared}
 use Rattle.bg_task.specs.Prepared.{IsPrepared, encoding_over}
 use Rattle.bg_task.specs.Cuts.{IsOwn}
@@ -83,13 +88,13 @@ module _ (p : s.Prog) (n : ℕ) (m : s.Impl) (q : s.Proc) where
   targets_all tys ts zs a b e =
       e ∙ (ap (λ x. targets_of x ts) a ∙ ap (targets_of (types_in p n m q)) b)
 
--- flat blocks behind no instance
-pub behind_none : (p : s.Prog) (n : ℕ) (m : s.Impl) (q : s.Proc) (fs : List PassiveBlock) → fs ≡ flats_in p n m q → fs ≡ behind_in p n m q []
+-- flat blocks behind no line
+pub behind_none : (p : s.Prog) (n : ℕ) (m : s.Impl) (q : s.Proc) (fs : List PassiveBlock) → fs ≡ flats_in p n m q → fs ≡ lined_behind p n m q []
 behind_none p n m q fs e = e ∙ sym (none_in_front (flats_in p n m q))
 
--- ---- behind instances
+-- ---- behind lines
 
-module _ (p : r.Program) (n : ℕ) (w : Prepared) (h : IsPrepared p n w) (t : IsTyped (meaning_of p)) (o : is_over_scalars true (meaning_of p) ≡ true) (some : w.terms.items ≡ [] → ⊥) where
+module _ (p : r.Program) (n : ℕ) (w : Prepared) (h : IsPrepared p n w) where
   abbrev P : s.Prog
   P = meaning_of p
 
@@ -99,20 +104,47 @@ module _ (p : r.Program) (n : ℕ) (w : Prepared) (h : IsPrepared p n w) (t : Is
   abbrev Q : s.Proc
   Q = proc p n w h
 
-  pub plain_flats : PlainFlatLaw → PlainBlocks (map passive_block_of w.flats.items)
-  plain_flats law = subst PlainBlocks (sym (h.flats some)) (law P n M Q t o (impl_at p n w h) (proc_at p n w h))
+  abbrev incs : List Ty
+  incs = incarnations_in P n M Q
 
-  pub behind_is : (es : List Instance) (bs : List PassiveBlock) → bs ≡ in_front (stated w.count (table.terms_in P.functions w.terms.items) es) (map passive_block_of w.flats.items) → bs ≡ behind_in P n M Q es
-  behind_is es bs e =
+  -- the types of the incarnations
+  pub incs_front : (ks xs : List ValueType) → xs ≡ w.kinds.items → ks ≡ take w.count xs → map ref_in ks ≡ incs
+  incs_front ks xs same e =
+      ap (map ref_in) (e ∙ ap (take w.count) same)
+      ∙ sym (take-map ref_in w.count w.kinds.items)
+      ∙ ap (take w.count) h.kinds
+      ∙ ap (λ k. take k (types_in P n M Q)) h.count
+      ∙ take-append_seam incs (map type_of (terms_in P n M Q))
+
+  -- the terms with those that lines bring
+  pub terms_lined : (ls : List Line) (tys : List Ty) (olds : List kept.Term) (ts : List Term) → tys ≡ incs → olds ≡ w.terms.items → ts ≡ after_lines tys (table.terms_in P.functions olds) ls → ts ≡ lined_terms P n M Q ls
+  terms_lined ls tys olds ts a b e =
       e
-      ∙ (ap (λ k. in_front (stated k (table.terms_in P.functions w.terms.items) es) (map passive_block_of w.flats.items)) h.count
-      ∙ (ap (λ ts. in_front (stated (count_in P n M Q) ts es) (map passive_block_of w.flats.items)) h.terms
-      ∙ ap (λ fs. in_front (stated (count_in P n M Q) (terms_in P n M Q) es) fs) (h.flats some)))
+      ∙ ap (λ is. after_lines is (table.terms_in P.functions olds) ls) a
+      ∙ ap (λ us. after_lines incs us ls) (ap (table.terms_in P.functions) b ∙ h.terms)
 
-  pub sorted_behind : SortLaw → (es : List Instance) (ss : List Sort) (k : ℕ) (bs : List PassiveBlock) → ss ≡ w.sorts.items → k ≡ P.candidates → bs ≡ behind_in P n M Q es → blocks_sorted ss k bs ≡ true
-  sorted_behind law es ss k bs a b c =
-      sorted_own law P n M Q es t o (impl_at p n w h) (proc_at p n w h) ss k bs (a ∙ h.sorts) b c
+  -- the sorts of what stands for values of incarnations and of these
+  pub sorts_lined : (ls : List Line) (tys : List Ty) (ts : List Term) (ss : List Sort) → tys ≡ incs → ts ≡ lined_terms P n M Q ls → ss ≡ map flat_sort (types_with tys ts) → ss ≡ lined_sorts P n M Q ls
+  sorts_lined ls tys ts ss a b e =
+      e
+      ∙ ap (λ is. map flat_sort (types_with is ts)) a
+      ∙ ap (λ us. map flat_sort (types_with incs us)) b
+      ∙ sorts_flat (lined_types P n M Q ls)
 
-  pub own_behind : (es : List Instance) (ss : List Sort) (k : ℕ) (bs : List PassiveBlock) (a : Atoms) → ss ≡ w.sorts.items → k ≡ P.candidates → bs ≡ behind_in P n M Q es → Encodes ss k bs (encoding_over k a) → blocks_of a.blocks ≡ blocks_over ss a.first (rows_in a.rows) bs → rows_in a.rows ≡ rows_of ss bs → IsOwn P n M Q es (encoding_over P.candidates a)
-  own_behind es ss k bs a x y z encodes exact listed =
-      own_here P n M Q es ss k bs a (x ∙ h.sorts) y z encodes exact listed
+  module _ (t : IsTyped (meaning_of p)) (o : is_over_scalars true (meaning_of p) ≡ true) (some : w.terms.items ≡ [] → ⊥) where
+    pub plain_flats : PlainFlatLaw → PlainBlocks (map passive_block_of w.flats.items)
+    plain_flats law = subst PlainBlocks (sym (h.flats some)) (law P n M Q t o (impl_at p n w h) (proc_at p n w h))
+
+    pub behind_is : (ls : List Line) (ts : List Term) (bs : List PassiveBlock) → ts ≡ lined_terms P n M Q ls → bs ≡ in_front (stated w.count ts (instances_in ls)) (map passive_block_of w.flats.items) → bs ≡ lined_behind P n M Q ls
+    behind_is ls ts bs same e =
+        e
+        ∙ (ap (λ k. in_front (stated k ts (instances_in ls)) (map passive_block_of w.flats.items)) h.count
+        ∙ (ap (λ us. in_front (stated (count_in P n M Q) us (instances_in ls)) (map passive_block_of w.flats.items)) same
+        ∙ ap (λ fs. in_front (stated (count_in P n M Q) (lined_terms P n M Q ls) (instances_in ls)) fs) (h.flats some)))
+
+    pub sorted_behind : SortLaw → (ls : List Line) (ss : List Sort) (k : ℕ) (bs : List PassiveBlock) → ss ≡ lined_sorts P n M Q ls → k ≡ P.candidates → bs ≡ lined_behind P n M Q ls → blocks_sorted ss k bs ≡ true
+    sorted_behind law ls ss k bs a b c =
+        sorted_own law P n M Q ls t o (impl_at p n w h) (proc_at p n w h) ss k bs a b c
+
+    pub own_behind : (ls : List Line) (ss : List Sort) (k : ℕ) (bs : List PassiveBlock) (a : Atoms) → ss ≡ lined_sorts P n M Q ls → k ≡ P.candidates → bs ≡ lined_behind P n M Q ls → Encodes ss k bs (encoding_over k a) → blocks_of a.blocks ≡ blocks_over ss a.first (rows_in a.rows) bs → rows_in a.rows ≡ rows_of ss bs → IsOwn P n M Q ls (encoding_over P.candidates a)
+    own_behind ls ss k bs a x y z encodes exact listed = own_here P n M Q ls ss k bs a x y z encodes exact listed

@@ -1,5 +1,5 @@
 -- The types of terms and of functions' values, one after the other, and the sorts of what stands for values.
-use Rattle.std.proofs.Common.{◌≡◌, ℕ, ◌+◌, ◌<◌, List, [], ◌∷◌, ◌++◌, length, drop, get_or, map, refl, sym, ap, ◌∙◌, append_assoc}
+use Rattle.std.proofs.Common.{◌≡◌, ℕ, ◌+◌, ◌<◌, List, [], ◌∷◌, ◌++◌, length, take, drop, get_or, map, refl, sym, ap, ◌∙◌, append_assoc}
 use Rattle.std.proofs.lemmas.List.{map-append}
 use Rattle.bg_ast.specs.Values.{Ty, IntTy, BoolTy, UserTy, MapTy}
 use Rattle.bg_ast.specs.Syntax as s
@@ -11,9 +11,11 @@ use Rattle.bg_kinds.specs.Views.{ref_in}
 use Rattle.bg_incarnate.proofs.Passing.{drop_item}
 use Rattle.bg_sorts.specs.Sorts.{sort_of_type}
 use Rattle.bg_terms.specs.Alike.{scalar_ty}
-use Rattle.bg_terms.specs.Typed.{type_of}
+use Rattle.bg_linear.specs.declared.scalar.Sort.{Sort}
+use Rattle.bg_terms.specs.Typed.{type_of, types_with}
 use Rattle.bg_term_table.specs.declared.table.Term as kept
 use Rattle.bg_term_table.specs.Views.{result_ty, term_of, terms_in}
+use Rattle.bg_term_table.proofs.Loops.{read_more}
 use Rattle.bg_task.specs.Sorts.{flat_sort}
 use Rattle.bg_flat_clauses.specs.Sorts.{flat_sorts}
 
@@ -46,6 +48,19 @@ one_sort IntTy = refl
 one_sort BoolTy = refl
 one_sort (UserTy u) = refl
 one_sort (MapTy ks t) = refl
+
+-- one more term
+pub next_sort : (fs : List s.Fun) (incs : List Ty) (ts : List kept.Term) (i : ℕ) (t : kept.Term) (made new : List Sort) (k : Sort) → i < length ts → t ≡ get_or ts i t → k ≡ flat_sort (type_of (term_of fs t)) → new ≡ made ++ k ∷ [] → made ≡ map flat_sort (types_with incs (terms_in fs (take i ts))) → new ≡ map flat_sort (types_with incs (terms_in fs (take (i + 1) ts)))
+next_sort fs incs ts i t made new k h at is more known =
+    let old = map type_of (terms_in fs (take i ts)) in
+    let last = type_of (term_of fs t) in
+    more
+    ∙ ap (λ l. l ++ k ∷ []) (known ∙ map-append flat_sort incs old)
+    ∙ append_assoc (map flat_sort incs) (map flat_sort old) (k ∷ [])
+    ∙ ap (λ x. map flat_sort incs ++ (map flat_sort old ++ x ∷ [])) is
+    ∙ ap (λ l. map flat_sort incs ++ l) (sym (map-append flat_sort old (last ∷ [])))
+    ∙ sym (map-append flat_sort incs (old ++ last ∷ []))
+    ∙ ap (λ l. map flat_sort (incs ++ l)) (sym (ap (map type_of) (read_more (term_of fs) ts i t h at) ∙ map-append type_of (terms_in fs (take i ts)) (term_of fs t ∷ [])))
 
 pub sorts_flat : (tys : List Ty) → map flat_sort tys ≡ flat_sorts tys
 sorts_flat [] = refl

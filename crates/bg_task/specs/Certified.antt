@@ -1,5 +1,5 @@
 -- Places whose clauses have a certificate, and places that have no clauses.
-use Rattle.std.specs.Prelude.{◌≡◌, ℕ, Bool, List, Some, length, slice_get}
+use Rattle.std.specs.Prelude.{◌≡◌, ℕ, Bool, true, List, Some, slice_get}
 use Rattle.bg_base.specs.declared.exact.OutOfRange.{OutOfRange}
 use Rattle.bg_ast.specs.Syntax.{Proc, Impl, Prog}
 use Rattle.bg_ast.specs.Execution.{Place}
@@ -10,25 +10,26 @@ use Rattle.bg_cert.specs.Certs.{Accepts, cert_of}
 use Rattle.bg_cert.specs.Walks.{no_instance}
 use Rattle.bg_formed.specs.Used.{refused}
 use Rattle.bg_faithful.specs.Encoded.{Encoding}
-use Rattle.bg_terms.specs.Instances.{Instance}
+use Rattle.bg_block_types.specs.Typed.{incarnations_in}
+use Rattle.bg_numbered.specs.Lines.{Line, are_there}
 use Rattle.bg_termed.specs.Termed.{terms_in}
-use Rattle.bg_termed.specs.There.{AreThere}
 use Rattle.bg_task.specs.Cuts.{IsOwn, HasOwnClauses}
 
--- the place's clauses behind instances, which are of terms that are there, have this certificate under a set of candidates
-pub record HasCertificate (p : Prog) (set : ℕ → Bool) (t : Place) (instances : List Instance) (cert : Cert) : Type 0 where
+-- the place's clauses behind lines, which name what is there, have this certificate under a set of candidates
+pub record HasCertificate (p : Prog) (set : ℕ → Bool) (t : Place) (lines : List Line) (cert : Cert) : Type 0 where
   pub formula : Formula
-  pub is : HasOwnClauses p t instances formula
-  pub there : AreThere (length (terms_in p t.implementation is.clauses.implementation is.clauses.procedure)) instances
+  pub is : HasOwnClauses p t lines formula
+  pub there :
+      are_there (incarnations_in p t.implementation is.clauses.implementation is.clauses.procedure) (terms_in p t.implementation is.clauses.implementation is.clauses.procedure) lines ≡ true
   pub accepted : Accepts formula set no_instance (cert_of cert)
 
--- the place has no clauses behind these instances: an operation of a relation's linear form leaves the range, the first of those that
+-- the place has no clauses behind these lines: an operation of a relation's linear form leaves the range, the first of those that
 -- count for the place
-pub record HasOutside (p : Prog) (t : Place) (instances : List Instance) (o : OutOfRange) : Type 0 where
+pub record HasOutside (p : Prog) (t : Place) (lines : List Line) (o : OutOfRange) : Type 0 where
   pub implementation : Impl
   pub procedure : Proc
   pub is_there : slice_get p.implementations t.implementation ≡ Some implementation
   pub is_its : procedure_of p implementation.procedure ≡ Some procedure
   pub encoding : Encoding
-  pub is_own : IsOwn p t.implementation implementation procedure instances encoding
+  pub is_own : IsOwn p t.implementation implementation procedure lines encoding
   pub is_refused : refused t.spot encoding.blocks ≡ Some o

@@ -3,6 +3,9 @@ pub mod Targets
 pub mod Spread
 pub mod Cuts
 pub mod Prepared
+pub mod Lined
+pub mod Lines
+pub mod Grown
 pub mod Slices
 pub mod Certified
 pub mod Made

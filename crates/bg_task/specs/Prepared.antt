@@ -40,7 +40,7 @@ frame_declared m q = q.params ++ (q.results ++ m.locals)
 
 -- the blocks of the implementation with this number, the first new incarnations at their arrivals, how many incarnations there are, its
 -- terms, its flat blocks where it has terms, the types of incarnations and terms, the sorts of what stands for these, the blocks of forms
--- behind no instance, and the targets of incarnations and terms
+-- behind no line, and the targets of incarnations and terms
 pub record IsPrepared (p : r.Program) (number : ℕ) (w : Prepared) : Type 0 where
   pub implementation : r.Impl
   pub procedure : r.Proc

@@ -13,8 +13,8 @@ use Rattle.bg_slice.specs.Marks.{marked_rows}
 use Rattle.bg_linear.specs.declared.scalar.Sort.{Sort}
 use Rattle.bg_atoms.specs.declared.product.Atoms.{Atoms}
 use Rattle.bg_faithful.specs.Encoded.{Encoding, Encodes}
-use Rattle.bg_terms.specs.Instances.{Instance}
-use Rattle.bg_termed.specs.Clauses.{IsEncoding}
+use Rattle.bg_numbered.specs.Lines.{Line}
+use Rattle.bg_termed.specs.Lined.{IsLinedEncoding}
 use Rattle.bg_task.specs.declared.cut.Cut.{Cut}
 use Rattle.bg_task.specs.declared.cut.Whole.{Whole}
 use Rattle.bg_task.specs.declared.cut.Whole.TheVariants.{Lent, Own}
@@ -49,12 +49,12 @@ pub record IsSliceBy (candidates : ℕ) (whole : Atoms) (t : Spot) (rows named :
   pub cut : IsCut candidates t (encoding_over candidates whole) (encoding_by whole t rows named)
   pub refusals : refused t (encoding_by whole t rows named).blocks ≡ refused t (encoding_over candidates whole).blocks
 
--- blocks of forms that encode the implementation with this number behind these instances, as its own ones do, cut down to what counts for
+-- blocks of forms that encode the implementation with this number behind these lines, as its own ones do, cut down to what counts for
 -- the target; the same operation that leaves the range counts, if any
-pub record IsSliceFor (p : r.Program) (number : ℕ) (w : Prepared) (instances : List Instance) (t : Spot) (c : Cut) : Type 0 where
+pub record IsSliceFor (p : r.Program) (number : ℕ) (w : Prepared) (lines : List Line) (t : Spot) (c : Cut) : Type 0 where
   pub whole : Encoding
-  pub own : (h : IsPrepared p number w) → IsOwn (meaning_of p) number (impl_of (named_of p.types) h.implementation) (proc_of (named_of p.types) h.procedure) instances whole
-  pub encoding : (h : IsPrepared p number w) → IsEncoding (meaning_of p) number (impl_of (named_of p.types) h.implementation) (proc_of (named_of p.types) h.procedure) instances (encoding_in c)
+  pub own : (h : IsPrepared p number w) → IsOwn (meaning_of p) number (impl_of (named_of p.types) h.implementation) (proc_of (named_of p.types) h.procedure) lines whole
+  pub encoding : (h : IsPrepared p number w) → IsLinedEncoding (meaning_of p) number (impl_of (named_of p.types) h.implementation) (proc_of (named_of p.types) h.procedure) lines (encoding_in c)
   pub cut : IsCut (meaning_of p).candidates t whole (encoding_in c)
   pub refusals : refused t (encoding_in c).blocks ≡ refused t whole.blocks
   pub spot : spot_of c.spot ≡ t

@@ -3,7 +3,7 @@ ghost use Rattle.std.specs.Prelude.{List, IfOk};
 ghost use Rattle.bg_ast.specs.Meaning.{meaning_of};
 ghost use Rattle.bg_ast.specs.Views.{program_of};
 ghost use Rattle.bg_places.specs.Views.{placed_of, spot_of};
-ghost use Rattle.bg_terms.specs.Instances as terms;
+ghost use Rattle.bg_numbered.specs.Lines as brought;
 ghost use Rattle.bg_task.specs.Prepared.{IsPrepared};
 ghost use Rattle.bg_task.specs.Slices.{IsSliceFor};
 ghost use Rattle.bg_task.specs.Made.{IsMade};
@@ -23,7 +23,7 @@ pub enum Made {
     Outside(OutOfRange),
 }
 
-/// The clauses of a place, over what counts for it, behind the instances for which that was made.
+/// The clauses of a place, over what counts for it, behind the lines for which that was made.
 ///
 /// Only want of memory is an error; 2^32 atoms count as such.
 pub fn place_clauses(
@@ -32,7 +32,7 @@ pub fn place_clauses(
     cut: &Cut<'_>,
 ) -> Result<Made, AllocError>
     requires prepared { IsPrepared (program_of question.program.now) question.place.now.implementation question.prepared.now }
-    ensures { IfOk result (λ made. (instances : List terms.Instance) → IsSliceFor (program_of question.entry.program.now) question.entry.place.now.implementation question.entry.prepared.now instances (spot_of question.entry.place.now.spot) cut.now → IsMade (meaning_of (program_of question.entry.program.now)) instances cut.now (placed_of question.entry.place.now).place made) }
+    ensures { IfOk result (λ made. (lines : List brought.Line) → IsSliceFor (program_of question.entry.program.now) question.entry.place.now.implementation question.entry.prepared.now lines (spot_of question.entry.place.now.spot) cut.now → IsMade (meaning_of (program_of question.entry.program.now)) lines cut.now (placed_of question.entry.place.now).place made) }
 {
     let atoms = atoms_in(cut);
     let names = Names {

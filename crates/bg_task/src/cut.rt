@@ -1,14 +1,14 @@
 //! What of an implementation's blocks of forms counts for a place.
-ghost use Rattle.std.specs.Prelude.{◌≡◌, length, true, IfOk};
+ghost use Rattle.std.specs.Prelude.{◌≡◌, true, IfOk};
 ghost use Rattle.bg_ast.specs.Meaning.{meaning_of};
 ghost use Rattle.bg_ast.specs.Views.{program_of};
 ghost use Rattle.bg_sense.specs.Typed.{IsTyped};
 ghost use Rattle.bg_places.specs.Views.{spot_of};
 ghost use Rattle.bg_formed.specs.Views.{blocks_of};
 ghost use Rattle.bg_fits.specs.Scalars.{is_over_scalars};
-ghost use Rattle.bg_term_table.specs.Instances.{instances_of};
-ghost use Rattle.bg_termed.specs.There.{AreThere};
+ghost use Rattle.bg_term_table.specs.Lines.{lines_of};
 ghost use Rattle.bg_task.specs.Prepared.{IsPrepared};
+ghost use Rattle.bg_task.specs.Lines.{AreThere};
 ghost use Rattle.bg_task.specs.Slices.{whole_in, encoding_in, IsSliceBy, IsSliceFor};
 
 use crate::behind::atoms_behind;
@@ -19,7 +19,8 @@ use bg_formed::FormBlock;
 use bg_places::{Place, Spot};
 use bg_slice::laws::{slices_are_below, slices_have_rows, slices_say_the_same, slices_use_alike};
 use bg_slice::{Kept, sliced, what_counts};
-use bg_term_table::Instance;
+use bg_term_table::Line;
+use bg_termed::laws::implementations_over_scalars_have_no_maps;
 use std::alloc::{AllocError, Global};
 
 /// Blocks of forms that were prepared, or that were made for a place.
@@ -70,8 +71,8 @@ pub fn forms_left(alloc: Global, cut: &Cut<'_>) -> Result<Vec<FormBlock>, AllocE
     sliced(alloc, cut.spot, &atoms_in(cut).blocks)
 }
 
-/// The blocks of forms of a prepared implementation behind these instances of its terms, cut down to what counts for a place. Without
-/// instances they are those that were prepared; else all are made anew.
+/// The blocks of forms of a prepared implementation behind these lines, cut down to what counts for a place. Without
+/// lines they are those that were prepared; else all are made anew.
 ///
 /// Only want of memory is an error; 2^32 atoms count as such.
 pub fn cut_down<'q>(
@@ -79,16 +80,17 @@ pub fn cut_down<'q>(
     program: &Resolved,
     prepared: &'q Prepared<'_>,
     place: &Place,
-    instances: &[Instance],
+    lines: &[Line],
 ) -> Result<Cut<'q>, AllocError>
     requires typed { IsTyped (meaning_of (program_of program.now)) }
     requires scalars { is_over_scalars true (meaning_of (program_of program.now)) ≡ true }
     requires prepared { IsPrepared (program_of program.now) place.now.implementation prepared.now }
-    requires there { AreThere (length prepared.now.terms.items) (instances_of instances.now) }
-    ensures { IfOk result (λ made. IsSliceFor (program_of program.now) place.now.implementation prepared.now (instances_of instances.now) (spot_of place.now.spot) made) }
+    requires there { AreThere (program_of program.now) place.now.implementation prepared.now (lines_of lines.now) }
+    ensures { IfOk result (λ made. IsSliceFor (program_of program.now) place.now.implementation prepared.now (lines_of lines.now) (spot_of place.now.spot) made) }
 {
+    implementations_over_scalars_have_no_maps();
     let spot = place.spot;
-    if instances.is_empty() {
+    if lines.is_empty() {
         let Kept { rows, named } = counted(alloc, program, &prepared.atoms, spot)?;
         return Ok(Cut {
             whole: Whole::Lent(&prepared.atoms),
@@ -97,7 +99,7 @@ pub fn cut_down<'q>(
             named,
         });
     }
-    let atoms = atoms_behind(alloc, program, prepared, instances)?;
+    let atoms = atoms_behind(alloc, program, prepared, lines)?;
     let Kept { rows, named } = counted(alloc, program, &atoms, spot)?;
     Ok(Cut {
         whole: Whole::Own(atoms),

@@ -12,8 +12,8 @@ ghost use Rattle.bg_cert.specs.Walks.{has, no_instance};
 ghost use Rattle.bg_fits.specs.Scalars.{is_over_scalars};
 ghost use Rattle.bg_ast.specs.Values.{Ty};
 ghost use Rattle.bg_terms.specs.Terms.{Term};
-ghost use Rattle.bg_terms.specs.Instances.{Instance};
-ghost use Rattle.bg_termed.specs.Termed.{sorts_in, behind_in};
+ghost use Rattle.bg_numbered.specs.Lines.{Line};
+ghost use Rattle.bg_termed.specs.Lined.{lined_behind, lined_sorts};
 ghost use Rattle.bg_formula.specs.Formulas.{Formula};
 ghost use Rattle.bg_task.specs.Cuts.{HasOwnClauses};
 ghost use Rattle.bg_task.specs.Ways.{LiesOnWay};
@@ -27,14 +27,14 @@ use bg_passive::laws::{arrivals_fit, passive_blocks_fail_alike};
 use bg_sense::laws::typed_programs_have_typed_bodies;
 use bg_slice::laws::slices_use_alike;
 use bg_termed::laws::{
-    denied_passive_blocks_have_valuations, implementations_over_scalars_have_no_maps,
-    programs_over_scalars_are_tabled,
+    denied_passive_blocks_have_lined_valuations, implementations_over_scalars_have_no_maps,
+    passive_blocks_have_terms, programs_over_scalars_are_tabled,
 };
 
-/// A place whose clauses, behind whatever instances, have a certificate has no failing run, under any set that has what the certificate uses.
+/// A place whose clauses, behind whatever lines, have a certificate has no failing run, under any set that has what the certificate uses.
 pub fn proved_places_do_not_fail()
-    ensures { (p : Prog) (set other : ℕ → Bool) (t : Place) (instances : List Instance) (cert : Cert) → IsTyped p → is_over_scalars true p ≡ true →
-        HasCertificate p set t instances cert → ((c : ℕ) → uses (cert_of cert).nodes c ≡ true → other c ≡ true) →
+    ensures { (p : Prog) (set other : ℕ → Bool) (t : Place) (lines : List Line) (cert : Cert) → IsTyped p → is_over_scalars true p ≡ true →
+        HasCertificate p set t lines cert → ((c : ℕ) → uses (cert_of cert).nodes c ≡ true → other c ≡ true) →
         (i : Interp) (s : State) (choices : List Choice) → Fails p other t i s choices → ⊥ }
 {
     typed_programs_have_typed_bodies();
@@ -43,16 +43,17 @@ pub fn proved_places_do_not_fail()
     equations_deny_failing_walks();
     programs_over_scalars_are_tabled();
     implementations_over_scalars_have_no_maps();
-    denied_passive_blocks_have_valuations();
+    passive_blocks_have_terms();
+    denied_passive_blocks_have_lined_valuations();
     accepted_has_no_valuation();
     accepted_where_used();
     atoms_of_clauses()
 }
 
-/// A place whose clauses, behind whatever instances, accept a certificate has no failing run, wherever the certificate is from.
+/// A place whose clauses, behind whatever lines, accept a certificate has no failing run, wherever the certificate is from.
 pub fn accepted_places_do_not_fail()
-    ensures { (p : Prog) (set : ℕ → Bool) (t : Place) (instances : List Instance) (f : Formula) (cert : CertOf) → IsTyped p → is_over_scalars true p ≡ true →
-        HasOwnClauses p t instances f → AtomsAgree cert.table → Accepts f set no_instance cert →
+    ensures { (p : Prog) (set : ℕ → Bool) (t : Place) (lines : List Line) (f : Formula) (cert : CertOf) → IsTyped p → is_over_scalars true p ≡ true →
+        HasOwnClauses p t lines f → AtomsAgree cert.table → Accepts f set no_instance cert →
         (i : Interp) (s : State) (choices : List Choice) → Fails p set t i s choices → ⊥ }
 {
     typed_programs_have_typed_bodies();
@@ -61,24 +62,25 @@ pub fn accepted_places_do_not_fail()
     equations_deny_failing_walks();
     programs_over_scalars_are_tabled();
     implementations_over_scalars_have_no_maps();
-    denied_passive_blocks_have_valuations();
+    passive_blocks_have_terms();
+    denied_passive_blocks_have_lined_valuations();
     accepted_has_no_valuation();
     accepted_where_used();
     atoms_of_clauses()
 }
 
 /// An operation for which a place has no clauses lies on a way to the place: from the entry along some edges of the implementation's
-/// flat blocks, behind the instances, comes a command with a relation in whose linear forms it leaves 128 bits, and this command or one
+/// flat blocks, behind the lines, comes a command with a relation in whose linear forms it leaves 128 bits, and this command or one
 /// behind it is the place's check.
 pub fn operations_of_forms_lie_on_ways()
-    ensures { (p : Prog) (t : Place) (instances : List Instance) (o : OutOfRange) (h : HasOutside p t instances o) →
-        LiesOnWay (sorts_in p t.implementation h.implementation h.procedure) (behind_in p t.implementation h.implementation h.procedure instances) t.spot o }
+    ensures { (p : Prog) (t : Place) (lines : List Line) (o : OutOfRange) (h : HasOutside p t lines o) →
+        LiesOnWay (lined_sorts p t.implementation h.implementation h.procedure lines) (lined_behind p t.implementation h.implementation h.procedure lines) t.spot o }
 {}
 
-/// A place has one list of clauses behind instances, or an operation for which it has none.
+/// A place has one list of clauses behind lines, or an operation for which it has none.
 pub fn a_place_has_one_list_of_clauses()
-    ensures one { (p : Prog) (t : Place) (instances : List Instance) (f g : Formula) → HasOwnClauses p t instances f → HasOwnClauses p t instances g → f ≡ g }
-    ensures none { (p : Prog) (t : Place) (instances : List Instance) (f : Formula) (o : OutOfRange) → HasOwnClauses p t instances f → HasOutside p t instances o → ⊥ }
+    ensures one { (p : Prog) (t : Place) (lines : List Line) (f g : Formula) → HasOwnClauses p t lines f → HasOwnClauses p t lines g → f ≡ g }
+    ensures none { (p : Prog) (t : Place) (lines : List Line) (f : Formula) (o : OutOfRange) → HasOwnClauses p t lines f → HasOutside p t lines o → ⊥ }
 {
     slices_use_alike()
 }

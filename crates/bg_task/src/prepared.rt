@@ -26,14 +26,15 @@ use bg_linear::Sort;
 use bg_sorts::{frame_kinds, incarnation_kinds};
 use bg_term_table::{Around, Term};
 use bg_termed::laws::{
-    blocks_behind_instances_are_sorted, implementations_over_scalars_have_no_maps,
-    implementations_without_functions_stay, programs_over_scalars_are_tabled,
+    blocks_behind_lines_are_sorted, implementations_over_scalars_have_no_maps,
+    implementations_without_functions_stay, passive_blocks_have_terms,
+    programs_over_scalars_are_tabled,
 };
 use std::alloc::{AllocError, Global};
 
 /// The blocks of an implementation, the first new incarnation at each arrival where they are made passive, how many incarnations there
 /// are, its terms, where it has terms its flat blocks, the types of incarnations and terms, the sorts of what stands for these, the blocks of
-/// forms behind no instance, the targets of incarnations and terms, and how many variables the frame has.
+/// forms behind no line, the targets of incarnations and terms, and how many variables the frame has.
 #[derive(Drop)]
 pub struct Prepared<'p> {
     pub blocks: Vec<Block<'p>>,
@@ -101,7 +102,8 @@ pub fn prepare<'p>(
     programs_over_scalars_are_tabled();
     implementations_over_scalars_have_no_maps();
     implementations_without_functions_stay();
-    blocks_behind_instances_are_sorted();
+    passive_blocks_have_terms();
+    blocks_behind_lines_are_sorted();
     let blocks = blocks(alloc, program, callees, number)?;
     let frame = frame_in(alloc, program, number)?;
     let passive = passive(alloc, program, frame.len(), &blocks)?;

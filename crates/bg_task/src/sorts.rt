@@ -19,7 +19,7 @@ fn sort_of(base: Base) -> Sort
 }
 
 /// The sort of what stands for a value of this type: elements and maps are told apart by numbers.
-fn flat_sort(t: TypeRef<'_>) -> Sort
+pub fn flat_sort(t: TypeRef<'_>) -> Sort
     ensures { result ≡ flat_sort (ref_of t.entry) }
 {
     match base_in(t) {

@@ -1,5 +1,4 @@
 pub mod Views
-pub mod Instances
 pub mod Lines
 pub mod Brackets
 pub mod Kinds

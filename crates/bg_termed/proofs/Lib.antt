@@ -4,3 +4,4 @@ pub mod Plain
 pub mod Firsts
 pub mod Indices
 pub mod Over
+pub mod Bare

@@ -1,5 +1,4 @@
 pub mod Termed
 pub mod Built
 pub mod Clauses
-pub mod There
 pub mod Lined

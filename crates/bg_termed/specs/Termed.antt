@@ -1,4 +1,4 @@
--- An implementation's passive blocks made flat, behind instances.
+-- An implementation's passive blocks made flat.
 use Rattle.std.specs.Prelude.{◌≡◌, ℕ, List, [], length}
 use Rattle.bg_ast.specs.Values.{Ty}
 use Rattle.bg_ast.specs.Syntax.{Proc, Impl, Prog}
@@ -8,10 +8,7 @@ use Rattle.bg_block_types.specs.Typed.{incarnations_in, passives_in}
 use Rattle.bg_linear.specs.declared.scalar.Sort.{Sort}
 use Rattle.bg_terms.specs.Terms.{Term}
 use Rattle.bg_terms.specs.Flat.{HaveNoBodies}
-use Rattle.bg_terms.specs.Instances.{Instance}
 use Rattle.bg_terms.specs.Typed.{types_with}
-use Rattle.bg_flat.specs.Blocks.{in_front}
-use Rattle.bg_flat.specs.Fronts.{stated}
 use Rattle.bg_flat.specs.Mapless.{GiveNoMaps}
 use Rattle.bg_flatten.specs.Numbered.{terms_of, flat_of}
 use Rattle.bg_flat_clauses.specs.Sorts.{flat_sorts}
@@ -40,8 +37,3 @@ types_in p k m q = types_with (incarnations_in p k m q) (terms_in p k m q)
 
 abbrev pub sorts_in : Prog → ℕ → Impl → Proc → List Sort
 sorts_in p k m q = flat_sorts (types_in p k m q)
-
--- the flat blocks behind instances
-abbrev pub behind_in : Prog → ℕ → Impl → Proc → List Instance → List PassiveBlock
-behind_in p k m q instances =
-    in_front (stated (count_in p k m q) (terms_in p k m q) instances) (flats_in p k m q)

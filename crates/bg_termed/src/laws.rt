@@ -3,7 +3,7 @@ ghost use Rattle.std.specs.Prelude.{◌≡◌, ℕ, ℤ, ◌<◌, Bool, true, fa
 ghost use Rattle.bg_ast.specs.Values.{Val};
 ghost use Rattle.bg_ast.specs.Syntax.{Prog, Impl, Proc};
 ghost use Rattle.bg_ast.specs.Execution.{Interp, Spot};
-ghost use Rattle.bg_sense.specs.Eval.{value_at};
+ghost use Rattle.bg_sense.specs.Eval.{value_at, ev};
 ghost use Rattle.bg_sense.specs.Interps.{IsInterp};
 ghost use Rattle.bg_sense.specs.Types.{are_of};
 ghost use Rattle.bg_sense.specs.Typed.{IsTyped};
@@ -21,21 +21,20 @@ ghost use Rattle.bg_linear.specs.Sorts.{scalar_values};
 ghost use Rattle.bg_atoms.specs.Ranks.{rank};
 ghost use Rattle.bg_atoms.specs.Sorted.{blocks_sorted};
 ghost use Rattle.bg_faithful.specs.Encoded.{Encoding};
-ghost use Rattle.bg_terms.specs.Terms.{IsModel};
+ghost use Rattle.bg_terms.specs.Terms.{IsModel, over};
 ghost use Rattle.bg_terms.specs.Alike.{StandFor, scalar_ty};
-ghost use Rattle.bg_terms.specs.Instances.{Instance};
+ghost use Rattle.bg_terms.specs.Instances.{Instance, instance_ex};
 ghost use Rattle.bg_terms.specs.Closed.{IsFinished};
 ghost use Rattle.bg_terms.specs.Flat.{HaveNoBodies};
-ghost use Rattle.bg_numbered.specs.Lines.{Line};
+ghost use Rattle.bg_numbered.specs.Lines.{Line, are_there};
 ghost use Rattle.bg_terms.specs.Tables.{IsReadOff};
 ghost use Rattle.bg_flatten.specs.Flattens.{AreFlattened};
 ghost use Rattle.bg_flat.specs.Mapless.{are_mapless};
 ghost use Rattle.bg_flatten.specs.Plain.{PlainBlocks};
 ghost use Rattle.bg_read_off.specs.Leaves.{AreApplications, AreCongruent, silent};
 ghost use Rattle.bg_flat_clauses.specs.Linear.{LinearBlocks};
-ghost use Rattle.bg_termed.specs.Termed.{IsTabled, count_in, terms_in, flats_in, types_in, sorts_in, behind_in};
+ghost use Rattle.bg_termed.specs.Termed.{IsTabled, count_in, terms_in, flats_in, types_in, sorts_in};
 ghost use Rattle.bg_termed.specs.Built.{built_in};
-ghost use Rattle.bg_termed.specs.Clauses.{IsEncoding};
 ghost use Rattle.bg_termed.specs.Lined.{HasFlats, IsLinedEncoding, lined_behind, lined_built, lined_sorts, lined_terms, lined_types};
 
 use bg_block_types::laws::passive_blocks_are_typed;
@@ -47,7 +46,10 @@ use bg_flatten::laws::{
     flattened_blocks_stay, mapless_types_are_indexed, numbered_blocks_are_flattened,
     plain_blocks_stay, terms_are_applications, terms_are_ordinary, typed_blocks_are_fine,
 };
-use bg_read_off::laws::{built_leaves_are_models, built_leaves_fail, scalars_stand_for_values};
+use bg_read_off::laws::{
+    applications_are_finished, built_leaves_are_models, scalars_stand_for_values,
+};
+use bg_terms::laws::{instances_are_typed, scalars_say_the_same};
 
 /// A typed program over scalars has no constants, and its functions have tables alone.
 pub fn programs_over_scalars_are_tabled()
@@ -126,63 +128,18 @@ pub fn passive_blocks_have_terms()
     numbered_blocks_are_flattened()
 }
 
-/// Behind any instances they are sorted, where the passive blocks are linear and name candidates that are there.
-pub fn blocks_behind_instances_are_sorted()
-    ensures { (p : Prog) (k : ℕ) (m : Impl) (q : Proc) → IsTabled p → slice_get p.implementations k ≡ Some m → procedure_of p m.procedure ≡ Some q →
-        are_mapless (incarnations_in p k m q) ≡ true → LinearBlocks p.candidates (passives_in p k m q) →
-        (instances : List Instance) → blocks_sorted (sorts_in p k m q) p.candidates (behind_in p k m q instances) ≡ true }
-{
-    passive_blocks_have_terms();
-    instances_are_linear_truths();
-    flat_blocks_are_sorted()
-}
-
-/// Where the equations deny the entry of the passive blocks under an interpretation, typed values of the incarnations and truth values of the
-/// candidates, there is a valuation that agrees with the candidates and makes the clauses true of each encoding of the flat blocks behind any
-/// instances.
-pub fn denied_passive_blocks_have_valuations()
-    ensures { (p : Prog) (k : ℕ) (m : Impl) (q : Proc) → IsTabled p → slice_get p.implementations k ≡ Some m → procedure_of p m.procedure ≡ Some q →
-        are_mapless (incarnations_in p k m q) ≡ true →
-        (instances : List Instance) (a : Encoding) → IsEncoding p k m q instances a →
-        (target : Spot) (f : Formula) → clauses_of a.first a.named a.terms a.rows target a.blocks ≡ Ok f →
-        (i : Interp) (values : List Val) (set : ℕ → Bool) → IsInterp p i → are_of (incarnations_in p k m q) values ≡ true →
-        is_well (slice_get (equations set target (passive_scope p i values) (passives_in p k m q)) 0) ≡ false →
-        (v : Valuation) × (((b : ℕ) → bools_at a.named b ≡ true → there_in f.candidates v.truths b ≡ set b) × (clauses_true v f.atoms f.clauses ≡ true)) }
-{
-    passive_blocks_have_terms();
-    denied_blocks_have_scalars();
-    flat_clauses_fail_alike()
-}
-
-/// Where a valuation makes such clauses true, of terms and incarnations that are no maps, and no congruence is false under the values
-/// that are built for its numbers and truth values, the equations deny the entry under the interpretation that is read off them, those
-/// values of the incarnations, and the candidates whose atoms it makes true.
-pub fn valuations_deny_passive_blocks()
-    ensures { (p : Prog) (k : ℕ) (m : Impl) (q : Proc) → IsTabled p → slice_get p.implementations k ≡ Some m → procedure_of p m.procedure ≡ Some q →
-        are_mapless (incarnations_in p k m q) ≡ true → are_mapless (types_in p k m q) ≡ true →
-        (instances : List Instance) (a : Encoding) → IsEncoding p k m q instances a →
-        (target : Spot) (f : Formula) → clauses_of a.first a.named a.terms a.rows target a.blocks ≡ Ok f →
-        (v : Valuation) → clauses_true v f.atoms f.clauses ≡ true →
-        (s : List Val) → s ≡ scalar_values v.numbers (λ j. v.truths (rank (sorts_in p k m q) j)) (sorts_in p k m q) →
-        AreCongruent (built_in p k m q s) (count_in p k m q) (terms_in p k m q) →
-        (i : Interp) → IsReadOff i (silent p.functions) (built_in p k m q s) (count_in p k m q) (terms_in p k m q) →
-        (values : List Val) → ((j : ℕ) → j < count_in p k m q → value_at (built_in p k m q s) j ≡ value_at values j) →
-        is_well (slice_get (equations (there_in f.candidates v.truths) target (passive_scope p i values) (passives_in p k m q)) 0) ≡ false }
-{
-    passive_blocks_are_typed();
-    passive_blocks_have_terms();
-    flat_clauses_fail_alike();
-    terms_are_applications();
-    built_values_are_typed();
-    built_leaves_fail()
-}
-
-/// Scalars stand for the values that are built for them; where no congruence is false of these, each term has the value that an
-/// interpretation makes of it which is read off them.
+/// Scalars stand for the values that are built for them, and instances say the same of both; where no congruence is false of these values, the
+/// leaf of the scalars is finished, and each term has the value that an interpretation makes of it which is read off the values.
 pub fn built_values_are_models()
     ensures stand { (p : Prog) (k : ℕ) (m : Impl) (q : Proc) → IsTyped p → is_over_scalars true p ≡ true → slice_get p.implementations k ≡ Some m →
         procedure_of p m.procedure ≡ Some q → (s : List Val) → are_of (map scalar_ty (types_in p k m q)) s ≡ true →
         StandFor (types_in p k m q) (built_in p k m q s) s }
+    ensures alike { (p : Prog) (k : ℕ) (m : Impl) (q : Proc) → IsTyped p → is_over_scalars true p ≡ true → slice_get p.implementations k ≡ Some m →
+        procedure_of p m.procedure ≡ Some q → (s : List Val) → are_of (map scalar_ty (types_in p k m q)) s ≡ true → (e : Instance) →
+        ev (instance_ex (count_in p k m q) (terms_in p k m q) e) (over s) ≡ ev (instance_ex (count_in p k m q) (terms_in p k m q) e) (over (built_in p k m q s)) }
+    ensures finished { (p : Prog) (k : ℕ) (m : Impl) (q : Proc) → IsTyped p → is_over_scalars true p ≡ true → slice_get p.implementations k ≡ Some m →
+        procedure_of p m.procedure ≡ Some q → (s : List Val) → are_of (map scalar_ty (types_in p k m q)) s ≡ true →
+        AreCongruent (built_in p k m q s) (count_in p k m q) (terms_in p k m q) → IsFinished s (count_in p k m q) (terms_in p k m q) (types_in p k m q) }
     ensures models { (p : Prog) (k : ℕ) (m : Impl) (q : Proc) → IsTyped p → is_over_scalars true p ≡ true → slice_get p.implementations k ≡ Some m →
         procedure_of p m.procedure ≡ Some q → (i : Interp) (s : List Val) → are_of (map scalar_ty (types_in p k m q)) s ≡ true →
         AreCongruent (built_in p k m q s) (count_in p k m q) (terms_in p k m q) →
@@ -191,11 +148,23 @@ pub fn built_values_are_models()
 {
     passive_blocks_are_typed();
     passive_blocks_have_terms();
-    terms_are_applications();
+    terms_over_scalars_are_applications();
     programs_over_scalars_are_tabled();
     implementations_over_scalars_have_no_maps();
     scalars_stand_for_values();
+    scalars_say_the_same();
+    instances_are_typed();
+    applications_are_finished();
     built_leaves_are_models()
+}
+
+/// Lines that name what is there bring no terms, since there are no maps.
+pub fn lines_over_scalars_bring_nothing()
+    ensures { (p : Prog) (k : ℕ) (m : Impl) (q : Proc) → IsTyped p → is_over_scalars true p ≡ true → slice_get p.implementations k ≡ Some m →
+        procedure_of p m.procedure ≡ Some q → (ls : List Line) → are_there (incarnations_in p k m q) (terms_in p k m q) ls ≡ true →
+        lined_terms p k m q ls ≡ terms_in p k m q }
+{
+    implementations_over_scalars_have_no_maps()
 }
 
 /// Behind any lines flat blocks are sorted, where the passive blocks are linear and name candidates that are there.

@@ -23,7 +23,7 @@ status_by a r u =
     else 0
 
 by_axioms : (v : Verdict) (os : List (List Judged)) → status_in (with_axioms v (word_for os)) ≡ status_by (axioms_by (verdict_of why_of v)) (list_any t.has_refuted (map (told why_of) os)) (list_any t.has_unknown (map (told why_of) os))
-by_axioms (verdict.Proved instances cert) os = refl
+by_axioms (verdict.Proved lines cert) os = refl
 by_axioms (verdict.Refuted cex) os = places_told os
 by_axioms (verdict.Unknown rounds cause) os = unknown_told rounds cause os
 

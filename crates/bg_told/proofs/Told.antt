@@ -52,12 +52,12 @@ has_by w f e (j ∷ js) =
     ∙ sym (any_in_front f (c.is_ordinary j) j (filter c.is_ordinary js))
 
 refuted_in : (v : Verdict) → is_word Refuted (word_in v) ≡ t.is_refuted (verdict_of why_of v)
-refuted_in (verdict.Proved instances cert) = refl
+refuted_in (verdict.Proved lines cert) = refl
 refuted_in (verdict.Refuted cex) = refl
 refuted_in (verdict.Unknown rounds why) = refl
 
 unknown_in : (v : Verdict) → is_word Unknown (word_in v) ≡ t.is_unknown (verdict_of why_of v)
-unknown_in (verdict.Proved instances cert) = refl
+unknown_in (verdict.Proved lines cert) = refl
 unknown_in (verdict.Refuted cex) = refl
 unknown_in (verdict.Unknown rounds why) = refl
 

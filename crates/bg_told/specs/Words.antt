@@ -14,7 +14,7 @@ is_ordinary p = is_none p.candidate
 
 -- what is known of a place, in a word
 abbrev pub word_in : Verdict → Word
-word_in (verdict.Proved instances cert) = Verified
+word_in (verdict.Proved lines cert) = Verified
 word_in (verdict.Refuted cex) = Refuted
 word_in (verdict.Unknown rounds why) = Unknown
 
@@ -42,7 +42,7 @@ word_for outcome = if list_any (has Refuted) outcome then Refuted else (if list_
 
 -- the word of a program by the verdict on its axioms' own program, and the word of its places
 abbrev pub with_axioms : Verdict → Word → Word
-with_axioms (verdict.Proved instances cert) w = Refuted
+with_axioms (verdict.Proved lines cert) w = Refuted
 with_axioms (verdict.Refuted cex) w = w
 with_axioms (verdict.Unknown rounds why) Refuted = Refuted
 with_axioms (verdict.Unknown rounds why) w = Unknown

@@ -158,7 +158,7 @@ fn rounds(alloc: Global, count: u32) -> Result<Verdict, AllocError> {
     for _ in 0..count {
         made.push(Round {
             leaf: leaf(alloc)?,
-            instances: Vec::new(alloc),
+            lines: Vec::new(alloc),
         })?;
     }
     Ok(Verdict::Unknown(made, Cause::Rounds))

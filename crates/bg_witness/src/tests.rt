@@ -15,7 +15,7 @@ use bg_check::{Cause, Judged, Verdict, judge_ordinary};
 use bg_model::Counterexample;
 use bg_replay::{Choice, Code, Ending, Start, replay};
 use bg_task::{Made, Prepared, Question, cut_down, place_clauses, prepare};
-use bg_term_table::Instance;
+use bg_term_table::Line;
 use bg_tree::Budget;
 use std::alloc::{AllocError, Global};
 use std::test::Fail;
@@ -79,13 +79,13 @@ const ELEMENTS: &str =
 const APART: &str =
     "type T; type U; function f(t: T, u: U): int; procedure P(t, s: T, u, v: U) { assert f(t, u) == f(s, u) || t != s; assert f(t, u) == f(t, v); assert t == s || u != v; }";
 
-/// Whether the certificate of a place is accepted behind these instances.
+/// Whether the certificate of a place is accepted behind these lines.
 fn is_accepted(
     alloc: Global,
     program: &Resolved,
     callees: &[Vec<Variable>],
     judged: &Judged,
-    instances: &[Instance],
+    lines: &[Line],
     cert: &Cert,
 ) -> Result<bool, AllocError>
     requires typed { IsTyped (meaning_of (program_of program.now)) }
@@ -97,10 +97,10 @@ fn is_accepted(
         return Ok(false);
     }
     let prepared = prepare(alloc, program, callees, number)?;
-    if !are_there(prepared.terms.len(), instances) {
+    if !are_there(alloc, program, &prepared, lines)? {
         return Ok(false);
     }
-    let cut = cut_down(alloc, program, &prepared, &judged.place, instances)?;
+    let cut = cut_down(alloc, program, &prepared, &judged.place, lines)?;
     let question = Question {
         program,
         prepared: &prepared,
@@ -178,8 +178,8 @@ fn letter(
     requires modified { IsModified (program_of program.now) callees.now }
 {
     match &judged.verdict {
-        Verdict::Proved(instances, cert) => {
-            let is_right = is_accepted(alloc, program, callees, judged, instances, cert)?;
+        Verdict::Proved(lines, cert) => {
+            let is_right = is_accepted(alloc, program, callees, judged, lines, cert)?;
             Ok(if is_right { "p" } else { "x" })
         }
         Verdict::Refuted(cex) => {

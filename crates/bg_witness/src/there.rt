@@ -1,22 +1,28 @@
-//! Instances of terms that are there.
-ghost use Rattle.std.specs.Prelude.{◌≡◌, true};
-ghost use Rattle.bg_term_table.specs.Instances.{instances_of};
-ghost use Rattle.bg_termed.specs.There.{AreThere};
+//! Lines that name what is there.
+ghost use Rattle.std.specs.Prelude.{◌≡◌, ℕ, true, IfOk};
+ghost use Rattle.bg_ast.specs.Views.{program_of};
+ghost use Rattle.bg_term_table.specs.Lines.{lines_of};
+ghost use Rattle.bg_task.specs.Lines.{AreThere};
 
-use bg_term_table::Instance;
+use bg_ast::resolved::Resolved;
+use bg_task::{Prepared, begun, grow};
+use bg_term_table::Line;
+use std::alloc::{AllocError, Global};
 
-/// Whether the terms of these instances are among so many.
-pub fn are_there(count: usize, instances: &[Instance]) -> bool
-    ensures { result ≡ true → AreThere count (instances_of instances.now) }
+/// Whether each line names what is there, over the terms with those that the ones before it bring.
+pub fn are_there(
+    alloc: Global,
+    program: &Resolved,
+    prepared: &Prepared<'_>,
+    lines: &[Line],
+) -> Result<bool, AllocError>
+    ensures { IfOk result (λ b. b ≡ true → (number : ℕ) → AreThere (program_of program.now) number prepared.now (lines_of lines.now)) }
 {
-    for instance in instances {
-        match instance {
-            Instance::Congruent(a, b) => {
-                if *a as usize >= count || *b as usize >= count {
-                    return false;
-                }
-            }
+    let mut grown = begun(alloc, program, prepared)?;
+    for line in lines {
+        if !grow(alloc, &mut grown, *line)? {
+            return Ok(false);
         }
     }
-    true
+    Ok(true)
 }

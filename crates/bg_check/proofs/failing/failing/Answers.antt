@@ -1,5 +1,5 @@
 use Rattle.std.proofs.Common.{◌≡◌, Option, length, take, map, sym, ap, ◌∙◌, subst, ℤ, List}
-use Rattle.std.proofs.lemmas.List.{length-map, take-map}
+use Rattle.std.proofs.lemmas.List.{take-map}
 use Rattle.bg_tree.specs.Ends.{IsLeaf}
 use Rattle.bg_point.specs.Points.{target_of}
 use Rattle.bg_cert.specs.Walks.{has}
@@ -11,7 +11,8 @@ use Rattle.bg_formula.specs.Formulas.{formula_of}
 use Rattle.bg_formed.specs.Views.{form_block_of}
 use Rattle.bg_scalar.specs.Values.{val_of}
 use Rattle.bg_scalar.specs.Views.{tables_in}
-use Rattle.bg_term_table.specs.Instances.{instance_of, instances_of}
+use Rattle.bg_numbered.specs.Lines.{instances_in}
+use Rattle.bg_term_table.specs.Lines.{lines_of}
 use Rattle.bg_finish.specs.Finished.{AreReadOff}
 use Rattle.bg_termed.specs.Termed.{count_in, terms_in}
 use Rattle.bg_model.specs.Behind.{behind_front}
@@ -29,7 +30,7 @@ unreachable-requires c =
     let n = place.implementation in
     let w = c.args.question.prepared.now in
     let h = c.requires.prepared in
-    let es = instances_of c.args.instances.now in
+    let es = lines_of c.args.lines.now in
     let f = formula_of c.args.met.clauses.now in
     let leaf = c.args.met.leaf.now in
     let near = subst (λ (zs : List ℤ). IsLeaf (target_of zs) f (has c.args.question.set.now) leaf) c.requires.prepared.targets c.requires.leaf in
@@ -59,16 +60,18 @@ unreachable-requires c =
       alike = c.scalars_say_the_same.ensures;
       stands = c.built_values_are_models.ensures.stand;
       models = c.built_values_are_models.ensures.models;
+      bare = c.lines_over_scalars_bring_nothing.ensures;
+      finished = c.built_values_are_models.ensures.finished;
     } in
     let X = c.requires.values h in
     let off = subst (λ vs. AreReadOff P.functions (count_in P n (impl p n w h) (proc p n w h)) (terms_in P n (impl p n w h) (proc p n w h)) vs (tables_in c.args.tables.items)) X (c.requires.read_off h) in
-    let front : length c.args.instances.now ≡ length es = sym (length-map c.args.instances.now instance_of) in
-    let forms : behind_front (length c.args.instances.now) (map form_block_of c.deref-3.result.now) ≡ behind_front (length es) (encoding_in c.args.cut.now).blocks = ap (λ k. behind_front k (map form_block_of c.deref-3.result.now)) front ∙ ap (behind_front (length es)) (ap (map form_block_of) c.deref-3.ensures.value ∙ c.in_ok-forms.ensures) in
+    let front : c.in_ok-front.front ≡ length (instances_in es) = c.in_ok-front.ensures in
+    let forms : behind_front c.in_ok-front.front (map form_block_of c.deref-3.result.now) ≡ behind_front (length (instances_in es)) (encoding_in c.args.cut.now).blocks = ap (λ k. behind_front k (map form_block_of c.deref-3.result.now)) front ∙ ap (behind_front (length (instances_in es))) (ap (map form_block_of) c.deref-3.ensures.value ∙ c.in_ok-forms.ensures) in
     let first : map val_of c.first.result.now ≡ take (count_in P n (impl p n w h) (proc p n w h)) (map val_of c.args.met.values.now) = ap (map val_of) c.first.ensures ∙ (sym (take-map val_of w.count c.args.met.values.now) ∙ ap (λ k. take k (map val_of c.args.met.values.now)) h.count) in
     let vals = first ∙ ap (take (count_in P n (impl p n w h) (proc p n w h))) X in
-    let R : Option Counterexample → Type 0 = IsRun laws p n w h c.requires.typed c.requires.scalars es (spot_of place.spot) (option_of candidate_of place.candidate) c.args.cut.now c.requires.slice f c.args.question.set.now leaf c.requires.clauses near c.requires.asked in
+    let R : Option Counterexample → Type 0 = IsRun laws p n w h c.requires.typed c.requires.scalars es c.requires.there (spot_of place.spot) (option_of candidate_of place.candidate) c.args.cut.now c.requires.slice f c.args.question.set.now leaf c.requires.clauses near c.requires.asked in
     subst R c.in-None.is
-    (refutes laws p n w h c.requires.typed c.requires.scalars es (spot_of place.spot) (option_of candidate_of place.candidate) c.args.cut.now c.requires.slice f c.args.question.set.now leaf c.requires.clauses near c.requires.asked (tables_in c.args.tables.items) off c.deref.result.now c.deref-2.result.now (behind_front (length c.args.instances.now) (map form_block_of c.deref-3.result.now)) c.args.met.truths.now (map val_of c.first.result.now) c.in_ok-cex.field-0 c.deref.ensures.value c.deref-2.ensures.value forms c.requires.truths vals c.in_ok-cex.ensures)
+    (refutes laws p n w h c.requires.typed c.requires.scalars es c.requires.there (spot_of place.spot) (option_of candidate_of place.candidate) c.args.cut.now c.requires.slice f c.args.question.set.now leaf c.requires.clauses near c.requires.asked (tables_in c.args.tables.items) off c.deref.result.now c.deref-2.result.now (behind_front c.in_ok-front.front (map form_block_of c.deref-3.result.now)) c.args.met.truths.now (map val_of c.first.result.now) c.in_ok-cex.field-0 c.deref.ensures.value c.deref-2.ensures.value forms c.requires.truths vals c.in_ok-cex.ensures)
 
 pub returns : goal.returns
 returns c =
@@ -78,7 +81,7 @@ returns c =
     let n = place.implementation in
     let w = c.args.question.prepared.now in
     let h = c.requires.prepared in
-    let es = instances_of c.args.instances.now in
+    let es = lines_of c.args.lines.now in
     let f = formula_of c.args.met.clauses.now in
     let leaf = c.args.met.leaf.now in
     let near = subst (λ (zs : List ℤ). IsLeaf (target_of zs) f (has c.args.question.set.now) leaf) c.requires.prepared.targets c.requires.leaf in
@@ -108,13 +111,15 @@ returns c =
       alike = c.scalars_say_the_same.ensures;
       stands = c.built_values_are_models.ensures.stand;
       models = c.built_values_are_models.ensures.models;
+      bare = c.lines_over_scalars_bring_nothing.ensures;
+      finished = c.built_values_are_models.ensures.finished;
     } in
     let X = c.requires.values h in
     let off = subst (λ vs. AreReadOff P.functions (count_in P n (impl p n w h) (proc p n w h)) (terms_in P n (impl p n w h) (proc p n w h)) vs (tables_in c.args.tables.items)) X (c.requires.read_off h) in
-    let front : length c.args.instances.now ≡ length es = sym (length-map c.args.instances.now instance_of) in
-    let forms : behind_front (length c.args.instances.now) (map form_block_of c.deref-3.result.now) ≡ behind_front (length es) (encoding_in c.args.cut.now).blocks = ap (λ k. behind_front k (map form_block_of c.deref-3.result.now)) front ∙ ap (behind_front (length es)) (ap (map form_block_of) c.deref-3.ensures.value ∙ c.in_ok-forms.ensures) in
+    let front : c.in_ok-front.front ≡ length (instances_in es) = c.in_ok-front.ensures in
+    let forms : behind_front c.in_ok-front.front (map form_block_of c.deref-3.result.now) ≡ behind_front (length (instances_in es)) (encoding_in c.args.cut.now).blocks = ap (λ k. behind_front k (map form_block_of c.deref-3.result.now)) front ∙ ap (behind_front (length (instances_in es))) (ap (map form_block_of) c.deref-3.ensures.value ∙ c.in_ok-forms.ensures) in
     let first : map val_of c.first.result.now ≡ take (count_in P n (impl p n w h) (proc p n w h)) (map val_of c.args.met.values.now) = ap (map val_of) c.first.ensures ∙ (sym (take-map val_of w.count c.args.met.values.now) ∙ ap (λ k. take k (map val_of c.args.met.values.now)) h.count) in
     let vals = first ∙ ap (take (count_in P n (impl p n w h) (proc p n w h))) X in
-    let R : Option Counterexample → Type 0 = IsRun laws p n w h c.requires.typed c.requires.scalars es (spot_of place.spot) (option_of candidate_of place.candidate) c.args.cut.now c.requires.slice f c.args.question.set.now leaf c.requires.clauses near c.requires.asked in
+    let R : Option Counterexample → Type 0 = IsRun laws p n w h c.requires.typed c.requires.scalars es c.requires.there (spot_of place.spot) (option_of candidate_of place.candidate) c.args.cut.now c.requires.slice f c.args.question.set.now leaf c.requires.clauses near c.requires.asked in
     subst R c.in-Some.is
-    (refutes laws p n w h c.requires.typed c.requires.scalars es (spot_of place.spot) (option_of candidate_of place.candidate) c.args.cut.now c.requires.slice f c.args.question.set.now leaf c.requires.clauses near c.requires.asked (tables_in c.args.tables.items) off c.deref.result.now c.deref-2.result.now (behind_front (length c.args.instances.now) (map form_block_of c.deref-3.result.now)) c.args.met.truths.now (map val_of c.first.result.now) c.in_ok-cex.field-0 c.deref.ensures.value c.deref-2.ensures.value forms c.requires.truths vals c.in_ok-cex.ensures)
+    (refutes laws p n w h c.requires.typed c.requires.scalars es c.requires.there (spot_of place.spot) (option_of candidate_of place.candidate) c.args.cut.now c.requires.slice f c.args.question.set.now leaf c.requires.clauses near c.requires.asked (tables_in c.args.tables.items) off c.deref.result.now c.deref-2.result.now (behind_front c.in_ok-front.front (map form_block_of c.deref-3.result.now)) c.args.met.truths.now (map val_of c.first.result.now) c.in_ok-cex.field-0 c.deref.ensures.value c.deref-2.ensures.value forms c.requires.truths vals c.in_ok-cex.ensures)

@@ -8,11 +8,11 @@ use Rattle.bg_cert.specs.Walks.{has}
 use Rattle.bg_formula.specs.Formulas.{formula_of}
 use Rattle.bg_places.specs.Views.{placed_of, spot_of}
 use Rattle.bg_tree.specs.Trees.{IsOutcome, IsCause}
-use Rattle.bg_term_table.specs.Instances.{instances_of}
-use Rattle.bg_termed.specs.Termed.{sorts_in, behind_in}
+use Rattle.bg_term_table.specs.Lines.{lines_of}
+use Rattle.bg_termed.specs.Lined.{lined_sorts, lined_behind}
 use Rattle.bg_task.specs.Slices.{encoding_in}
 use Rattle.bg_task.proofs.Prepares.{impl, proc, clauses_here}
-use Rattle.bg_check.proofs.Placing.{there_here, at_left}
+use Rattle.bg_check.proofs.Placing.{at_left}
 use Rattle.bg_check.proofs.place.clauses_found.Goals as goal
 
 pub search-requires : goal.search-requires
@@ -21,19 +21,19 @@ search-requires c =
     let n = c.args.question.place.now.implementation in
     let w = c.args.question.prepared.now in
     let h = c.requires.prepared in
-    let es = instances_of c.args.instances.now in
-    c.clauses_of_encodings_are_whole.ensures (sorts_in (meaning_of p) n (impl p n w h) (proc p n w h)) (meaning_of p).candidates (behind_in (meaning_of p) n (impl p n w h) (proc p n w h) es) (encoding_in c.args.cut.now) (spot_of c.args.question.place.now.spot) (formula_of c.args.f.now) (c.requires.slice.encoding h) c.requires.clauses
+    let es = lines_of c.args.lines.now in
+    c.clauses_of_encodings_are_whole.ensures (lined_sorts (meaning_of p) n (impl p n w h) (proc p n w h) es) (meaning_of p).candidates (lined_behind (meaning_of p) n (impl p n w h) (proc p n w h) es) (encoding_in c.args.cut.now) (spot_of c.args.question.place.now.spot) (formula_of c.args.f.now) (c.requires.slice.encoding h) c.requires.clauses
 
 pub returns-in-Closed : goal.returns-in-Closed
 returns-in-Closed c =
     let p = program_of c.args.question.program.now in
     let n = c.args.question.place.now.implementation in
     let w = c.args.question.prepared.now in
-    let es = instances_of c.args.instances.now in
+    let es = lines_of c.args.lines.now in
     record {
       formula = formula_of c.args.f.now;
       is = clauses_here p n w c.requires.prepared es (spot_of c.args.question.place.now.spot) (option_of candidate_of c.args.question.place.now.candidate) c.args.cut.now (formula_of c.args.f.now) c.requires.slice c.requires.clauses;
-      there = there_here p n w c.requires.prepared es c.requires.there;
+      there = c.requires.there c.requires.prepared;
       accepted = subst (IsOutcome (target_of c.deref.result.now) (formula_of c.args.f.now) (has c.args.question.set.now) c.args.left) c.in-Closed.is c.in_ok-cert.ensures;
     }
 
@@ -41,7 +41,7 @@ pub returns-in-Unknown : goal.returns-in-Unknown
 returns-in-Unknown c =
     record {
       formula = formula_of c.args.f.now;
-      is = clauses_here (program_of c.args.question.program.now) c.args.question.place.now.implementation c.args.question.prepared.now c.requires.prepared (instances_of c.args.instances.now) (spot_of c.args.question.place.now.spot) (option_of candidate_of c.args.question.place.now.candidate) c.args.cut.now (formula_of c.args.f.now) c.requires.slice c.requires.clauses;
+      is = clauses_here (program_of c.args.question.program.now) c.args.question.place.now.implementation c.args.question.prepared.now c.requires.prepared (lines_of c.args.lines.now) (spot_of c.args.question.place.now.spot) (option_of candidate_of c.args.question.place.now.candidate) c.args.cut.now (formula_of c.args.f.now) c.requires.slice c.requires.clauses;
       cause = subst (λ (zs : List ℤ). IsCause (target_of zs) (formula_of c.args.f.now) (has c.args.question.set.now) c.args.left c.in-Unknown.why) (c.deref.ensures.value ∙ c.requires.prepared.targets) (subst (IsOutcome (target_of c.deref.result.now) (formula_of c.args.f.now) (has c.args.question.set.now) c.args.left) c.in-Unknown.is c.in_ok-cert.ensures);
     }
 
@@ -51,4 +51,4 @@ leaf_found-requires-clause-leaf c =
 
 pub returns-in-Leaf : goal.returns-in-Leaf
 returns-in-Leaf c =
-    at_left c.args.left (meaning_of (program_of c.args.question.program.now)) (has c.args.question.set.now) (placed_of c.args.question.place.now).place (instances_of c.args.instances.now) c.leaf_found.result c.leaf_found.ensures
+    at_left c.args.left (meaning_of (program_of c.args.question.program.now)) (has c.args.question.set.now) (placed_of c.args.question.place.now).place (lines_of c.args.lines.now) c.leaf_found.result c.leaf_found.ensures

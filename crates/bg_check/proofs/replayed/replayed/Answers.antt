@@ -35,7 +35,7 @@ unreachable-requires-in-NoScalars c =
     (arm_here c.replays_are_induction_runs.ensures c.blocks_are_typed.ensures p c.args.question.set.now t c.args.cex c.args.question.prepared.now c.requires.prepared c.deref.result.now c.deref-2.result.now c.deref-3.result.now c.deref-4.result.now c.deref-5.result.now c.in_ok-ending.ending c.requires.typed c.requires.scalars c.deref.ensures.value c.deref-2.ensures.value c.deref-3.ensures.value c.deref-4.ensures.value c.deref-5.ensures.value c.requires.fails c.in_ok-ending.ensures)
 
 pub returns-in-OutOfRange : goal.returns-in-OutOfRange
-returns-in-OutOfRange c left instances leaf =
+returns-in-OutOfRange c left lines leaf =
     let p = program_of c.args.question.program.now in
     let t = (placed_of c.args.question.place.now).place in
     let arm = subst (Arm (meaning_of p) (has c.args.question.set.now) t c.args.cex) c.in-OutOfRange.is

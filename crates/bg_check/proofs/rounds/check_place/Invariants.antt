@@ -1,5 +1,3 @@
-use Rattle.std.proofs.Common.{length}
-use Rattle.bg_ast.specs.Meaning.{meaning_of}
 use Rattle.bg_ast.specs.Views.{program_of}
 use Rattle.bg_cert.specs.Walks.{has}
 use Rattle.bg_places.specs.Views.{placed_of}
@@ -8,7 +6,7 @@ use Rattle.bg_check.proofs.rounds.check_place.Given as goal
 
 abbrev pub invariant-loop-stand : goal.invariant-loop-stand
 invariant-loop-stand l =
-    StandsAt (meaning_of (program_of l.question.program.now)) (has l.question.set.now) (placed_of l.question.place.now).place (length l.question.prepared.now.terms.items) l.budget l.stand
+    StandsAt (program_of l.question.program.now) (has l.question.set.now) (placed_of l.question.place.now).place l.question.prepared.now l.budget l.stand
 
 abbrev pub decreases-loop-stand : goal.decreases-loop-stand
 decreases-loop-stand l = l.stand.left

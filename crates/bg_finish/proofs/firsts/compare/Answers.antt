@@ -1,7 +1,7 @@
 use Rattle.std.proofs.Common.{◌≡◌, [], ◌∷◌, ◌++◌, sym, ap, ◌∙◌}
 use Rattle.std.specs.Prelude.{if◌then◌else◌}
 use Rattle.std.proofs.lemmas.Result.{IfOk-weaker}
-use Rattle.bg_term_table.specs.declared.instance.Instance.TheVariants.{Congruent}
+use Rattle.bg_term_table.specs.declared.line.Line.TheVariants.{Congruent}
 use Rattle.bg_finish.specs.Rows.{row_of}
 use Rattle.bg_finish.specs.Firsts.{key_of}
 use Rattle.bg_finish.proofs.Earliest.{new_row, old_row}

@@ -1,6 +1,6 @@
 use Rattle.std.proofs.Common.{[], ◌∷◌, ◌++◌, sym, ap, ◌∙◌}
 use Rattle.std.specs.Prelude.{if◌then◌else◌}
-use Rattle.bg_term_table.specs.declared.instance.Instance.TheVariants.{Congruent}
+use Rattle.bg_term_table.specs.declared.line.Line.TheVariants.{Congruent}
 use Rattle.bg_finish.proofs.firsts.tell.Goals as goal
 
 pub returns-then-same : goal.returns-then-same

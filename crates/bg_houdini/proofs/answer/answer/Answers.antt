@@ -6,7 +6,7 @@ use Rattle.bg_houdini.proofs.answer.answer.Goals as goal
 
 pub returns-in_ok-kept-in-Proved : goal.returns-in_ok-kept-in-Proved
 returns-in_ok-kept-in-Proved c budget p k task set there long right =
-    passes_of budget p k task set c.args.candidates c.args.verdict c.in-Proved.instances c.in-Proved.cert (record { instances = c.in-Proved.instances; cert = c.in-Proved.cert }) c.in_ok-kept-in-Proved.field-0 there long c.in-Proved.is refl right c.in_ok-kept-in-Proved.ensures.proof c.in_ok-kept-in-Proved.ensures.used
+    passes_of budget p k task set c.args.candidates c.args.verdict c.in-Proved.lines c.in-Proved.cert (record { lines = c.in-Proved.lines; cert = c.in-Proved.cert }) c.in_ok-kept-in-Proved.field-0 there long c.in-Proved.is refl right c.in_ok-kept-in-Proved.ensures.proof c.in_ok-kept-in-Proved.ensures.used
 
 pub returns-in-Refuted : goal.returns-in-Refuted
 returns-in-Refuted c = λ budget p k task set there long right.

@@ -1,11 +1,15 @@
-use Rattle.std.proofs.Common.{◌≡◌, List, [], length, refl, sym, ap, subst}
+use Rattle.std.proofs.Common.{◌≡◌, List, [], refl, sym, ap, ◌∙◌, subst}
 use Rattle.bg_ast.specs.Meaning.{meaning_of, named_of, impl_of, proc_of}
 use Rattle.bg_ast.specs.Views.{program_of}
 use Rattle.bg_places.specs.Views.{spot_of}
-use Rattle.bg_term_table.specs.Instances.{instances_of}
-use Rattle.bg_terms.specs.Instances.{Instance}
+use Rattle.bg_numbered.specs.Lines.{Line}
+use Rattle.bg_term_table.specs.Views as table
+use Rattle.bg_term_table.specs.Lines.{lines_of}
 use Rattle.bg_task.specs.Prepared.{IsPrepared, encoding_over}
 use Rattle.bg_task.specs.Cuts.{IsOwn}
+use Rattle.bg_block_types.specs.Typed.{incarnations_in}
+use Rattle.bg_termed.specs.Termed.{terms_in}
+use Rattle.bg_task.proofs.Prepares.{impl, proc, impl_at, proc_at}
 use Rattle.bg_task.proofs.Sliced.{slice_for, no_terms, none_there, some_there}
 use Rattle.bg_task.proofs.cut.cut_down.Goals as goal
 
@@ -15,16 +19,22 @@ returns-then-is_empty c =
     let n = c.args.place.now.implementation in
     let w = c.args.prepared.now in
     let t = spot_of c.args.place.now.spot in
-    let none : [] ≡ instances_of c.args.instances.now = ap instances_of (sym (none_there c.args.instances.now _ c.is_empty.ensures c.if-is_empty.true)) in
-    let own = λ (h : IsPrepared p n w). subst (λ (es : List Instance). IsOwn (meaning_of p) n (impl_of (named_of p.types) h.implementation) (proc_of (named_of p.types) h.procedure) es (encoding_over (meaning_of p).candidates w.atoms)) none h.own in
-    slice_for p n w (instances_of c.args.instances.now) t w.atoms _ own refl refl c.in_ok-rows.ensures
+    let none : [] ≡ lines_of c.args.lines.now = ap lines_of (sym (none_there c.args.lines.now _ c.is_empty.ensures c.if-is_empty.true)) in
+    let own = λ (h : IsPrepared p n w). subst (λ (es : List Line). IsOwn (meaning_of p) n (impl_of (named_of p.types) h.implementation) (proc_of (named_of p.types) h.procedure) es (encoding_over (meaning_of p).candidates w.atoms)) none h.own in
+    slice_for p n w (lines_of c.args.lines.now) t w.atoms _ own refl refl c.in_ok-rows.ensures
 
 pub atoms_behind-requires-clause-prepared : goal.atoms_behind-requires-clause-prepared
 atoms_behind-requires-clause-prepared c = (c.args.place.now.implementation, c.requires.prepared)
 
 pub atoms_behind-requires-clause-terms : goal.atoms_behind-requires-clause-terms
 atoms_behind-requires-clause-terms c =
-    λ none. no_terms (length c.args.prepared.now.terms.items) (instances_of c.args.instances.now) c.requires.there (some_there c.args.instances.now _ c.is_empty.ensures c.if-is_empty.false) (ap (λ ts. length ts) none)
+    let p = program_of c.args.program.now in
+    let n = c.args.place.now.implementation in
+    let w = c.args.prepared.now in
+    let h = c.requires.prepared in
+    let mapless = c.implementations_over_scalars_have_no_maps.ensures.mapless (meaning_of p) n (impl p n w h) (proc p n w h) c.requires.typed c.requires.scalars (impl_at p n w h) (proc_at p n w h) in
+    λ none.
+    no_terms (incarnations_in (meaning_of p) n (impl p n w h) (proc p n w h)) (terms_in (meaning_of p) n (impl p n w h) (proc p n w h)) (lines_of c.args.lines.now) mapless (c.requires.there h) (some_there c.args.lines.now _ c.is_empty.ensures c.if-is_empty.false) (sym h.terms ∙ ap (table.terms_in (meaning_of p).functions) none)
 
 pub returns : goal.returns
 returns c =
@@ -32,4 +42,4 @@ returns c =
     let n = c.args.place.now.implementation in
     let w = c.args.prepared.now in
     let t = spot_of c.args.place.now.spot in
-    slice_for p n w (instances_of c.args.instances.now) t c.in_ok-atoms.atoms _ (λ h. c.in_ok-atoms.ensures n h) refl refl c.in_ok-rows-2.ensures
+    slice_for p n w (lines_of c.args.lines.now) t c.in_ok-atoms.atoms _ (λ h. c.in_ok-atoms.ensures n h) refl refl c.in_ok-rows-2.ensures

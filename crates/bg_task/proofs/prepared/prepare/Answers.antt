@@ -46,7 +46,7 @@ unreachable-requires c =
     let kinds = types_all P n m q (map ref_in c.in_ok-incarnations.incarnations.items) (table.terms_in P.functions c.deref-7.result.now) (map ref_in c.in_ok-kinds.kinds.items) x.1.0 (ap (table.terms_in P.functions) c.deref-7.ensures.value ∙ terms) (c.in_ok-kinds.ensures P.functions (ap (map ref_in) c.deref-6.ensures.value ∙ c.in_ok-results.ensures)) in
     let sorts = sorts_all P n m q (map ref_in c.deref-8.result.now) c.in_ok-sorts.sorts.items (ap (map ref_in) c.deref-8.ensures.value ∙ kinds) c.in_ok-sorts.ensures in
     let blocks = behind_none P n m q (map passive_block_of c.deref-10.result.now) (ap (map passive_block_of) c.deref-10.ensures.value ∙ flats) in
-    let law = sort_law c.programs_over_scalars_are_tabled.ensures c.implementations_over_scalars_have_no_maps.ensures.mapless c.implementations_over_scalars_have_no_maps.ensures.linear c.blocks_behind_instances_are_sorted.ensures in
+    let law = sort_law c.programs_over_scalars_are_tabled.ensures c.implementations_over_scalars_have_no_maps.ensures.mapless c.passive_blocks_have_terms.ensures c.implementations_over_scalars_have_no_maps.ensures.linear c.blocks_behind_lines_are_sorted.ensures in
     let sorted = sorted_own law P n m q [] c.requires.typed c.requires.scalars im pr c.deref-9.result.now c.in_ok-candidates.candidates (map passive_block_of c.deref-10.result.now) (c.deref-9.ensures.value ∙ sorts) c.in_ok-candidates.ensures blocks in
     let bad : false ≡ true = sym (ap is_some c.in_default.is) ∙ (c.in_ok-atoms.ensures.none ∙ sorted) in
     cc

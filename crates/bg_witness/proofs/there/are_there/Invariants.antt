@@ -1,7 +1,14 @@
-use Rattle.std.proofs.Common.{drop}
-use Rattle.bg_term_table.specs.Instances.{instances_of}
-use Rattle.bg_termed.specs.There.{AreThere}
+use Rattle.std.proofs.Common.{ℕ}
+use Rattle.bg_ast.specs.Meaning.{meaning_of}
+use Rattle.bg_ast.specs.Views.{program_of}
+use Rattle.bg_block_types.specs.Typed.{incarnations_in}
+use Rattle.bg_termed.specs.Termed.{terms_in}
+use Rattle.bg_task.specs.Prepared.{IsPrepared}
+use Rattle.bg_task.proofs.Prepares.{impl, proc}
+use Rattle.bg_witness.proofs.Reached.{Reached}
 use Rattle.bg_witness.proofs.there.are_there.Given as goal
 
-abbrev pub invariant-loop-instance : goal.invariant-loop-instance
-invariant-loop-instance l = AreThere l.count (instances_of (drop l.instance-index l.instances)) → AreThere l.count (instances_of l.instances)
+abbrev pub invariant-loop-line : goal.invariant-loop-line
+invariant-loop-line l =
+    (n : ℕ) (h : IsPrepared (program_of l.program) n l.prepared) →
+    Reached (meaning_of (program_of l.program)).functions (incarnations_in (meaning_of (program_of l.program)) n (impl (program_of l.program) n l.prepared h) (proc (program_of l.program) n l.prepared h)) (terms_in (meaning_of (program_of l.program)) n (impl (program_of l.program) n l.prepared h) (proc (program_of l.program) n l.prepared h)) l.lines l.grown l.line-index
