@@ -11,3 +11,4 @@ pub mod Untouched
 pub mod Members
 pub mod Turns
 pub mod Tableless
+pub mod Wanted

@@ -4,3 +4,4 @@ pub mod Certs
 pub mod Walks
 pub mod Causes
 pub mod Tours
+pub mod Wanted

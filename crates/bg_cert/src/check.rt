@@ -12,7 +12,7 @@ ghost use Rattle.bg_cert.specs.Tours.{IsTour, path_in, decided_on, known_on, ato
 use crate::cert::{Cert, Decision, Named, Node};
 use crate::leaf::{names_false, unit_false};
 use crate::lemma::{deny_all, known_false};
-use crate::table::{rows_with, table_below};
+use crate::table::{rows_for, table_below};
 use crate::tour::{Tour, Turn, end_path, first_tour, wait};
 use crate::trail::decide;
 use bg_formula::Clauses;
@@ -49,7 +49,8 @@ fn closes(
             }
         }
         Node::Rows(steps) => {
-            let path = rows_with(alloc, &f.atoms, &cert.table, &tour.trail.decisions)?;
+            let decisions = &tour.trail.decisions;
+            let path = rows_for(alloc, &f.atoms, &cert.table, decisions, steps)?;
             derives(alloc, &path, steps)
         }
         _ => Ok(false),

@@ -18,7 +18,7 @@ pub use cert::{Cert, Decision, Named, Node, bare};
 pub use check::accepts;
 pub use leaf::{clause_false, names_false, unit_false};
 pub use rows::{row_of_decision, rows_on};
-pub use table::{rows_with, table_below};
+pub use table::{rows_for, table_below};
 pub use tally::Tally;
 pub use tour::{Later, Tour, Turn, end_path, first_tour, wait};
 pub use trail::{Trail, decide, decides, first_trail, undo_to};

@@ -6,7 +6,6 @@ use Rattle.bg_sense.specs.Variables.{count_from}
 use Rattle.bg_formula.specs.Atoms.{AtomOf, IsTruth}
 use Rattle.bg_formula.specs.Formulas.{Formula}
 use Rattle.bg_formed.specs.Formed.{FormBlock}
-use Rattle.bg_slice.specs.Slices.{row_if, no_row}
 use Rattle.bg_slice.specs.Marks.{marked_rows}
 use Rattle.bg_clause.specs.Tables.{table, marked}
 use Rattle.bg_clause.specs.Told.{Told, entry_told}

@@ -1,5 +1,5 @@
 -- The forms of commands and of edges, from the last one back.
-use Rattle.std.proofs.Common.{◌≡◌, ℕ, Bool, false, List, [], ◌∷◌, ◌++◌, map, refl, ap, ◌∙◌}
+use Rattle.std.proofs.Common.{◌≡◌, ℕ, false, List, [], ◌∷◌, ◌++◌, map, refl, ap, ◌∙◌}
 use Rattle.std.specs.Prelude.{if◌then◌else◌, Option}
 use Rattle.bg_ast.specs.Execution.{Spot}
 use Rattle.bg_passive.specs.Passive.{spot_eq}
@@ -12,9 +12,9 @@ use Rattle.bg_formed.specs.Views.{form_cmd_of, form_cmds_of, form_edge_of, form_
 use Rattle.bg_forms.specs.Forms.{Form, Plain, both_of, any_of, denied}
 use Rattle.bg_slice.specs.Slices.{slice_cmds, slice_edge, slice_edges, slice_block, sliced}
 use Rattle.bg_slice.proofs.Onward.{use_append, cut_append}
-use Rattle.bg_clause.specs.Failing.{is_there, is_not_there, fail_cmds, fail_later, fail_edges, fail_block}
-use Rattle.bg_clause.specs.Told.{Told, nothing, is_short, told_by, told, with_entry, entry_told}
-use Rattle.bg_clause.specs.Cutting.{Ahead, cut_cmds, fail_edge, cut_block, CutTold, cut_nothing, cut_by, cut_one, cut_told}
+use Rattle.bg_clause.specs.Failing.{is_there, is_not_there, fail_cmds, fail_edges, fail_block}
+use Rattle.bg_clause.specs.Told.{nothing, told, with_entry, entry_told}
+use Rattle.bg_clause.specs.Cutting.{Ahead, cut_cmds, fail_edge, cut_block, CutTold, cut_nothing, cut_one, cut_told}
 
 cmds_append : (cs : List (Option ℕ)) (t : Spot) (ks ms : List FormCmd) (rest : Form) → fail_cmds cs t (ks ++ ms) rest ≡ fail_cmds cs t ks (fail_cmds cs t ms rest)
 cmds_append cs t [] ms rest = refl

@@ -3,12 +3,12 @@ use Rattle.std.specs.Prelude.{ℕ, Bool, List, [], ◌∷◌, Option}
 use Rattle.bg_ast.specs.Execution.{Spot}
 use Rattle.bg_forms.specs.Forms.{Form}
 use Rattle.bg_formed.specs.Formed.{FormCmd, FormEdge, FormBlock}
-use Rattle.bg_formed.specs.Used.{Use, use_cmds, use_edges, use_block}
+use Rattle.bg_formed.specs.Used.{Use, use_cmds, use_block}
 use Rattle.bg_formed.specs.Seen.{use_of}
-use Rattle.bg_slice.specs.Slices.{slice_cmds, slice_edges, slice_block}
+use Rattle.bg_slice.specs.Slices.{slice_cmds, slice_block}
 use Rattle.bg_clause.specs.declared.fails.Ahead as code
 use Rattle.bg_clause.specs.Lends.{lent_in}
-use Rattle.bg_clause.specs.Failing.{fail_cmds, fail_later, fail_edges, fail_block}
+use Rattle.bg_clause.specs.Failing.{fail_cmds, fail_later, fail_block}
 use Rattle.bg_clause.specs.Told.{Told, nothing, is_short, told_by}
 
 -- what stands behind commands: the form that says that it fails, and what is reached there

@@ -7,6 +7,8 @@ use Rattle.bg_clause.specs.declared.lent.Leaf.{Leaf}
 use Rattle.bg_clause.specs.declared.lent.Leaf.TheVariants as leaf
 use Rattle.bg_clause.specs.declared.lent.Lent.{Lent}
 use Rattle.bg_clause.specs.declared.lent.Lent.TheVariants as lent
+use Rattle.bg_clause.specs.declared.lent.Front.{Front}
+use Rattle.bg_clause.specs.declared.lent.Front.TheVariants as front
 use Rattle.bg_clause.specs.declared.lent.Parts.{Parts}
 use Rattle.bg_clause.specs.declared.lent.Parts.TheVariants as part
 
@@ -29,6 +31,11 @@ lent_in (lent.Plain b) = Plain b
 lent_in (lent.Leaf x) = leaf_in x
 lent_in (lent.Behind' s x p g) = sign_of s (Both (leaf_in x) (lent_in g))
 lent_in (lent.Both' s p f q g) = sign_of s (Both (lent_in f) (lent_in g))
+
+abbrev pub front_in : Front → Form
+front_in (front.Alone x) = leaf_in x
+front_in (front.Before x g) = Both (leaf_in x) (lent_in g)
+front_in (front.Other f) = lent_in f
 
 abbrev pub parts_in : Parts → Form
 parts_in (part.Plain b) = Plain b

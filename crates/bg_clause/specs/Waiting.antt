@@ -1,5 +1,5 @@
 -- Forms that wait for their clauses.
-use Rattle.std.specs.Prelude.{ℕ, zero, suc, ◌+◌, Bool, List, [], ◌∷◌, ◌++◌}
+use Rattle.std.specs.Prelude.{◌≡◌, ℕ, zero, suc, ◌+◌, ◌≤◌, Bool, true, List, [], ◌∷◌, ◌++◌}
 use Rattle.bg_formula.specs.declared.atom.Literal.{Literal}
 use Rattle.bg_clause.specs.declared.waiting.Saying.{Saying}
 use Rattle.bg_clause.specs.declared.waiting.Waiting as code
@@ -52,3 +52,9 @@ size_of (Defines k f) = size f
 abbrev pub size_all : List Waits → ℕ
 size_all [] = zero
 size_all (w ∷ ws) = size_of w + size_all ws
+
+-- where one of the literals or x is to be true, y is left to be said behind clauses that were added
+pub record IsLeft (ls : List Literal) (x y : Form) (old new : List (List Literal)) : Type 0 where
+  pub clauses : (n : ℕ) → new ++ emitted_as true ls y n ≡ old ++ emitted_as true ls x n
+  pub more : (n : ℕ) → after_as true y n ≡ after_as true x n
+  pub smaller : size y ≤ size x

@@ -1,43 +1,46 @@
 //! Clauses of forms.
-ghost use Rattle.std.specs.Prelude.{◌≡◌, ◌<◌, ◌≤◌, ℕ, true, ◌∷◌, ◌++◌, map, IfOk, OnOk};
+ghost use Rattle.std.specs.Prelude.{◌≡◌, ◌<◌, false, ◌∷◌, ◌++◌, map, IfOk, OnOk};
+ghost use Rattle.bg_forms.specs.Forms.{Both};
 ghost use Rattle.bg_clause.specs.Emitted.{after, emitted};
 ghost use Rattle.bg_clause.specs.Lends.{lent_in};
 ghost use Rattle.bg_clause.specs.Views.{clauses_in};
 ghost use Rattle.bg_clause.specs.Waiting.{Says, Defines, says_of, waits_of, emitted_all, after_all, size_of, size_all};
 
 use crate::clause::add;
-use crate::lent::{Leaf, Lent, Parts};
+use crate::fronts::{say_each, say_true};
+use crate::lent::{Lent, Parts, literal_of};
 use crate::naming::{name_for, signed_as};
 use crate::pairs::{add_both, add_equal, add_same};
-use crate::waiting::{Saying, Waiting, define, define_both, say, say_both, say_not_both};
+use crate::waiting::{Saying, Waiting, define, define_both, say, say_not_both};
 use bg_forms::opposite;
 use bg_formula::Literal;
 use std::alloc::{AllocError, Global};
 use std::collections::VecDeque;
 
-/// One of the literals is true or both forms are: a literal has its clause, other forms wait.
+/// One of the literals is true or one of both forms is false: one that is a literal needs no clause of its own.
 #[tactic(auto, using(crate::proofs::Emits::emit_forms))]
-fn emit_both<'a>(
+fn emit_not_both<'a>(
     alloc: Global,
-    out: &mut Vec<Vec<Literal>>,
     waiting: &mut VecDeque<Waiting<'a>>,
     literals: Vec<Literal>,
     f: Lent<'a>,
     g: Lent<'a>,
+    next: &mut u32,
 ) -> Result<(), AllocError>
-    ensures clauses { OnOk result ((n : ℕ) → clauses_in out.new.items ++ emitted_all (map waits_of waiting.new.items) n ≡ clauses_in out.old.items ++ emitted_all (Says true literals.items (lent_in f.entry) ∷ Says true literals.items (lent_in g.entry) ∷ map waits_of waiting.old.items) n) }
-    ensures more { OnOk result ((n : ℕ) → after_all (map waits_of waiting.new.items) n ≡ after_all (Says true literals.items (lent_in f.entry) ∷ Says true literals.items (lent_in g.entry) ∷ map waits_of waiting.old.items) n) }
-    ensures smaller { OnOk result (size_all (map waits_of waiting.new.items) ≤ size_all (Says true literals.items (lent_in f.entry) ∷ Says true literals.items (lent_in g.entry) ∷ map waits_of waiting.old.items)) }
+    ensures clauses { OnOk result (emitted_all (map waits_of waiting.new.items) next.new ≡ emitted_all (Says false literals.items (Both (lent_in f.entry) (lent_in g.entry)) ∷ map waits_of waiting.old.items) next.old) }
+    ensures more { OnOk result (after_all (map waits_of waiting.new.items) next.new ≡ after_all (Says false literals.items (Both (lent_in f.entry) (lent_in g.entry)) ∷ map waits_of waiting.old.items) next.old) }
+    ensures smaller { OnOk result (size_all (map waits_of waiting.new.items) < size_all (Says false literals.items (Both (lent_in f.entry) (lent_in g.entry)) ∷ map waits_of waiting.old.items)) }
 {
-    match &f {
-        Lent::Leaf(Leaf::Is(l)) => {
-            let mut all = literals;
-            all.push(*l)?;
-            add(alloc, out, all.as_slice())?;
-            all.pop();
-            say(waiting, true, all, g)
+    match literal_of(&f) {
+        Some(l) => {
+            let mut more = literals;
+            more.push(opposite(l))?;
+            say(waiting, false, more, g)
         }
-        _ => say_both(alloc, waiting, literals, f, g),
+        None => {
+            let k = name_for(&f, next)?;
+            say_not_both(alloc, waiting, literals, k, f, g)
+        }
     }
 }
 
@@ -72,13 +75,18 @@ fn emit_says<'a>(
             more.push(signed_as(sign, l))?;
             add(alloc, out, more.as_slice())
         }
-        Parts::NotSo(f) => say(waiting, !sign, literals, f),
+        Parts::NotSo(f) => {
+            if sign {
+                say(waiting, false, literals, f)
+            } else {
+                say_true(alloc, out, waiting, literals, f)
+            }
+        }
         Parts::Both(f, g) => {
             if sign {
-                emit_both(alloc, out, waiting, literals, f, g)
+                say_each(alloc, out, waiting, literals, f, g)
             } else {
-                let k = name_for(&f, next)?;
-                say_not_both(alloc, waiting, literals, k, f, g)
+                emit_not_both(alloc, waiting, literals, f, g, next)
             }
         }
         Parts::Same(f, g) => {
@@ -154,7 +162,7 @@ pub fn emit<'a>(
     ensures more { OnOk result (next.new ≡ after (lent_in f.entry) next.old) }
 {
     let mut waiting = VecDeque::new(alloc);
-    say(&mut waiting, true, literals, f)?;
+    say_true(alloc, out, &mut waiting, literals, f)?;
     while let Some(w) = waiting.pop_front() {
         emit_one(alloc, out, &mut waiting, w, next)?;
     }

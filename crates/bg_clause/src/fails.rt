@@ -73,6 +73,9 @@ fn supposed<'a>(
 ) -> Result<Lent<'a>, AllocError>
     ensures { IfOk result (λ x. lent_in x ≡ both_of (any_of (is_not_there units.now (option_of candidate_of b)) (said (says_of r.now))) (lent_in rest.entry)) }
 {
+    if b.is_none() {
+        return both_of(alloc, said(r).denied().denied(), rest);
+    }
     let absent = is_there(units, b).denied();
     let here = any_of(alloc, absent, said(r))?;
     both_of(alloc, here, rest)

@@ -1,8 +1,8 @@
 //! Forms whose parts are lent by those of blocks.
-ghost use Rattle.std.specs.Prelude.{◌≡◌, IfOk, false, true};
+ghost use Rattle.std.specs.Prelude.{◌≡◌, IfOk, IfSome, false, true};
 ghost use Rattle.bg_forms.specs.Forms.{plain_of, is_literal, denied, both_beside, both_behind, both_of, any_of, Both};
 ghost use Rattle.bg_forms.specs.Views.{form_in};
-ghost use Rattle.bg_clause.specs.Lends.{literal_in_form, leaf_in, lent_in, parts_in};
+ghost use Rattle.bg_clause.specs.Lends.{literal_in_form, leaf_in, lent_in, front_in, parts_in};
 
 use bg_forms::{Form, opposite};
 use bg_formula::Literal;
@@ -31,6 +31,14 @@ pub enum Parts<'a> {
     NotSo(Lent<'a>),
     Both(Lent<'a>, Lent<'a>),
     Same(Lent<'a>, Lent<'a>),
+}
+
+/// A form by what stands in front of it.
+#[derive(Drop)]
+pub enum Front<'a> {
+    Alone(Leaf<'a>),
+    Before(Leaf<'a>, Lent<'a>),
+    Other(Lent<'a>),
 }
 
 /// What stands behind others is let go in a loop, since commands make long rows of it.
@@ -122,6 +130,19 @@ impl<'a> Lent<'a> {
         }
     }
 
+    /// The form, by what stands in front of it.
+    pub fn front(self) -> Front<'a>
+        ensures { front_in result ≡ lent_in self.entry }
+    {
+        match self {
+            Lent::Plain(b) => Front::Other(Lent::Plain(b)),
+            Lent::Leaf(x) => Front::Alone(x),
+            Lent::Behind(true, x, g) => Front::Before(x, Box::into_inner(g)),
+            Lent::Behind(false, x, g) => Front::Other(Lent::Behind(false, x, g)),
+            Lent::Both(s, f, g) => Front::Other(Lent::Both(s, f, g)),
+        }
+    }
+
     /// The denial: it is marked, and what is marked loses its mark.
     pub fn denied(self) -> Lent<'a>
         ensures { lent_in result ≡ denied (lent_in self.entry) }
@@ -183,7 +204,8 @@ fn plain(f: &Lent<'_>) -> Option<bool>
     }
 }
 
-fn form_literal(f: &Form) -> Option<Literal>
+/// The literal that a form of a block is, if it is one.
+pub fn form_literal(f: &Form) -> Option<Literal>
     ensures { result ≡ literal_in_form (form_in f.now) }
 {
     match f {
@@ -192,6 +214,18 @@ fn form_literal(f: &Form) -> Option<Literal>
         Form::NotSo(_) => None,
         Form::Both(_, _) => None,
         Form::Same(_, _) => None,
+    }
+}
+
+/// The leaf that a form is, if it is one.
+pub fn leaf_of<'a>(f: &Lent<'a>) -> Option<Leaf<'a>>
+    ensures { IfSome result (λ x. leaf_in x ≡ lent_in f.now) }
+{
+    match f {
+        Lent::Plain(_) => None,
+        Lent::Leaf(x) => Some(*x),
+        Lent::Behind(_, _, _) => None,
+        Lent::Both(_, _, _) => None,
     }
 }
 

@@ -5,6 +5,7 @@ mod clause;
 mod emit;
 mod fails;
 mod few;
+mod fronts;
 pub mod laws;
 mod lent;
 mod naming;

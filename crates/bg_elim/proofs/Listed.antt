@@ -1,9 +1,9 @@
 -- Rows are found in the columns of their variables.
-use Rattle.std.proofs.Common.{◌≡◌, ℕ, zero, suc, ◌+◌, ◌<◌, Bool, true, false, ◌&&◌, ◌||◌, List, [], ◌∷◌, ◌++◌, length, map, set, ◌⊎◌, inl, inr, refl, sym, ap, ◌∙◌, arith, nat_eq, subst, cond, Vec, Global}
+use Rattle.std.proofs.Common.{◌≡◌, ℕ, ◌<◌, Bool, true, false, ◌&&◌, ◌||◌, List, [], ◌∷◌, ◌++◌, length, map, set, ◌⊎◌, inl, inr, refl, sym, ap, ◌∙◌, arith, nat_eq, subst, cond, Vec, Global}
 use Rattle.std.specs.Prelude.{Option, Some, None, pos, ◌<ℤ◌, not}
 use Rattle.std.specs.Ordering.{nat_cmp}
 use Rattle.std.specs.BTreeMap.{get}
-use Rattle.std.proofs.lemmas.Bool.{and_parts, and_from, eqb-true}
+use Rattle.std.proofs.lemmas.Bool.{and_parts, eqb-true}
 use Rattle.std.proofs.lemmas.Int.{ints}
 use Rattle.std.proofs.lemmas.List.{length-map}
 use Rattle.bg_rows.specs.declared.row.Row.{Row}

@@ -1,5 +1,5 @@
 -- Numbers that are put into lists.
-use Rattle.std.proofs.Common.{◌≡◌, ℕ, zero, suc, ◌+◌, ◌<◌, Bool, true, false, ◌||◌, List, [], ◌∷◌, ◌++◌, length, map, take, get_or, pos, nat_eq, cond, subst, refl, sym, ap, ◌∙◌, arith, ◌⊎◌, inl, inr, Vec, Global}
+use Rattle.std.proofs.Common.{◌≡◌, ℕ, zero, suc, ◌+◌, ◌<◌, Bool, true, false, ◌||◌, List, [], ◌∷◌, ◌++◌, length, take, get_or, pos, nat_eq, cond, subst, refl, sym, ◌∙◌, arith, inl, inr, Vec, Global}
 use Rattle.std.specs.Prelude.{Some, None, slice_set, slice_index_or}
 use Rattle.std.specs.Ordering.{nat_cmp, is_eq}
 use Rattle.std.specs.declared.cmp.Ordering.{Ordering}
@@ -11,7 +11,6 @@ use Rattle.bg_rows.specs.declared.entry.Entry.{Entry}
 use Rattle.bg_rows.specs.Entries.{mentions}
 use Rattle.std.specs.BTreeMap.{BTreeMap, get}
 use Rattle.bg_elim.specs.declared.columns.Columns.{Columns}
-use Rattle.bg_elim.specs.declared.cost.Sides.{Sides}
 use Rattle.bg_elim.specs.Kept.{is_in}
 use Rattle.bg_elim.specs.Columns.{numbers_at, Keeps, Stands}
 use Rattle.bg_elim.proofs.Orders.{in_more, in_last}

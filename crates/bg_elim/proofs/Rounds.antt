@@ -21,7 +21,7 @@ use Rattle.bg_rows.proofs.Agree.{eliminated_agrees}
 use Rattle.bg_elim.specs.declared.order.Reason.{Reason}
 use Rattle.bg_elim.specs.Kept.{is_in, none_before, only_behind, reason_row, is_new, entries_eq, entries_in, is_true_row, MeetBehind, PairAgrees}
 use Rattle.bg_elim.specs.Work.{WorkOf, free, Covers, Holds, Covered, Placed, Grows, Extends, IsPair, PairReady, with_row, KeptAs, IsPlace}
-use Rattle.bg_elim.proofs.Orders.{in_more, in_last, is_in_last, free_none, free_last, before_grows, before_last, made_kept, made_last, at_more, at_back, fine_last, different_last}
+use Rattle.bg_elim.proofs.Orders.{in_more, is_in_last, free_none, free_last, before_grows, before_last, made_kept, made_last, at_more, at_back, fine_last, different_last}
 use Rattle.bg_elim.proofs.Covers.{covers_same, covers_itself, covers_on, covers_tightened, covers_meets, covers_mentions, covers_free}
 
 -- ---- rows that are kept are sound

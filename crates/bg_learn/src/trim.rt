@@ -3,7 +3,7 @@
 use bg_simplex::Lit;
 use bg_solved::{Deriver, add_multiple, clear, reduced_row};
 use bg_trail::{
-    Engine, Link, Reason, Span, atom_of, is_positive, items, needed, place_of, size_of,
+    Engine, Link, Reason, Span, is_positive, items, needed, place_of, reduced_of, size_of,
 };
 use std::alloc::AllocError;
 
@@ -19,7 +19,7 @@ pub fn derive(e: &Engine<'_>, d: &mut Deriver, span: Span) -> Result<(), AllocEr
     clear(d);
     let mut sum = None;
     for part in items(&e.lemmas.parts, span) {
-        if let Some(Some(r)) = e.columns.reduced.get(atom_of(part.lit)) {
+        if let Some(r) = reduced_of(e, part.lit) {
             let number = reduced_row(d, &e.solved, part.lit, r, !is_positive(part.lit))?;
             sum = Some(add_multiple(d, sum, number, part.times)?);
         }

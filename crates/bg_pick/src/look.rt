@@ -391,8 +391,8 @@ fn if_open(problem: &Problem<'_>, trail: &Trail, a: u32) -> Option<u32>
 }
 
 /// An undecided atom of an open clause, chosen by a look ahead, or else of the last one of the program that is reached, or of the
-/// first one; none where there is no such clause. Clauses that a candidate outside the set may meet come behind all others. Of the mark
-/// it changes what is kept for the next look alone.
+/// first one; none where there is no such clause, or where there are no looks. Clauses that a candidate outside the set may meet come
+/// behind all others. Of the mark it changes what is kept for the next look alone.
 pub fn suggest(problem: &Problem<'_>, trail: &Trail, p: &mut Probe, mark: &mut Mark) -> Option<u32>
     ensures stands { IfSome result (λ a. IsOpenAt trail.now.decisions.items (map (λ c. c.items) problem.now.formula.now.clauses.items) a) }
     ensures row { mark.new.row ≡ mark.old.row }
@@ -400,6 +400,9 @@ pub fn suggest(problem: &Problem<'_>, trail: &Trail, p: &mut Probe, mark: &mut M
     ensures clause { mark.new.clause ≡ mark.old.clause }
     ensures atom { mark.new.atom ≡ mark.old.atom }
 {
+    if !p.looks {
+        return None;
+    }
     let mut look = *mark;
     let found = match candidate(problem, trail, p, &mut look) {
         Some(a) => Some(a),

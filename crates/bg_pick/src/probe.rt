@@ -19,7 +19,8 @@ pub struct Common {
 
 /// Values that are assumed beside those of a path: each candidate outside the set is to be false, and for a while other values are
 /// assumed, in this order. Besides, the values that literals of a clause have in common; how many clauses may still be looked at for
-/// this split; and how many splits are chosen without a look from now on, and were after the last look in vain.
+/// this split; how many splits are chosen without a look from now on, and were after the last look in vain; and whether there are looks
+/// at all.
 #[derive(Drop)]
 pub struct Probe {
     pub assumed: Vec<Option<bool>>,
@@ -29,6 +30,7 @@ pub struct Probe {
     pub left: u32,
     pub rest: u32,
     pub pause: u32,
+    pub looks: bool,
 }
 
 /// What a clause is under a path and what is assumed.
@@ -79,6 +81,7 @@ pub fn new_probe(alloc: Global, f: &Clauses, set: &[bool]) -> Result<Probe, Allo
         left: 0,
         rest: 0,
         pause: 0,
+        looks: true,
     })
 }
 

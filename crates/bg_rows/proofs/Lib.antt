@@ -6,3 +6,4 @@ pub mod Normal
 pub mod Places
 pub mod Sound
 pub mod Keyed
+pub mod Once

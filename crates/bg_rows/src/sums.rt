@@ -1,6 +1,7 @@
 //! Multiples and sums of rows.
-ghost use Rattle.std.specs.Prelude.{◌≡◌, ◌++◌, ◌∷◌, [], pos, ◌≤ℤ◌};
-ghost use Rattle.bg_base.specs.Exact.{sum_of};
+ghost use Rattle.std.specs.Prelude.{◌≡◌, ◌++◌, ◌∷◌, [], pos, true, Ok, ◌≤ℤ◌};
+ghost use Rattle.bg_base.specs.Exact.{sum_of, product_of};
+ghost use Rattle.bg_rows.specs.Entries.{rising};
 ghost use Rattle.bg_rows.specs.Rows.{row_of, Told, multiples, times, merged, plus, combined, negations, denied, after, put, and_then};
 
 use crate::entry::Entry;
@@ -31,7 +32,7 @@ fn push_multiple(made: &mut Vec<Entry>, k: i128, t: &Entry) -> Result<(), Refuse
 fn multiples(alloc: Global, k: i128, entries: &[Entry]) -> Result<Vec<Entry>, Refused>
     ensures { Told (λ v. v.items) result (multiples k entries.now) }
 {
-    let mut made = Vec::new(alloc);
+    let mut made = Vec::with_capacity(alloc, entries.len())?;
     for t in entries {
         push_multiple(&mut made, k, t)?;
     }
@@ -61,7 +62,7 @@ fn push_sum(made: &mut Vec<Entry>, t: &Entry, u: &Entry) -> Result<(), Refused>
 fn merged(alloc: Global, a: &[Entry], b: &[Entry]) -> Result<Vec<Entry>, Refused>
     ensures { Told (λ v. v.items) result (merged a.now b.now) }
 {
-    let mut made = Vec::new(alloc);
+    let mut made = Vec::with_capacity(alloc, a.len().saturating_add(b.len()))?;
     let mut i = 0;
     let mut j = 0;
     while i < a.len() && j < b.len() {
@@ -94,15 +95,60 @@ fn plus(alloc: Global, a: &Row, b: &Row) -> Result<Row, Refused>
     Ok(Row { entries, bound })
 }
 
+/// One times a number is the number: nothing is left to do.
+fn number_once(by: i128)
+    ensures { product_of (pos 1) by ≡ Ok by }
+{}
+
+/// The same of a coefficient.
+fn entry_once(t: &Entry)
+    ensures { product_of (pos 1) t.now.by ≡ Ok t.now.by }
+{
+    number_once(t.by);
+}
+
+/// The same of entries, which are read for no other reason.
+fn entries_once(entries: &[Entry])
+    requires { rising 0 entries.now ≡ true }
+    ensures { multiples (pos 1) entries.now ≡ Ok entries.now }
+{
+    for t in entries {
+        entry_once(t);
+    }
+}
+
+/// The same of a row.
+fn row_once(row: &Row)
+    ensures { times (pos 1) (row_of row.now) ≡ Ok (row_of row.now) }
+{
+    entries_once(&row.entries);
+    number_once(row.bound);
+}
+
+/// A row and a multiple of another. Once that one needs no copy.
+fn plus_multiple(alloc: Global, x: &Row, b: &Row, k: i128) -> Result<Row, Refused>
+    ensures { Told row_of result (and_then (times k (row_of b.now)) (λ y. plus (row_of x.now) y)) }
+{
+    if k == 1 {
+        row_once(b);
+        return plus(alloc, x, b);
+    }
+    let y = times(alloc, k, b)?;
+    plus(alloc, x, &y)
+}
+
 /// The sum of two multiples. Refused at the first operation that leaves the range.
 pub fn combine(alloc: Global, a: &Row, k1: i128, b: &Row, k2: i128) -> Result<Row, Refused>
     requires low { pos 0 ≤ℤ k1 }
     requires low2 { pos 0 ≤ℤ k2 }
     ensures { Told row_of result (combined (row_of a.now) k1 (row_of b.now) k2) }
 {
+    if k1 == 1 {
+        row_once(a);
+        return plus_multiple(alloc, a, b, k2);
+    }
     let x = times(alloc, k1, a)?;
-    let y = times(alloc, k2, b)?;
-    plus(alloc, &x, &y)
+    plus_multiple(alloc, &x, b, k2)
 }
 
 /// A negated entry, behind those made.
@@ -121,7 +167,7 @@ fn push_negation(made: &mut Vec<Entry>, t: &Entry) -> Result<(), Refused>
 fn negations(alloc: Global, entries: &[Entry]) -> Result<Vec<Entry>, Refused>
     ensures { Told (λ v. v.items) result (negations entries.now) }
 {
-    let mut made = Vec::new(alloc);
+    let mut made = Vec::with_capacity(alloc, entries.len())?;
     for t in entries {
         push_negation(&mut made, t)?;
     }

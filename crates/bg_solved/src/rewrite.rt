@@ -52,9 +52,18 @@ struct Read {
     second: usize,
 }
 
+/// The product; none where it leaves 128 bits. Mostly the second one is 1.
+fn product(a: i128, times: i128) -> Option<i128> {
+    if times == 1 {
+        Some(a)
+    } else {
+        a.checked_mul(times)
+    }
+}
+
 /// The entry of a variable that stands in both rows; none where a number leaves 128 bits.
 fn both(t: Entry, u: Entry, times: i128) -> Option<Entry> {
-    let by = t.by.checked_add(u.by.checked_mul(times)?)?;
+    let by = t.by.checked_add(product(u.by, times)?)?;
     Some(Entry {
         variable: t.variable,
         by,
@@ -63,7 +72,7 @@ fn both(t: Entry, u: Entry, times: i128) -> Option<Entry> {
 
 /// So many times an entry; none where a number leaves 128 bits.
 fn multiple(u: Entry, times: i128) -> Option<Entry> {
-    let by = u.by.checked_mul(times)?;
+    let by = product(u.by, times)?;
     Some(Entry {
         variable: u.variable,
         by,
@@ -136,7 +145,7 @@ fn half_of(s: &Solved, dep: Dep) -> Option<(&Row, i128)> {
 
 /// The bound of a sum.
 fn bound_of(bound: i128, half: &Row, times: i128) -> Option<i128> {
-    bound.checked_add(half.bound.checked_mul(times)?)
+    bound.checked_add(product(half.bound, times)?)
 }
 
 /// Takes so many times an equality from a row. False where a number leaves 128 bits.

@@ -18,8 +18,9 @@ pub struct Limit {
 }
 
 /// Of each column the sum that it stands for, the atoms that bound it, and how many of these have no value. The column of each term
-/// alone, and those of longer sums by their entries. Of each atom its row over the terms that aren't solved away, and what it says of
-/// its column. And whether a number left 128 bits on the way.
+/// alone, and those of longer sums by their entries. Of each atom what it says of its column. The rows over the terms that aren't solved
+/// away, in the order in which their atoms took their seats, and of each atom the place of its row. And whether a number left 128 bits on
+/// the way.
 #[derive(Drop)]
 pub struct Columns {
     pub entries: Vec<Entry>,
@@ -29,16 +30,13 @@ pub struct Columns {
     pub terms: Vec<Option<u32>>,
     pub ids: BTreeMap<Vec<(u32, i128)>, u32>,
     pub limits: Vec<Option<Limit>>,
-    pub reduced: Vec<Option<Reduced>>,
+    pub reduced: Vec<Reduced>,
+    pub of_atom: Vec<Option<u32>>,
     pub broken: bool,
 }
 
 /// No columns, with room for so many terms and atoms.
 pub fn new_columns(alloc: Global, terms: u32, atoms: usize) -> Result<Columns, AllocError> {
-    let mut reduced = Vec::with_capacity(alloc, atoms)?;
-    for _ in 0..atoms {
-        reduced.push(None)?;
-    }
     Ok(Columns {
         entries: Vec::new(alloc),
         forms: Vec::new(alloc),
@@ -47,7 +45,8 @@ pub fn new_columns(alloc: Global, terms: u32, atoms: usize) -> Result<Columns, A
         terms: vec![in alloc; None; terms as usize]?,
         ids: BTreeMap::new(alloc),
         limits: vec![in alloc; None; atoms]?,
-        reduced,
+        reduced: Vec::new(alloc),
+        of_atom: vec![in alloc; None; atoms]?,
         broken: false,
     })
 }
@@ -55,7 +54,7 @@ pub fn new_columns(alloc: Global, terms: u32, atoms: usize) -> Result<Columns, A
 /// Makes room for one atom more.
 pub fn grow_columns(columns: &mut Columns) -> Result<(), AllocError> {
     columns.limits.push(None)?;
-    columns.reduced.push(None)?;
+    columns.of_atom.push(None)?;
     Ok(())
 }
 

@@ -31,7 +31,7 @@ pub use literals::{atom_of, is_positive, literal, named, negated, numbered};
 pub use order::{Front, is_met, is_opening, is_reached, next_literal};
 pub use propagation::propagate;
 pub use reason::{Reason, Reasons, needed, reason_of, size_of, top_level};
-pub use seats::{row_atom, seat};
+pub use seats::{reduced_of, row_atom, seat};
 pub use span::{Span, items};
 pub use table::Table;
 pub use trail::{Trail, at_place, is_false, is_open, is_true, place_of, start_of, truth};

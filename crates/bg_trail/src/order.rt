@@ -107,7 +107,7 @@ fn openings(alloc: Global, f: &Clauses) -> Result<Vec<bool>, AllocError> {
         named: vec![in alloc; false; f.atoms.len()]?,
         told: vec![in alloc; false; f.atoms.len()]?,
     };
-    let mut made = Vec::new(alloc);
+    let mut made = Vec::with_capacity(alloc, f.clauses.len())?;
     for clause in &f.clauses {
         made.push(opens(f, &names, clause))?;
         note(&mut names, clause);

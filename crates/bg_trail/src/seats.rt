@@ -2,11 +2,12 @@
 
 use crate::columns::{Limit, column_of, face};
 use crate::engine::{Engine, grow};
-use crate::literals::literal;
+use crate::literals::{atom_of, literal};
 use crate::table::{push_row, row_number};
 use crate::trail::is_open;
 use bg_formula::{Linear, deny_row};
 use bg_rows::{Entry, Refused, Row};
+use bg_simplex::Lit;
 use bg_solved::{Reduced, made_row, reduce};
 use std::alloc::{AllocError, Global};
 
@@ -36,10 +37,13 @@ fn sit(e: &mut Engine<'_>, a: u32, row: &Row) -> Result<(), AllocError> {
 }
 
 /// Keeps an atom's reduced row.
-fn keep_reduced(e: &mut Engine<'_>, a: u32, r: Reduced) {
-    if let Some(reduced) = e.columns.reduced.get_mut(a as usize) {
-        *reduced = Some(r);
+fn keep_reduced(e: &mut Engine<'_>, a: u32, r: Reduced) -> Result<(), AllocError> {
+    let at = u32::try_from(e.columns.reduced.len()).ok();
+    if let Some(place) = e.columns.of_atom.get_mut(a as usize) {
+        *place = at;
+        e.columns.reduced.push(r)?;
     }
+    Ok(())
 }
 
 /// Gives an atom its reduced row and its column. Answers its value where its reduced row has no terms, and so decides itself.
@@ -57,8 +61,16 @@ pub fn seat(e: &mut Engine<'_>, a: u32, row: &Row) -> Result<Option<bool>, Alloc
     } else {
         None
     };
-    keep_reduced(e, a, r);
+    keep_reduced(e, a, r)?;
     Ok(known)
+}
+
+/// The reduced row of a literal's atom, if it has a seat.
+pub fn reduced_of<'a>(e: &'a Engine<'_>, l: Lit) -> Option<&'a Reduced> {
+    match e.columns.of_atom.get(atom_of(l)) {
+        Some(Some(at)) => e.columns.reduced.get(*at as usize),
+        _ => None,
+    }
 }
 
 /// A row with its denial, if no number leaves 128 bits.

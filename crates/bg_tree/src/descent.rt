@@ -162,9 +162,9 @@ fn walked(
     Ok(None)
 }
 
-/// Walks down from the root along values that were proposed, by the search's own rules and without a way back: to a complete leaf
-/// or to why the search ends there; or nothing, where a clause, a unit of the set or the rows are false on the way. A point has each term
-/// as near to its target as may be: the targets are any numbers of 128 bits, by the terms' numbers, 0 behind the list's end.
+/// Walks down from the root along values that were proposed, by the search's own rules, without looks ahead and without a way back: to a
+/// complete leaf or to why the search ends there; or nothing, where a clause, a unit of the set or the rows are false on the way. A point
+/// has each term as near to its target as may be: the targets are any numbers of 128 bits, by the terms' numbers, 0 behind the list's end.
 ///
 /// Only want of memory is an error.
 pub fn follow(
@@ -180,6 +180,7 @@ pub fn follow(
 {
     let index = index_of(alloc, f, set)?;
     let mut probe = new_probe(alloc, f, set)?;
+    probe.looks = false;
     let problem = Problem {
         formula: f,
         set,

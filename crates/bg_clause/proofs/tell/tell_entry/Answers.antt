@@ -1,6 +1,5 @@
-use Rattle.std.proofs.Common.{rules, ◌≡◌, ◌∷◌, List, map, sym, ap, ◌∙◌}
+use Rattle.std.proofs.Common.{rules, ◌≡◌, ◌∷◌, map, sym, ap, ◌∙◌}
 use Rattle.bg_places.specs.Views.{spot_of}
-use Rattle.bg_formed.specs.Formed.{FormBlock}
 use Rattle.bg_formed.specs.Used.{uses, use_later}
 use Rattle.bg_formed.specs.Views.{form_block_of}
 use Rattle.bg_slice.specs.Slices.{sliced}

@@ -1,11 +1,11 @@
-use Rattle.std.proofs.Common.{◌≡◌, map, ap, ◌∙◌}
+use Rattle.std.proofs.Common.{map, ap, ◌∙◌}
 use Rattle.std.proofs.lemmas.Result.{IfOk-weaker}
 use Rattle.bg_places.specs.Views.{spot_of}
 use Rattle.bg_formed.specs.Seen.{use_of}
 use Rattle.bg_formed.specs.Views.{form_cmds_of}
 use Rattle.bg_forms.specs.Forms.{any_of}
 use Rattle.bg_clause.specs.Failing.{fail_later}
-use Rattle.bg_clause.specs.Cutting.{Ahead, ahead_of, cut_cmds}
+use Rattle.bg_clause.specs.Cutting.{Ahead, cut_cmds}
 use Rattle.bg_clause.specs.Lends.{lent_in}
 use Rattle.bg_clause.specs.Views.{short_in}
 use Rattle.bg_clause.proofs.ways.cut_edge.Goals as goal

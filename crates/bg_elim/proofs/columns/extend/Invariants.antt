@@ -1,4 +1,4 @@
-use Rattle.std.proofs.Common.{ℕ, ◌+◌, ◌-◌, length}
+use Rattle.std.proofs.Common.{◌+◌, ◌-◌, length}
 use Rattle.bg_elim.specs.Columns.{Keeps}
 use Rattle.bg_elim.proofs.columns.extend.Given as goal
 

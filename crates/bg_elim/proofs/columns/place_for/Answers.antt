@@ -1,5 +1,4 @@
 use Rattle.std.proofs.Common.{rules}
-use Rattle.std.specs.Prelude.{None}
 use Rattle.bg_elim.proofs.Lists.{place_kept}
 use Rattle.bg_elim.proofs.columns.place_for.Goals as goal
 

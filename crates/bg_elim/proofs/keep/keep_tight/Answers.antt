@@ -1,5 +1,4 @@
-use Rattle.std.proofs.Common.{◌≡◌, ◌<◌, Some, length, ap, ◌∙◌, rules}
-use Rattle.bg_rows.specs.Rows.{row_of}
+use Rattle.std.proofs.Common.{◌<◌, Some, length, ap, ◌∙◌, rules}
 use Rattle.bg_elim.proofs.Begins.{given_at}
 use Rattle.bg_elim.proofs.keep.keep_tight.Goals as goal
 

@@ -1,4 +1,4 @@
-use Rattle.std.proofs.Common.{rules, ◌≡◌, map, ap, sym, ◌∙◌, length, subst, true}
+use Rattle.std.proofs.Common.{rules, ◌≡◌, map, ap, sym, ◌∙◌, length}
 use Rattle.std.proofs.lemmas.List.{length-map}
 use Rattle.bg_rows.specs.Rows.{row_of}
 use Rattle.bg_elim.specs.Keys.{place_of}

@@ -1,8 +1,7 @@
-use Rattle.std.proofs.Common.{◌≡◌, ℕ, ◌<◌, ◌&&◌, not, true, List, length, map, refl, sym, ap, ◌∙◌, subst, arith}
+use Rattle.std.proofs.Common.{◌≡◌, ℕ, ◌<◌, true, length, refl, sym, ◌∙◌, subst, arith}
 use Rattle.std.proofs.lemmas.List.{length-map}
-use Rattle.bg_rows.specs.Rows.{row_of}
 use Rattle.bg_elim.specs.Kept.{is_in}
-use Rattle.bg_elim.specs.Work.{work_of, marked, is_live, IsPair, IsRound, KeepsSound}
+use Rattle.bg_elim.specs.Work.{work_of, marked, IsPair, IsRound, KeepsSound}
 use Rattle.bg_elim.proofs.Live.{live_is, live_below, rest_is, left_is}
 use Rattle.bg_elim.proofs.Listed.{out_listed}
 use Rattle.bg_elim.proofs.Sides.{AllReady, pairs_of_sides, next_is, sound_next, round_gone}

@@ -1,6 +1,6 @@
-use Rattle.std.proofs.Common.{◌≡◌, ◌<◌, true, length, map, refl, sym, ap, ◌∙◌, arith, rules}
+use Rattle.std.proofs.Common.{◌≡◌, ◌<◌, length, map, refl, rules}
 use Rattle.std.specs.Prelude.{Some}
-use Rattle.bg_rows.specs.Rows.{RowOf, row_of}
+use Rattle.bg_rows.specs.Rows.{row_of}
 use Rattle.bg_rows.specs.Steps.{row_at}
 use Rattle.bg_elim.proofs.Begins.{given_at}
 use Rattle.bg_elim.proofs.Live.{joined_is}

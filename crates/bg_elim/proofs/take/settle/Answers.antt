@@ -1,4 +1,4 @@
-use Rattle.std.proofs.Common.{◌≡◌, inr, sym, ap, subst, Some, length}
+use Rattle.std.proofs.Common.{inr, sym, subst}
 use Rattle.bg_rows.specs.Rows.{row_of}
 use Rattle.bg_elim.specs.Work.{WorkOf, work_of, Holds, Extends, StaysPlaced, IsThere}
 use Rattle.bg_elim.proofs.Rounds.{holds_kept, holds_live, settled_sound, settled_placed, aside_placed, place_some, stays_kept, extends_kept, extends_on, extends_live}

@@ -14,6 +14,6 @@ loop-t-preserved c =
 pub returns-in_err-push_multiple : goal.returns-in_err-push_multiple
 returns-in_err-push_multiple c =
     let i = simp (to_z-of_z, c.ranges.k) at c.loop-t.invariant in
-    let is : c.from_residual.result ≡ Err c.in_err-push_multiple.field-0.0 = search rules in
+    let is : c.from_residual-in_err-push_multiple.result ≡ Err c.in_err-push_multiple.field-0.0 = search rules in
     let ended = λ (o : OutOfRange) (s : after c.loop-t.made.items (multiples c.args.k (get_or c.args.entries.now c.loop-t.t-index nothing ∷ [])) ≡ Err o). sym i ∙ multiples_end c.loop-t.made.items c.args.entries.now c.args.k c.loop-t.t-index o (omega arith) s in
-    told_end {A = Unit {0}} (λ _. c.push_multiple.new.made.items) (λ v. v.items) c.from_residual.result c.in_err-push_multiple.field-0.0 _ (multiples c.args.k c.args.entries.now) ended (simp (to_z-of_z, c.ranges.k) at c.in_err-push_multiple.ensures) is
+    told_end {A = Unit {0}} (λ _. c.push_multiple.new.made.items) (λ v. v.items) c.from_residual-in_err-push_multiple.result c.in_err-push_multiple.field-0.0 _ (multiples c.args.k c.args.entries.now) ended (simp (to_z-of_z, c.ranges.k) at c.in_err-push_multiple.ensures) is
