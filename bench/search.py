@@ -1,6 +1,6 @@
 #!/usr/bin/env python3
 """Times of the search: families of programs that grow with a number N, side by side with Boogie where it is installed (run without its
-interval inference).
+interval inference, and with its theory of arrays where there are maps, since by its own axioms it doesn't prove that maps are equal).
 
 usage: search.py --bg PROGRAM [--families NAME=N,N.. ..] [--runs N] [--seconds N]
 
@@ -21,7 +21,8 @@ MEASURED = {
     "straight": (100, 800), "counters": (10, 40), "machine": (80,), "settled": (200, 1000), "chain": (1000,),
     "implementations": (1000,), "ways": (8, 12, 32), "checked_ways": (8, 32), "sorter": (3, 5), "tickets": (3, 5, 7),
     "pigeons": (5,), "locals_alone": (1000, 4000), "globals_alone": (1000, 10000), "looked_up": (50, 150), "nested": (10, 40),
-    "nested_open": (10, 40),
+    "nested_open": (10, 40), "read_back": (5, 20, 80), "filled_entries": (5, 20, 80), "deposits": (5, 20, 80), "fields": (5, 20, 80),
+    "two_orders": (5, 20, 80),
 }  # fmt: skip
 
 
@@ -164,7 +165,57 @@ def nested_open(n):
     return nested(n, open_ways=True)
 
 
-FAMILIES = {f.__name__: f for f in (settled, counters, ways, checked_ways, machine, straight, chain, implementations, locals_alone, globals_alone, sorter, pigeons, tickets, looked_up, nested, nested_open)}
+def in_order(n):
+    """Parameters and what is required of them, so many different whole numbers."""
+    return ", ".join(f"i{k}: int" for k in range(n)), [f"  requires i{k} < i{k + 1};" for k in range(n - 1)]
+
+
+def read_back(n):
+    """Updates at n different indices, and what stands there behind them all."""
+    params, lines = in_order(n)
+    lines = [f"procedure P(m: [int]int, {params})", *lines, "{", "  var x: [int]int;", "  x := m;"]
+    lines += [f"  x[i{k}] := {k};" for k in range(n)]
+    return "\n".join(lines + [f"  assert x[i{k}] == {k};" for k in range(n)] + ["}", ""])
+
+
+def filled_entries(n):
+    """A loop that fills a map, with invariants of n single indices."""
+    lines = [f"procedure P(most: int) returns (m: [int]int)", f"  requires {n} <= most;", "{", "  var k: int;", "  k := 0;", "  while (k < most)"]
+    lines += ["    invariant 0 <= k && k <= most;"] + [f"    invariant {j} < k ==> m[{j}] == {j + 1};" for j in range(n)]
+    lines += ["  {", "    m[k] := k + 1;", "    k := k + 1;", "  }"]
+    return "\n".join(lines + [f"  assert m[{j}] == {j + 1};" for j in range(n)] + ["}", ""])
+
+
+def deposits(n):
+    """Calls that change a global map, each at an index of its own."""
+    names = [f"a{k}" for k in range(n)]
+    lines = ["type Account;", f"const unique {', '.join(names)}: Account;", "var balance: [Account]int;", "procedure Deposit(a: Account, x: int)"]
+    lines += ["  modifies balance;", "  ensures balance == old(balance)[a := old(balance)[a] + x];", "{", "  balance[a] := balance[a] + x;", "}"]
+    lines += ["procedure P()", "  modifies balance;"] + [f"  ensures balance[{name}] == old(balance)[{name}] + {k};" for k, name in enumerate(names)]
+    return "\n".join(lines + ["{"] + [f"  call Deposit({name}, {k});" for k, name in enumerate(names)] + ["}", ""])
+
+
+def fields(n):
+    """Fields of two records in one heap; what one record has doesn't change what the other one has."""
+    names = [f"f{k}" for k in range(n)]
+    lines = ["type Ref, Field;", f"const unique {', '.join(names)}: Field;", "var heap: [Ref, Field]int;", "procedure P(r: Ref, s: Ref)", "  requires r != s;"]
+    lines += ["  modifies heap;"] + [f"  ensures heap[r, {name}] == old(heap)[r, {name}] + {k};" for k, name in enumerate(names)] + ["{"]
+    lines += [f"  heap[r, {name}] := heap[r, {name}] + {k}; heap[s, {name}] := heap[r, {name}];" for k, name in enumerate(names)]
+    return "\n".join(lines + ["}", ""])
+
+
+def two_orders(n):
+    """Updates at n different indices in two orders: the maps are equal."""
+    params, lines = in_order(n)
+    lines = [f"procedure P(m: [int]int, {params})", *lines, "{", "  var x, y: [int]int;", "  x, y := m, m;"]
+    lines += [f"  x[i{k}] := {k};" for k in range(n)] + [f"  y[i{k}] := {k};" for k in reversed(range(n))]
+    return "\n".join(lines + ["  assert x == y;", "}", ""])
+
+
+# those with maps
+OVER_MAPS = (read_back, filled_entries, deposits, fields, two_orders)
+
+FAMILIES = {f.__name__: f for f in (settled, counters, ways, checked_ways, machine, straight, chain, implementations, locals_alone, globals_alone, sorter, pigeons, tickets, looked_up, nested, nested_open, *OVER_MAPS)}
 
 
 def median(command, runs, seconds):
@@ -210,7 +261,8 @@ def main():
                 report, ours, memory = median([args.bg, "verify", source], args.runs, args.seconds)
                 cells = [f"`{name} {size}`", verdicts(report), inference.cell(ours, memory)]
                 if boogie:
-                    said, theirs, room = median([boogie, "/nologo", "/noinfer", source], args.runs, args.seconds)
+                    words = ["/nologo", "/noinfer", *["/useArrayTheory"] * (FAMILIES[name] in OVER_MAPS)]
+                    said, theirs, room = median([boogie, *words, source], args.runs, args.seconds)
                     cells += [inference.cell(theirs, room), share(ours, theirs) if agree(report, said) else "NOT THE SAME"]
                 print(f"| {' | '.join(cells)} |", flush=True)
 

@@ -6,8 +6,8 @@ usage: certificates.py --bg COMMAND [--short]
 - Each program of examples/ that is verified as it is written: what `certify` writes has its status, and `check` accepts it. For each other
   one that is judged, `check` names the first place that its report doesn't call proved.
 - The first reason why a certificate is rejected or refused, for texts written by hand; among them values and tables with elements of
-  user types, wrong in one way each.
-- The lines of a place's terms and instances: those that name what isn't there are rejected, and the others change nothing.
+   user types, and with maps, wrong in one way each.
+ - The lines of a place's terms and instances: those that name what isn't there are rejected, and the others change nothing.
 - A certificate without one of its lines, with two of its sections exchanged or with one twice, is never accepted: so nothing in it is idle.
 - Hostile texts: numbers out of range, a hundred thousand splits, a text cut off behind each line, one line as long as a text may be: a
   named status, and memory that grows with the text alone. With --short these are shorter.
@@ -41,6 +41,14 @@ const d T!7
 const c U!3
 function f [T!-1,1 := U!0, else U!3]
 function g [T!-2,U!0 := T!1, T!3,U!-1 := T!2, T!3,U!4 := T!3, else T!0]
+"""
+MAPS = """type T; const m: [int]int; const n: [int,T]bool; type G = [int]H, H = [int]int; const g: G; const t: T;
+function f(x: H): [T]int; axiom m[1] == 2 && m[0] == 0 && n[3, t] && g[1] == m && f(m)[t] == 5 && f(g[0]) == f(m)[t := 3];"""
+OF_MAPS = """const m [1 := 2, else 0]
+const n [3,T!0 := true, else false]
+const g [1 := [1 := 2, else 0], else [else 0]]
+const t T!0
+function f [[else 0] := [T!0 := 3, else 1], [1 := 2, else 0] := [T!0 := 5, else 1], else [else 0]]
 """
 UNPROVED = "rejected: P 1:1 assert 1:45\n"
 TIMES = 60  # kilobytes of memory for each kilobyte of a hostile text, at most
@@ -76,6 +84,45 @@ NO_ELEMENTS = [
     ("two marks in an element", "a T!-1", "a T!-1!-1", 3),
     ("a comma in the name of an element's type", "a T!-1", "a T,T!-1", 3),
     ("an element's number past 128 bits", "a T!-1", f"a T!{2**127}", 3),
+]
+
+# the same of MAPS
+WRONG_MAPS = [
+    ("another value, with which an axiom is false", "m [1 := 2", "m [1 := 3"),
+    ("another key, with which an axiom is false", "m [1 := 2", "m [2 := 2"),
+    ("another default, with which an axiom is false", "m [1 := 2, else 0]", "m [1 := 2, else 1]"),
+    ("another map at a key, with which an axiom is false", "[1 := [1 := 2, else 0]", "[1 := [1 := 2, 5 := 1, else 0]"),
+    ("a number for a map", "m [1 := 2, else 0]", "m 2"),
+    ("a map for an element", "t T!0", "t [else T!0]"),
+    ("a number for an inner map", "[1 := [1 := 2, else 0]", "[1 := 2"),
+    ("a number for an inner map as the default", "else [else 0]]\nconst", "else 0]\nconst"),
+    ("parts of a key in another order", "[3,T!0", "[T!0,3"),
+    ("a key with a part too few", "[3,T!0", "[3"),
+    ("a key with a part too many", "[3,T!0", "[3,T!0,1"),
+    ("an element of another type in a key", "[3,T!0", "[3,U!0"),
+    ("a number for an element in a key", "[3,T!0", "[3,0"),
+    ("an entry's value of another type", ":= true", ":= 1"),
+    ("a default of another type", "else false", "else 0"),
+    ("keys of a function's table that are no maps", "[[else 0] := [T!0 := 3, else 1], [1 := 2, else 0]", "[0 := [T!0 := 3, else 1], 1"),
+    ("a key of a function's table that is another map", "[1 := 2, else 0] := [T", "[1 := true, else false] := [T"),
+]
+NO_MAPS = [
+    ("keys in another order", "m [1 := 2", "m [1 := 2, 0 := 3", 3),
+    ("two entries at a key", "m [1 := 2", "m [1 := 2, 1 := 3", 3),
+    ("an entry with the default", "m [1 := 2", "m [1 := 2, 4 := 0", 3),
+    ("a map without a default", "m [1 := 2, else 0]", "m [1 := 2]", 3),
+    ("an empty map", "m [1 := 2, else 0]", "m []", 3),
+    ("a bracket that isn't closed", "m [1 := 2, else 0]", "m [1 := 2, else 0", 3),
+    ("a bracket too many", "m [1 := 2, else 0]", "m [1 := 2, else 0]]", 3),
+    ("something behind the default", "m [1 := 2, else 0]", "m [1 := 2, else 0, 3 := 4]", 3),
+    ("no space behind an entry", "m [1 := 2, else", "m [1 := 2,else", 3),
+    ("a space within a key", "[3,T!0", "[3, T!0", 4),
+    ("no space before a value", "m [1 := 2", "m [1 :=2", 3),
+    ("an entry with the default of an inner map", "[1 := [1 := 2, else 0]", "[1 := [1 := 2, 2 := 0, else 0]", 5),
+    ("an inner map that the default says", "[1 := [1 := 2, else 0]", "[0 := [else 0], 1 := [1 := 2, else 0]", 5),
+    ("maps as keys in another order", "[[else 0] := [T!0 := 3, else 1], ", "[[1 := 3, else 0] := [T!0 := 3, else 1], ", 7),
+    ("a map twice as a key", "[[else 0] := [T!0 := 3, else 1], ", "[[1 := 2, else 0] := [T!0 := 3, else 1], ", 7),
+    ("a number in a map past 128 bits", "m [1 := 2", f"m [1 := {2**127}", 3),
 ]
 
 # a program, a certificate, the status, what is written to the output and to the errors
@@ -182,15 +229,15 @@ def answers(t):
         t.holds(f"{cert!r} for {program!r}", got == (status, out.encode(), err.encode()), got)
 
 
-def elements(t):
-    """Values and tables with elements, and what may not stand in one's place: each is wrong in one way."""
-    path = t.stored("a.bpl", ELEMENTS.encode())
-    wrong = [(why, part, other, (1, b"rejected: axioms\n", b"")) for why, part, other in WRONG_ELEMENTS]
-    none = [(why, part, other, (3, b"", b"error: certificate line %d\n" % line)) for why, part, other, line in NO_ELEMENTS]
-    for why, part, other, wanted in [("as they should be", "", "", (0, b"accepted\n", b"")), *wrong, *none]:
-        cert = FRONT + OF_ELEMENTS.replace(part, other, 1) + "end\n"
+def values(t, name, program, lines, wrong, none):
+    """Values and tables of a program, and what may not stand in one's place: each is wrong in one way."""
+    path = t.stored("a.bpl", program.encode())
+    rejected = [(why, part, other, (1, b"rejected: axioms\n", b"")) for why, part, other in wrong]
+    refused = [(why, part, other, (3, b"", b"error: certificate line %d\n" % line)) for why, part, other, line in none]
+    for why, part, other, wanted in [("as they should be", "", "", (0, b"accepted\n", b"")), *rejected, *refused]:
+        cert = FRONT + lines.replace(part, other, 1) + "end\n"
         got = t.check(cert.encode(), path)
-        t.holds(f"elements: {why}", part in OF_ELEMENTS and got == wanted, (cert, got))
+        t.holds(f"{name}: {why}", part in lines and got == wanted, (cert, got))
 
 
 def lined(t):
@@ -279,9 +326,11 @@ def main():
         for source in sorted(glob.glob(os.path.join(TOP, "examples", "*.bpl"))):
             example(t, source)
         answers(t)
-        elements(t)
+        values(t, "elements", ELEMENTS, OF_ELEMENTS, WRONG_ELEMENTS, NO_ELEMENTS)
+        values(t, "maps", MAPS, OF_MAPS, WRONG_MAPS, NO_MAPS)
         lined(t)
-        for name in ("count_inferred",) if args.short else ("count_inferred", "insertion_inferred", "gcd", "bank_inferred"):
+        short = "count_inferred", "update_by_itself"
+        for name in short if args.short else (*short, "insertion_inferred", "gcd", "bank_inferred", "pair_indices", "filled_inferred"):
             source = os.path.join(TOP, "examples", name + ".bpl")
             doctored(t, source)
             fronts(t, source)

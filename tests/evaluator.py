@@ -1,4 +1,4 @@
-"""Executes programs over truth values, whole numbers and elements of user types, for the judge of reports; the rules are those of docs/MEANING.md.
+"""Executes programs over truth values, whole numbers, elements of user types and maps, for the judge of reports; the rules are those of docs/MEANING.md.
 
 Statements are executed and nothing is proved; whole numbers have no bound. A run is a source run, in which loops turn, or an
 induction run, in which a loop checks its invariants, forgets what its body may change, and makes one turn or none. Calls go by
@@ -9,7 +9,7 @@ import random
 import re
 from typing import NamedTuple
 
-from language import FUNCTIONS, TABLES, walk
+from language import FUNCTIONS, TABLES, updated, walk
 
 OPERATORS = {
     "<==>": operator.eq, "==": operator.eq, "!=": operator.ne, "<": operator.lt, "<=": operator.le, ">": operator.gt,
@@ -26,6 +26,30 @@ class Element(NamedTuple):
     number: int
 
 
+class Table(NamedTuple):
+    """A map, or what a function without a body gives: a value for some keys, which rise, and one for all others, which none of these has.
+    Tables are in the order of their entries, and then of what they say of all others."""
+
+    entries: tuple
+    default: object
+
+    def at(self, key):
+        return dict(self.entries).get(tuple(key), self.default)
+
+    def put(self, key, value):
+        return table(((*self.entries, (tuple(key), value))), self.default)
+
+    def __str__(self):
+        entries = [f"{','.join(map(text_of, key))} := {text_of(value)}, " for key, value in self.entries]
+        return f"[{''.join(entries)}else {text_of(self.default)}]"
+
+
+def table(entries, default):
+    """The table of entries of which the last one at a key counts."""
+    known = {tuple(key): value for key, value in entries}
+    return Table(tuple(sorted((key, value) for key, value in known.items() if value != default)), default)
+
+
 def evaluate(now, entry, says):
     """The value of an expression; `now` and `entry` have the value of each name and the functions, and `entry` is what `old` sees."""
     kind = says[0]
@@ -40,6 +64,9 @@ def evaluate(now, entry, says):
         given = {it.name: evaluate(now, entry, part) for it, part in zip(own.params, says[2])}
         inside = {**now, **given}
         return evaluate(inside, inside, own.body)
+    if kind in ("select", "update"):
+        own, key = evaluate(now, entry, says[1]), [evaluate(now, entry, part) for part in says[2]]
+        return own.at(key) if kind == "select" else own.put(key, evaluate(now, entry, says[3]))
     if kind == "old":
         return evaluate(entry, entry, says[1])
     if kind == "not":
@@ -49,55 +76,71 @@ def evaluate(now, entry, says):
     return OPERATORS[says[1]](evaluate(now, entry, says[2]), evaluate(now, entry, says[3]))
 
 
+class Texts:
+    """Reads values of a text, as they are written; `None` where no value of the type is spelled."""
+
+    def __init__(self, text):
+        self.text, self.at = text, 0
+
+    def accept(self, part):
+        is_there = self.text.startswith(part, self.at)
+        self.at += len(part) * is_there
+        return is_there
+
+    def value(self, kind):
+        if isinstance(kind, tuple):
+            return self.table(*kind)
+        plain = VALUES.get(kind, rf"{re.escape(kind)}!({VALUES['int']})")
+        found = re.compile(plain).match(self.text, self.at)
+        if not found:
+            return None
+        self.at = found.end()
+        if kind not in VALUES:
+            return Element(kind, int(found[1]))
+        return found[0] == "true" if kind == "bool" else int(found[0])
+
+    def key(self, kinds):
+        """What stands for these types before a value."""
+        parts = []
+        for number, kind in enumerate(kinds):
+            if number and not self.accept(","):
+                return None
+            parts.append(self.value(kind))
+        return tuple(parts) if self.accept(" := ") and None not in parts else None
+
+    def table(self, kinds, result):
+        """A table whose entries rise by their keys, and of which none says what the default says."""
+        if not self.accept("["):
+            return None
+        entries = []
+        while not self.accept("else "):
+            entries.append((self.key(kinds), self.value(result)))
+            if None in entries[-1] or not self.accept(", "):
+                return None
+        default = self.value(result)
+        keys = [key for key, _ in entries]
+        is_plain = all(a < b for a, b in zip(keys, keys[1:])) and all(value != default for _, value in entries)
+        return Table(tuple(entries), default) if default is not None and self.accept("]") and is_plain else None
+
+
 def value_of(text, kind):
     """The value that a text spells, or None."""
-    if kind not in VALUES:
-        name, mark, number = text.rpartition("!")
-        return Element(kind, int(number)) if (name, mark) == (kind, "!") and re.fullmatch(VALUES["int"], number) else None
-    if not re.fullmatch(VALUES[kind], text):
-        return None
-    return text == "true" if kind == "bool" else int(text)
+    texts = Texts(text)
+    value = texts.value(kind)
+    return value if texts.at == len(text) else None
+
+
+def table_of(text, function):
+    """The table of a function that a text spells, or None."""
+    return value_of(text, (tuple(it.type for it in function.params), function.result))
 
 
 def text_of(value):
     if isinstance(value, dict):
-        return "; ".join(f"{name} {table}" for name, table in value.items())
+        return "; ".join(f"{name} {entries}" for name, entries in value.items())
     if isinstance(value, Element):
         return f"{value.type}!{value.number}"
     return str(value).lower() if isinstance(value, bool) else str(value)
-
-
-class Table:
-    """What a function without a body gives: a value for some lists of arguments, and one for all others."""
-
-    def __init__(self, entries, default):
-        self.entries, self.default = {tuple(key): value for key, value in entries}, default
-
-    def at(self, args):
-        return self.entries.get(tuple(args), self.default)
-
-    def __str__(self):
-        entries = [f"{','.join(map(text_of, key))} := {text_of(value)}, " for key, value in sorted(self.entries.items())]
-        return f"[{''.join(entries)}else {text_of(self.default)}]"
-
-
-def table_of(text, function):
-    """The table of a function that a text spells: its entries rise by their keys, and none says what the default says. Or None."""
-    found = re.fullmatch(r"\[((?:[^\]]* := [^\]]*, )*)else ([^\]]*)\]", text)
-    default = value_of(found[2], function.result) if found else None
-    if default is None:
-        return None
-    entries = []
-    for entry in found[1].split(", ")[:-1]:
-        key, _, value = entry.partition(" := ")
-        parts = key.split(",") if function.params else []
-        if len(parts) != len(function.params) or not (parts or key == ""):
-            return None
-        entries.append(([value_of(part, it.type) for part, it in zip(parts, function.params)], value_of(value, function.result)))
-    keys = [key for key, _ in entries]
-    if any(None in key or value in (None, default) for key, value in entries) or any(a >= b for a, b in zip(keys, keys[1:])):
-        return None
-    return Table(entries, default)
 
 
 class End(Exception):
@@ -150,9 +193,16 @@ class RandomChoices:
         return self.random.randrange(count)
 
     def value(self, kind):
+        if isinstance(kind, tuple):
+            return self.table(*kind)
         if kind not in VALUES:
             return Element(kind, self.random.randrange(-1, 4))
         return self.random.random() < 0.5 if kind == "bool" else self.random.choice(self.pool)
+
+    def table(self, kinds, result):
+        """A table with a few entries."""
+        entries = [([self.value(kind) for kind in kinds], self.value(result)) for _ in range(self.branch(4))]
+        return table(entries, self.value(result))
 
 
 class Run:
@@ -263,7 +313,7 @@ class Run:
             self.store(name, self.choices.value(self.type_of(name)))
 
     def do_assign(self, it):
-        values = [self.value(says) for says in it.values]
+        values = [self.value(updated(("name", name), brackets, says)) for name, brackets, says in zip(it.names, it.brackets, it.values)]
         for name, value in zip(it.names, values):
             self.store(name, value)
 

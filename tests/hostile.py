@@ -13,6 +13,8 @@ import subprocess
 import sys
 import tempfile
 
+import judge
+
 FRONT = b"axioms: consistent\nretained set: greatest\n"
 NONE = FRONT + b"summary: 0 retained, 0 dropped; 0 verified, 0 refuted, 0 unknown\n"
 ONE = b"summary: 0 retained, 0 dropped; 1 verified, 0 refuted, 0 unknown\n"
@@ -115,19 +117,33 @@ class Trial:
                 print(f"  {part}: wanted {shown[0]!r}, got {shown[1]!r}")
 
     def front(self, name, data):
-        """A text that is cut off: refused by one line, or taken, where nothing of it is missing."""
+        """A text that may be cut off: refused by one line; or taken, where nothing of it is missing, with a report of which the judge
+        says nothing wrong."""
         path = os.path.join(self.folder, "front.bpl")
         with open(path, "wb") as f:
             f.write(data)
         done = subprocess.run([self.bg, "verify", path], capture_output=True, timeout=600, stdin=subprocess.DEVNULL)
         line = done.stderr
-        good = (done.returncode, done.stdout, line) == (0, NONE, b"") or (
-            done.returncode == 3 and done.stdout == b"" and LINE.fullmatch(line)
-        )
-        self.passed += bool(good)
-        self.failed += not good
-        if not good:
-            print(f"failed: {name}: {done.returncode} {cut(done.stdout)!r} {cut(line)!r}")
+        if done.returncode in (0, 1, 2):
+            faults = [line] if line else judge.faults_in(data.decode("latin-1"), done.stdout.decode("latin-1"), 20)
+        else:
+            faults = [] if done.returncode == 3 and done.stdout == b"" and LINE.fullmatch(line) else [line]
+        self.passed += not faults
+        self.failed += bool(faults)
+        if faults:
+            print(f"failed: {name}: {done.returncode} {cut(done.stdout)!r} {faults}")
+
+    def stored(self, data):
+        path = os.path.join(self.folder, "stored.bpl")
+        with open(path, "wb") as f:
+            f.write(data)
+        return path
+
+    def holds(self, name, is_so, got):
+        self.passed += bool(is_so)
+        self.failed += not is_so
+        if not is_so:
+            print(f"failed: {name}: {got!r}")
 
     def text(self, name, data, status, out, err):
         file = name.replace(" ", "-") + ".bpl"
@@ -169,6 +185,22 @@ def large(t, size):
     sums = b"procedure P() { assert 0 == 1" + b" + 1" * size + b"; }"
     false = FRONT + b"implementation P 1:1 refuted\n  refuted assert 1:17\n" + ONE.replace(b"1 verified, 0 refuted", b"0 verified, 1 refuted")
     t.text("a chain of sums", sums, 1, false, b"")
+    kinds = b"".join(b"type T%d;\nconst unique c%d: T%d;\n" % (i, i, i) for i in range(size))
+    t.text("unique constants of as many types", kinds, 0, NONE, b"")
+
+
+def brackets(t, most):
+    """A type of as many brackets as one may have, in a row and by synonyms, and of one more: memory doesn't suffice for that. Maps of fewer are
+    shown to differ by an index for each bracket."""
+    selected = b"assume m == n; assert m[0] != n[0];"
+    for count, says, status in ((most, selected, 1), (most + 1, selected, 7), (40, b"assert m == n;", 1)):
+        row = b"[int]" * count + b"bool"
+        names = b"type T0 = bool;\n" + b"".join(b"type T%d = [int]T%d;\n" % (i + 1, i) for i in range(count))
+        for name, front, kind in (("a row", b"", row), ("synonyms", names, b"T%d" % count)):
+            text = front + b"procedure P(m: %s, n: %s) {\n  %s\n}" % (kind, kind, says)
+            done = subprocess.run([t.bg, "verify", t.stored(text)], capture_output=True, timeout=600, stdin=subprocess.DEVNULL)
+            faults = judge.faults_in(text.decode(), done.stdout.decode(), 0) if done.stdout else []
+            t.holds(f"{name} of {count} brackets", done.returncode == status and (status == 1) == bool(done.stdout) and not faults, (done.returncode, faults))
 
 
 def at_the_limits(t):
@@ -186,9 +218,10 @@ def trials(t, is_short):
     large(t, 2_000 if is_short else 100_000)
     if not is_short:
         at_the_limits(t)
-    t.text("each construct", PROGRAM, 3, b"", b"error: 2:20 unsupported [\n")
+    t.front("each construct", PROGRAM)
     for i in range(0, len(PROGRAM), 23 if is_short else 1):
         t.front(f"prefix {i}", PROGRAM[:i])
+    brackets(t, 200)
     t.run("absent file", ["verify", "absent.bpl"], 5, b"", b"error: cannot read absent.bpl\n")
     t.run("no file", ["verify"], 4, b"", USAGE)
     t.run("no word", [], 4, b"", USAGE)
@@ -206,6 +239,7 @@ def main():
     words.add_argument("--bg", default="./bg")
     words.add_argument("--short", action="store_true")
     given = words.parse_args()
+    sys.setrecursionlimit(20_000)
     # (the script ./bg then says its failures alone)
     os.environ["BG_QUIET"] = "1"
     with tempfile.TemporaryDirectory() as folder:

@@ -16,7 +16,7 @@ import re
 import sys
 from dataclasses import dataclass, field
 
-from evaluator import ListedChoices, RandomChoices, Run, Table, meets, places, table_of, text_of, value_of
+from evaluator import ListedChoices, RandomChoices, Run, meets, places, table_of, text_of, value_of
 from language import TABLES, TextFault, read_program
 
 FATES = r"retained|retained unchecked|dropped|dropped unknown (?:nodes|rows|range)"
@@ -195,17 +195,11 @@ def shown(values):
     return ", ".join(f"{name} = {text_of(value)}" for name, value in values.items() if value != {})
 
 
-def table_at_random(function, choices):
-    """A table with a few entries."""
-    entries = [([choices.value(it.type) for it in function.params], choices.value(function.result)) for _ in range(choices.branch(4))]
-    return Table(entries, choices.value(function.result))
-
-
 def interpretation(program, choices):
     """Values of the constants and tables at random that meet the axioms, or None where none were found."""
     for _ in range(60):
         constants = {it.name: choices.value(it.type) for it in program.constants}
-        constants[TABLES] = {name: table_at_random(it, choices) for name, it in program.bodiless().items()}
+        constants[TABLES] = {name: choices.table([v.type for v in it.params], it.result) for name, it in program.bodiless().items()}
         if meets(program, constants):
             return constants
     return None

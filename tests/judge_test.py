@@ -218,7 +218,40 @@ implementation P 7:1 refuted
     choice Thread!2
 summary: 0 retained, 0 dropped; 0 verified, 1 refuted, 0 unknown
 """
-RIGHT = [("loop", STEP, STEP_REPORT), ("jumps", PICK, PICK_REPORT), ("range", FAR, FAR_REPORT), ("budget", FAR, BUDGET_REPORT), ("candidates", KEPT, KEPT_REPORT), ("constants", FIXED, FIXED_REPORT), ("functions", TABLED, TABLED_REPORT), ("user types", OWNED, OWNED_REPORT)]
+MAPPED = """type T;
+type Row = [int]int;
+const first: T;
+const seats: [T]int;
+function none(s: [T]int): [int]bool;
+function with(m: [int]bool, k: int): [int]bool;
+axiom seats == seats[first := 2] && with(with(none(seats), 1), 1)[0];
+procedure Move(m: Row, i: int, j: int) returns (grid: [int]Row, on: [int, int]bool)
+{
+  var k: Row;
+  k, grid[i][j] := m[i := 5], k[0];
+  on[i, j] := grid[i][j] == k[i] - 5;
+  havoc k;
+  assert k == m[i := k[i]] || old(grid)[i] != grid[i][j := 0] || !on[i, j];
+}
+"""
+MAPPED_REPORT = """axioms: consistent
+retained set: greatest
+implementation Move 8:1 refuted
+  refuted assert 14:3
+    const first = T!0
+    const seats = [T!0 := 2, else 0]
+    function none = [else [else false]]
+    function with = [[else false],1 := [1 := true, else false], [1 := true, else false],1 := [else true], else [else false]]
+    var m = [-1 := 3, 1 := 4, else 0]
+    var i = 1
+    var j = 2
+    var grid = [1 := [5 := 7, else 0], else [else 0]]
+    var on = [1,3 := true, 2,-1 := true, else false]
+    var k = [else 0]
+    choice [1 := 4, else 3]
+summary: 0 retained, 0 dropped; 0 verified, 1 refuted, 0 unknown
+"""
+RIGHT = [("loop", STEP, STEP_REPORT), ("jumps", PICK, PICK_REPORT), ("range", FAR, FAR_REPORT), ("budget", FAR, BUDGET_REPORT), ("candidates", KEPT, KEPT_REPORT), ("constants", FIXED, FIXED_REPORT), ("functions", TABLED, TABLED_REPORT), ("user types", OWNED, OWNED_REPORT), ("maps", MAPPED, MAPPED_REPORT)]
 # What is doctored, the program, its right report, a text of it and what stands in its place, and a phrase of the answer.
 DOCTORED = [
     ("a counterexample's value", STEP, STEP_REPORT, "var n = 1", "var n = 2", "the run ended"),
@@ -261,6 +294,23 @@ DOCTORED = [
     ("unique elements that are one", OWNED, OWNED_REPORT, "first = Thread!1", "first = Thread!0", "the axioms are not met"),
     ("keys of elements in another order", OWNED, OWNED_REPORT, "[Thread!0,Key!0 := Thread!1, Thread!2,", "[Thread!2,Key!0 := Thread!1, Thread!0,", "a table is wanted"),
     ("a key's part of another type", OWNED, OWNED_REPORT, "Thread!2,Key!0", "Thread!2,Thread!0", "a table is wanted"),
+    ("a map that axioms deny", MAPPED, MAPPED_REPORT, "[T!0 := 2, else 0]", "[T!1 := 2, else 0]", "the axioms are not met"),
+    ("a table of a map", MAPPED, MAPPED_REPORT, "[1 := true, else false],1 := [else true]", "[1 := true, else false],2 := [else true]", "the axioms are not met"),
+    ("a table's keys of maps in another order", MAPPED, MAPPED_REPORT, "[[else false],1 := [1 := true, else false]", "[[3 := true, else false],1 := [else true]", "a table is wanted"),
+    ("a map's entries in another order", MAPPED, MAPPED_REPORT, "[-1 := 3, 1 := 4, else 0]", "[1 := 4, -1 := 3, else 0]", "a value of type"),
+    ("two entries at a key", MAPPED, MAPPED_REPORT, "[-1 := 3, 1 := 4, else 0]", "[1 := 3, 1 := 4, else 0]", "a value of type"),
+    ("a map's entry that says what the default says", MAPPED, MAPPED_REPORT, "[-1 := 3, 1 := 4, else 0]", "[-1 := 0, 1 := 4, else 0]", "a value of type"),
+    ("an inner map's entry that says what the default says", MAPPED, MAPPED_REPORT, "[5 := 7, else 0]", "[5 := 0, else 0]", "a value of type"),
+    ("a map that says what the default map says", MAPPED, MAPPED_REPORT, "[1 := [5 := 7, else 0], else [else 0]]", "[1 := [else 0], else [else 0]]", "a value of type"),
+    ("a map for a map of maps", MAPPED, MAPPED_REPORT, "[1 := [5 := 7, else 0], else [else 0]]", "[1 := 7, else 0]", "a value of type"),
+    ("a key of one part for one of two", MAPPED, MAPPED_REPORT, "[1,3 := true, 2,-1", "[1 := true, 2,-1", "a value of type"),
+    ("a key with a space", MAPPED, MAPPED_REPORT, "1,3 := true", "1, 3 := true", "a value of type"),
+    ("a map's key of another type", MAPPED, MAPPED_REPORT, "[T!0 := 2", "[0 := 2", "a value of type"),
+    ("a map without a default", MAPPED, MAPPED_REPORT, "var k = [else 0]", "var k = []", "a value of type"),
+    ("a map with something behind it", MAPPED, MAPPED_REPORT, "var k = [else 0]", "var k = [else 0]]", "a value of type"),
+    ("a chosen map of another type", MAPPED, MAPPED_REPORT, "choice [1 := 4, else 3]", "choice [1 := true, else false]", "the run bad choice"),
+    ("another map", MAPPED, MAPPED_REPORT, "choice [1 := 4, else 3]", "choice [-1 := 3, else 0]", "the run ended"),
+    ("a map's default", MAPPED, MAPPED_REPORT, "var k = [else 0]", "var k = [else 1]", "the run ended"),
     ("a line", STEP, STEP_REPORT, "  refuted inv", "  rejected inv", "a line that no report has"),
     ("an implementation that is missing", STEP, STEP_REPORT, "Step 1:1", "Step 2:1", "the implementations are"),
     ("places in another order", PICK, PICK_REPORT, "  refuted assert 21:5\n", f"{POST}  refuted assert 21:5\n", "its places are"),
@@ -304,6 +354,20 @@ UNSOUND = [
     ("which elements are the same", "type T;\nprocedure P(a: T, b: T, c: T) {\n  assert a == b ==> b == c ==> a != c;\n}\n", "assert 3:3"),
     ("unique constants", "type T;\nconst unique a, b: T;\nprocedure P(c: T) {\n  assert c == a || c == b;\n}\n", "assert 4:3"),
     ("a function on elements", "type T;\nfunction f(t: T): T;\nprocedure P(a: T) {\n  assert f(f(a)) == a || f(a) == a;\n}\n", "assert 4:3"),
+    ("an update at its index", "procedure P(m: [int]int, i: int) {\n  assert m[i := 1][i] == m[i];\n}\n", "assert 2:3"),
+    ("an update elsewhere", "procedure P(m: [int]int, i: int, j: int) {\n  assert m[i := 1][j] == m[j];\n}\n", "assert 2:3"),
+    ("two updates", "procedure P(m: [int]int, i: int, j: int) {\n  assert m[i := 1][j := 2] == m[j := 2][i := 1];\n}\n", "assert 2:3"),
+    ("maps that differ", "procedure P(m: [int]bool, n: [int]bool) {\n  assert m[0] == n[0] ==> m == n;\n}\n", "assert 2:3"),
+    ("a map of maps", "procedure P(m: [int][int]int) {\n  assert m[0] == m[1];\n}\n", "assert 2:3"),
+    ("an index of two", "procedure P(m: [int,int]int, i: int, j: int) {\n  assert m[i, j] == m[j, i];\n}\n", "assert 2:3"),
+    ("brackets on the left", "procedure P() {\n  var m: [int][int]int;\n  m[0][1] := 2;\n  assert m[1][0] == m[0][1];\n}\n", "assert 4:3"),
+    ("two targets", "procedure P() {\n  var m, n: [int]int;\n  m[0], n[0] := n[0], m[0];\n  assert m[0] == n[0];\n}\n", "assert 4:3"),
+    ("an index that is selected", "procedure P() {\n  var m: [int]int;\n  m[m[0]] := 1;\n  assert m[m[0]] == 1;\n}\n", "assert 4:3"),
+    ("a map as it was", "var m: [int]int;\nprocedure P(i: int)\n  modifies m;\n{\n  m[0] := i;\n  assert old(m)[m[0]] == old(m[0]);\n}\n", "assert 6:3"),
+    ("a map in a loop", "procedure P() {\n  var m: [int]int;\n  m[0] := 1;\n  while (*) {\n    m[1] := 2;\n  }\n  assert m[0] == 1;\n}\n", "assert 7:3"),
+    ("a map that a call changes", "var m: [int]int;\nprocedure Q();\n  modifies m;\n  ensures m[0] == old(m)[0];\nprocedure P()\n  modifies m;\n{\n  call Q();\n"
+     "  assert m[1] == old(m[1]);\n}\n", "assert 9:3"),
+    ("a function that gives maps", "function f(x: int): [int]int;\nprocedure P(x: int) {\n  assert f(x)[0] == f(0)[0];\n}\n", "assert 3:3"),
     ("old in an argument", "var g: int;\nfunction f(x: int): int { x + 1 }\nprocedure P()\n  modifies g;\n{\n  g := f(g);\n  assert f(old(g)) == f(g);\n}\n", "assert 7:3"),
     ("a return", "procedure P(c: bool) returns (r: int)\n  ensures r == 1;\n{\n  r := 0;\n  if (c) {\n    return;\n  }\n  r := 1;\n}\n", "postcondition 2:3"),
 ]  # fmt: skip

@@ -1,10 +1,11 @@
-"""Reads programs over truth values, whole numbers and elements of user types, for the judge of reports: tokens, trees, names and types.
+"""Reads programs over truth values, whole numbers, elements of user types and maps, for the judge of reports: tokens, trees, names and types.
 
 It is written from the rules of the language in docs/TEXT.md, and knows nothing of the program that it judges. A text that
 breaks one of them is refused (`TextFault`) at a place near the fault.
 
-Types are "int", "bool" and the names of user types; synonyms are unfolded. Expressions are tuples: ("num", n), ("bool", b), ("name", x), ("old", e), ("not", e), ("neg", e),
-("bin", sign, left, right) and ("apply", f, arguments).
+Types are "int", "bool", the names of user types, and maps (index types, result type); synonyms are unfolded. Expressions are tuples:
+("num", n), ("bool", b), ("name", x), ("old", e), ("not", e), ("neg", e), ("bin", sign, left, right), ("apply", f, arguments),
+("select", map, indices) and ("update", map, indices, value).
 """
 import re
 from dataclasses import dataclass, field
@@ -12,7 +13,7 @@ from dataclasses import dataclass, field
 KEYWORDS = set("""assert assume axiom bool break call const else ensures false free function goto havoc if implementation int
 invariant modifies old procedure requires return returns true type unique var while""".split())
 RESERVED = set("async complete datatype div exists extends finite forall lambda mod par real then where yield".split())
-SIGNS = "<==> ==> <== := <= >= == != && || ( ) { } , ; : = < > ! + - *".split()
+SIGNS = "<==> ==> <== := <= >= == != && || ( ) [ ] { } , ; : = < > ! + - *".split()
 NAME = r"[A-Za-z'~#$^_.?`][A-Za-z0-9'~#$^_.?`]*"
 TOKEN = re.compile(
     rf"""(?P<layout>[ \t\r\n]+|//[^\n]*)|(?P<comment>/\*)|(?P<name>{NAME})|(?P<num>[0-9]+(?![A-Za-z]))"""
@@ -25,7 +26,7 @@ TABLES = "[]"  # where the tables of functions without a body stand beside the v
 
 
 class TextFault(Exception):
-    """The text is no program over truth values, whole numbers and elements."""
+    """The text is no program of this language."""
 
 
 @dataclass(frozen=True)
@@ -129,6 +130,7 @@ class Statement:
     clause: Clause = None  # of an assertion
     says: tuple = None  # of an assumption; the guard of a loop or a conditional, none for *
     names: list = field(default_factory=list)  # left sides, what is forgotten, what takes results, labels
+    brackets: list = field(default_factory=list)  # for each left side the indices of each of its brackets
     values: list = field(default_factory=list)  # right sides, arguments
     callee: str = None
     body: list = field(default_factory=list)
@@ -194,6 +196,8 @@ class Reader:
         while self.sees("{") and self.now(1).text == ":":
             found.append([])
             while self.take().text != "}":
+                if self.now().kind == "end":
+                    raise TextFault(f"{self.now().pos}: an open attribute")
                 found[-1].append(self.now().text)
             found[-1].pop()
         return found
@@ -284,6 +288,10 @@ class Reader:
             inner = self.type()
             self.take(")")
             return inner
+        if self.accept("["):
+            keys = self.commas(self.type)
+            self.take("]")
+            return tuple(keys), self.type()
         if not self.sees("int", "bool") and self.now().kind != "name":
             raise TextFault(f"{self.now().pos}: no type that is judged")
         return self.take().text
@@ -362,7 +370,8 @@ class Reader:
         token = self.now()
         it = Statement(token.text, token.pos)
         if token.kind == "name":
-            it.kind, it.names = "assign", self.commas(self.name)
+            sides = self.commas(self.side)
+            it.kind, it.names, it.brackets = "assign", [name for name, _ in sides], [brackets for _, brackets in sides]
             self.take(":=")
             it.values = self.commas(self.expression)
             self.take(";")
@@ -376,6 +385,14 @@ class Reader:
         self.simple(it)
         self.take(";")
         return it
+
+    def side(self):
+        """A left side: a name, and the indices of each bracket behind it."""
+        name, brackets = self.name(), []
+        while self.accept("["):
+            brackets.append(self.commas(self.expression))
+            self.take("]")
+        return name, brackets
 
     def simple(self, it):
         if it.kind == "assume":
@@ -468,9 +485,17 @@ class Reader:
         signs = []
         while self.sees("!", "-"):
             signs.append(self.take().text)
-        inner = self.atom()
+        inner = self.bracketed()
         for sign in reversed(signs):
             inner = ("not" if sign == "!" else "neg", inner)
+        return inner
+
+    def bracketed(self):
+        inner = self.atom()
+        while self.accept("["):
+            indices = self.commas(self.expression)
+            inner = ("update", inner, indices, self.expression()) if self.accept(":=") else ("select", inner, indices)
+            self.take("]")
         return inner
 
     def atom(self):
@@ -531,6 +556,12 @@ def type_of(types, says):
         return own.result
     if kind == "old":
         return type_of(types, says[1])
+    if kind in ("select", "update"):
+        own = type_of(types, says[1])
+        if not isinstance(own, tuple):
+            raise TextFault(f"no map: {says[1]}")
+        check_list(types, says[2], own[0])
+        return own[1] if kind == "select" else own if wanted(types, says[3], own[1]) else None
     if kind in ("not", "neg"):
         return wanted(types, says[1], "bool" if kind == "not" else "int")
     sign, left, right = says[1:]
@@ -579,7 +610,9 @@ def check_statement(program, types, it):
     for says in [clause.says for clause in clauses] + ([it.says] if it.says else []):
         wanted(types, says, "bool")
     if it.kind == "assign":
-        kinds = [type_of(types, ("name", name)) for name in it.names]
+        kinds = [type_of(types, selected(("name", name), brackets)) for name, brackets in zip(it.names, it.brackets)]
+        if len(set(it.names)) < len(it.names):
+            raise TextFault(f"{it.pos}: a variable stands twice on the left")
         check_list(types, it.values, kinds)
     if it.kind == "call":
         if it.callee not in program.procedures:
@@ -589,6 +622,21 @@ def check_statement(program, types, it):
         check_list(types, [("name", name) for name in it.names], [v.type for v in callee.results])
 
 
+def selected(says, brackets):
+    """What an expression is behind these brackets."""
+    for indices in brackets:
+        says = ("select", says, indices)
+    return says
+
+
+def updated(says, brackets, value):
+    """The map that is assigned where a value is assigned to what stands behind these brackets."""
+    if not brackets:
+        return value
+    indices, *inner = brackets
+    return ("update", says, indices, updated(("select", says, indices), inner, value))
+
+
 def check_list(types, values, kinds):
     if len(values) != len(kinds):
         raise TextFault(f"{len(values)} values for {len(kinds)}")
@@ -596,17 +644,23 @@ def check_list(types, values, kinds):
         wanted(types, value, kind)
 
 
-def unfolded(program, kind):
-    """A type without synonyms."""
-    for _ in range(len(program.types) + 1):
-        if kind in ("int", "bool"):
-            return kind
-        if kind not in program.types:
-            raise TextFault(f"no type {kind}")
-        if program.types[kind] is None:
-            return kind
-        kind = program.types[kind]
-    raise TextFault(f"the synonym {kind} reaches itself")
+def unfolded(program, kind, left=None):
+    """A type without synonyms, of which at most so many stand in one another; the index types of a map are whole numbers and user types."""
+    left = len(program.types) if left is None else left
+    if isinstance(kind, tuple):
+        keys = tuple(unfolded(program, it, left) for it in kind[0])
+        if any(it == "bool" or isinstance(it, tuple) for it in keys):
+            raise TextFault(f"no index type: {kind}")
+        return keys, unfolded(program, kind[1], left)
+    if kind in ("int", "bool"):
+        return kind
+    if kind not in program.types:
+        raise TextFault(f"no type {kind}")
+    if program.types[kind] is None:
+        return kind
+    if left == 0:
+        raise TextFault(f"the synonym {kind} reaches itself")
+    return unfolded(program, program.types[kind], left - 1)
 
 
 def unfold_types(program):

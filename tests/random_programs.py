@@ -1,11 +1,12 @@
 #!/usr/bin/env python3
 """Makes random programs with the whole statement language, and judges their reports (judge.py).
 
-usage: random_programs.py --bg COMMAND [--count N] [--seed K] [--runs N] [--truths] [--types] [--constants] [--candidates] [--workers N..]
-                          [--budget N] [--jobs N] [--keep FOLDER]
+usage: random_programs.py --bg COMMAND [--count N] [--seed K] [--runs N] [--truths] [--types] [--maps] [--constants] [--candidates]
+                          [--workers N..] [--budget N] [--jobs N] [--keep FOLDER]
 
 Of each implementation N runs are tried. With --truths there are no whole numbers. With --types there are two user types, some
-constants of each, and synonyms. With --constants most programs have constants, of which some are unique, functions with and without a
+constants of each, and synonyms. With --maps there are maps of a few types, a constant of each, synonyms of two, selects, updates and
+assignments behind brackets; with --types also maps over elements and to them. With --constants most programs have constants, of which some are unique, functions with and without a
 body, and axioms. With --candidates most programs declare some; what `annotate` writes of them, with guesses and without, has the same
 words for its implementations, and is annotated as it is. With --workers each program is judged once with each of these numbers of
 workers: where no report has an unknown, their verdict lines are the same. With --budget the program gets as many inner nodes and rows.
@@ -27,8 +28,11 @@ import judge
 
 SIGNS = ["&&", "||", "==>", "<==", "<==>", "==", "!="]
 RELATIONS = ["<", "<=", ">", ">=", "==", "!="]
-TYPES = {"n": "int", "t": "T", "u": "U"}  # by the last letter of a name; others are truth values
+MAPS = {"m": "[int]int", "o": "[int]bool", "q": "[int, int]int", "d": "[int][int]int"}
+ELEMENT_MAPS = {"w": "[T]int", "y": "[int]T", "z": "[T, int]U"}
+TYPES = {"n": "int", "t": "T", "u": "U", **MAPS, **ELEMENT_MAPS}  # by the last letter of a name; others are truth values
 SYNONYMS = {"int": "N", "T": "V"}  # of types, where user types are asked for
+MAP_SYNONYMS = {"[int]int": "M", "[int][int]int": "[int]M"}  # where maps are asked for
 NUMBERS = [0, 0, 1, 1, 1, 2, 2, 3, 5, 7, 60, 2**63, 2**126]
 
 
@@ -40,6 +44,12 @@ def type_of(name):
 def is_number(name):
     """Whether a variable of this name is a whole number."""
     return type_of(name) == "int"
+
+
+def keys_of(kind):
+    """The index types of a map's type, and its result type."""
+    keys, _, result = kind[1:].partition("]")
+    return keys.split(", "), result
 
 
 def some_letter(rng, kinds):
@@ -86,11 +96,24 @@ class Body:
 
     def clause(self):
         """What an assertion or an invariant that is checked says."""
+        if self.program.maps and self.rng.random() < 0.2:
+            return self.program.guarded(self.rng, self.program.law(self.rng, self.reads))
         return self.program.guarded(self.rng, self.formula())
 
+    def side(self, name):
+        """What is assigned to, a variable or what stands behind brackets of a map, and its type."""
+        side, kind = name, type_of(name)
+        while kind.startswith("[") and self.rng.random() < 0.7:
+            keys, kind = keys_of(kind)
+            side += f"[{self.program.indices(self.rng, self.reads, 1, keys, old=True)}]"
+        return side, kind
+
     def sides(self, most=2):
+        """Variables that are assigned to, both sides of an assignment to them."""
         names = self.rng.sample(self.writes, min(len(self.writes), self.rng.randint(1, most)))
-        return names, [self.value(name) for name in names]
+        sides = [self.side(name) for name in names]
+        values = [self.program.expression(self.rng, self.reads, 2, kind, old=True) for _, kind in sides]
+        return names, [side for side, _ in sides], values
 
     def takes(self, q):
         """Variables that may take the results of a call, or None."""
@@ -155,8 +178,8 @@ class Body:
         if kind < 0.4 and self.writes:
             return [f"{indent}havoc {', '.join(self.sides()[0])};"]
         if kind < 0.62 and self.writes:
-            names, values = self.sides()
-            return [f"{indent}{', '.join(names)} := {', '.join(values)};"]
+            _, sides, values = self.sides()
+            return [f"{indent}{', '.join(sides)} := {', '.join(values)};"]
         if kind < 0.76:
             return self.call(indent)
         if kind < 0.84 and depth:
@@ -200,11 +223,15 @@ class Function:
 class Program:
     """A program: candidates, at most as many as asked, constants, functions and axioms where asked, globals, procedures and implementations."""
 
-    def __init__(self, rng, numbers, candidates=0, constants=False, types=False):
-        self.numbers, self.types, self.kinds = numbers, types, "n" * numbers + "tu" * types
+    def __init__(self, rng, numbers, candidates=0, constants=False, types=False, maps=False):
+        letters = [*MAPS, *(ELEMENT_MAPS if types else [])] if maps else []
+        self.maps = rng.sample(letters, min(len(letters), 3))
+        self.maps += ["m"] if "d" in self.maps and "m" not in self.maps else []
+        self.numbers, self.types, self.kinds = numbers, types, "n" * numbers + "tu" * types + "".join(self.maps)
         self.constants, self.uniques, self.functions, self.axioms = [], [], [], []
         if types:
             self.constants = [f"e{k}{kind}" for kind in "tu" for k in range(rng.randint(1, 3))]
+        self.constants += [f"h{letter}" for letter in self.maps]
         if constants:
             self.constants += some_names(rng, "k", 4, self.kinds)
         if types or constants:
@@ -237,6 +264,12 @@ class Program:
         if self.types and rng.random() < 0.3:
             wanted = TYPES[rng.choice("tu")]
             return f" {rng.choice(['==', '!='])} ".join(self.element(rng, names, min(depth, 1), wanted, old) for _ in range(2))
+        if self.maps and rng.random() < 0.25:
+            wanted = TYPES[rng.choice(self.maps)]
+            return f" {rng.choice(['==', '==', '!='])} ".join(self.map(rng, names, min(depth, 1), wanted, old) for _ in range(2))
+        selected = self.select(rng, names, min(depth, 1), old, "bool")
+        if selected:
+            return selected
         if not depth or kind < 0.3:
             truths = [name for name in names if type_of(name) == "bool"]
             if not truths or rng.random() < 0.1:
@@ -256,6 +289,9 @@ class Program:
         applied = self.application(rng, names, depth, old, "int")
         if applied:
             return applied
+        selected = self.select(rng, names, depth, old, "int")
+        if selected:
+            return selected
         numbers = [name for name in names if is_number(name)]
         if not depth or kind < 0.4:
             if not numbers or rng.random() < 0.35:
@@ -272,7 +308,7 @@ class Program:
 
     def element(self, rng, names, depth, wanted, old=False):
         """An element of this user type."""
-        applied = self.application(rng, names, depth, old, wanted)
+        applied = self.application(rng, names, depth, old, wanted) or self.select(rng, names, depth, old, wanted)
         if applied:
             return applied
         if old and depth and rng.random() < 0.1:
@@ -283,7 +319,49 @@ class Program:
         """An expression of this type."""
         if wanted == "bool":
             return self.formula(rng, names, depth, old)
+        if wanted.startswith("["):
+            return self.map(rng, names, depth, wanted, old)
         return self.number(rng, names, depth, old) if wanted == "int" else self.element(rng, names, depth, wanted, old)
+
+    def map(self, rng, names, depth, wanted, old=False):
+        """A map of this type."""
+        applied = self.application(rng, names, depth, old, wanted) or self.select(rng, names, depth, old, wanted)
+        if applied:
+            return applied
+        kind = rng.random()
+        if depth and kind < 0.35:
+            keys, result = keys_of(wanted)
+            front = self.bracketed(self.map(rng, names, depth - 1, wanted, old))
+            return f"{front}[{self.indices(rng, names, 0, keys, old)} := {self.expression(rng, names, depth - 1, result, old)}]"
+        if old and depth and kind < 0.45:
+            return f"old({self.map(rng, names, depth - 1, wanted)})"
+        return rng.choice([name for name in names if type_of(name) == wanted])
+
+    def indices(self, rng, names, depth, keys, old=False):
+        """An index: a part for each of these types."""
+        return ", ".join(self.expression(rng, names, depth, key, old) for key in keys)
+
+    def select(self, rng, names, depth, old, wanted):
+        """What a map has at an index, of this type, now and then, where there is such a map."""
+        fits = [TYPES[letter] for letter in self.maps if keys_of(TYPES[letter])[1] == wanted]
+        if not fits or rng.random() < (0.6 if depth else 0.88):
+            return None
+        kind = rng.choice(fits)
+        front = self.bracketed(self.map(rng, names, max(depth - 1, 0), kind, old))
+        return f"{front}[{self.indices(rng, names, max(depth - 1, 0), keys_of(kind)[0], old)}]"
+
+    def law(self, rng, names):
+        """What updates and selects of two maps are to one another; some of it holds of all maps, and some only where two indices differ."""
+        kind = TYPES[rng.choice(self.maps)]
+        keys, result = keys_of(kind)
+        m, o = (self.bracketed(self.map(rng, names, 1, kind, old=True)) for _ in range(2))
+        i, j = (self.indices(rng, names, rng.randrange(2), keys, old=True) for _ in range(2))
+        v, w = (self.bracketed(self.expression(rng, names, 1, result, old=True)) for _ in range(2))
+        return rng.choice([
+            f"{m}[{i} := {v}][{i}] == {v}", f"{m}[{i} := {m}[{i}]] == {m}", f"{m}[{i} := {v}][{i} := {w}] == {m}[{i} := {w}]",
+            f"{m}[{i} := {v}][{j}] == {m}[{j}]", f"{m}[{i} := {v}][{j} := {w}] == {m}[{j} := {w}][{i} := {v}]",
+            f"{m} == {o} ==> {m}[{i}] == {o}[{i}]", f"{m}[{i} := {v}] == {o} ==> {o}[{i}] == {v}",
+        ])  # fmt: skip
 
     def application(self, rng, names, depth, old, wanted):
         """A function of this type applied to arguments, now and then, where there is one."""
@@ -295,7 +373,7 @@ class Program:
         return f"{f.name}({', '.join(given)})"
 
     def bracketed(self, text):
-        return text if re.fullmatch(r"[\w!]+|(old|f\d[ntu]?)\(\w*\)", text) else f"({text})"
+        return text if re.fullmatch(r"[\w!]+|(old|f\d[a-z]?)\(\w*\)|\w+\[\w+\]", text) else f"({text})"
 
     def operand(self, rng, names, depth, old):
         return self.bracketed(self.formula(rng, names, depth, old))
@@ -312,7 +390,8 @@ class Program:
     def written(self, rng, name):
         """The type of this name as a declaration has it: now and then a synonym."""
         kind = type_of(name)
-        return SYNONYMS[kind] if self.types and kind in SYNONYMS and rng.random() < 0.3 else kind
+        synonyms = {**(SYNONYMS if self.types else {}), **(MAP_SYNONYMS if self.maps else {})}
+        return synonyms[kind] if kind in synonyms and rng.random() < 0.3 else kind
 
     def head(self, rng, word, q, params, results):
         typed = lambda names: ", ".join(f"{name}: {self.written(rng, name)}" for name in names)
@@ -321,6 +400,7 @@ class Program:
 
     def lines(self, rng):
         lines = ["type V = T, T;", "type U, N = int;"] if self.types else []
+        lines += ["type M = [int]int;"] if self.maps else []
         lines += [f"const {{:existential true}} {name}: bool;" for name in self.candidates]
         lines += [f"const {'unique ' if name in self.uniques else ''}{name}: {self.written(rng, name)};" for name in self.constants]
         lines += [f.line(lambda name: self.written(rng, name)) for f in self.functions]
@@ -395,7 +475,7 @@ def annotation_faults(args, folder, number, options):
 def judged(args, folder, number):
     """What is wrong with the reports of one program, a list of lines, and the words that they say of candidates and implementations."""
     rng = random.Random(args.seed * 1_000_003 + number)
-    text = Program(rng, not args.truths, 8 if args.candidates else 0, args.constants, args.types).text
+    text = Program(rng, not args.truths, 8 if args.candidates else 0, args.constants, args.types, args.maps).text
     reports, faults = [], []
     for workers in args.workers or [None]:
         report, wrong = reported(args, folder, number, text, workers)
@@ -417,6 +497,7 @@ def main():
     parser.add_argument("--runs", type=int, default=100)
     parser.add_argument("--truths", action="store_true")
     parser.add_argument("--types", action="store_true")
+    parser.add_argument("--maps", action="store_true")
     parser.add_argument("--constants", action="store_true")
     parser.add_argument("--candidates", action="store_true")
     parser.add_argument("--workers", type=int, nargs="+")
@@ -437,7 +518,7 @@ def main():
                 failed += bool(wrong)
                 for line in wrong:
                     print(f"{number}: {line}", flush=True)
-    told = ("retained", "dropped") * args.candidates + ("verified", "refuted", "unknown") + ("consistent", "contradictory") * (args.constants or args.types)
+    told = ("retained", "dropped") * args.candidates + ("verified", "refuted", "unknown") + ("consistent", "contradictory") * (args.constants or args.types or args.maps)
     print(", ".join(f"{words[word]} {word}" for word in told))
     print(f"{args.count - failed} passed, {failed} failed")
     return 1 if failed or not args.count else 0

@@ -14,7 +14,7 @@ use Rattle.bg_sense.specs.Places.{places}
 use Rattle.bg_sense.specs.Claims.{IsSetOf, Inductive, Safe, Fails}
 use Rattle.bg_sense.specs.Clauses.{is_kept}
 use Rattle.bg_sense.proofs.Members.{In, member}
-use Rattle.bg_fits.specs.Scalars.{is_over_scalars}
+use Rattle.bg_fits.specs.Valued.{is_over_values}
 use Rattle.bg_formula.specs.Atoms.{AtomOf}
 use Rattle.bg_formula.specs.Formulas.{Formula}
 use Rattle.bg_formula.specs.Meaning.{AtomsAgree}
@@ -34,7 +34,7 @@ use Rattle.bg_accept.proofs.Tables.{table_agrees}
 
 abbrev pub FailLaw : Type 0
 FailLaw =
-    (p : Prog) (set : ℕ → Bool) (t : Place) (es : List Line) (f : Formula) (c : cert.CertOf) → IsTyped p → is_over_scalars true p ≡ true →
+    (p : Prog) (set : ℕ → Bool) (t : Place) (es : List Line) (f : Formula) (c : cert.CertOf) → IsTyped p → is_over_values p ≡ true →
     HasOwnClauses p t es f → AtomsAgree c.table → cert.Accepts f set no_instance c →
     (i : Interp) (s : State) (choices : List Choice) → Fails p set t i s choices → ⊥
 
@@ -89,7 +89,7 @@ at_of [] u i = absurd i
 at_of (x ∷ xs) u (inl e) = record { number = 0; placed = x; there = refl; is = e }
 at_of (x ∷ xs) u (inr i) = let a = at_of xs u i in record { number = suc a.number; placed = a.placed; there = a.there; is = a.is }
 
-module _ (fails : FailLaw) (place : PlaceLaw) (safe : SafeLaw) (p : r.Program) (c : CertOf) (t : IsTyped (meaning_of p)) (o : is_over_scalars true (meaning_of p) ≡ true) (h : IsAccepted p c) where
+module _ (fails : FailLaw) (place : PlaceLaw) (safe : SafeLaw) (p : r.Program) (c : CertOf) (t : IsTyped (meaning_of p)) (o : is_over_values (meaning_of p) ≡ true) (h : IsAccepted p c) where
   abbrev set : ℕ → Bool
   set = retained_by p c
 

@@ -11,7 +11,7 @@ use Rattle.bg_ast.specs.Execution.{Place}
 use Rattle.bg_ast.specs.Views.{program_of}
 use Rattle.bg_sense.specs.Clauses.{is_kept}
 use Rattle.bg_sense.specs.Typed.{IsTyped}
-use Rattle.bg_fits.specs.Scalars.{is_over_scalars}
+use Rattle.bg_fits.specs.Valued.{is_over_values}
 use Rattle.bg_blocks.specs.Callees.{IsModified}
 use Rattle.bg_formula.specs.Formulas.{Formula}
 use Rattle.bg_places.specs.Placed.{Placed}
@@ -37,10 +37,10 @@ pub record AreTables (p : r.Program) (ss : List SectionOf) (t : Tables) : Type 0
   pub places : ArePlaces p t.all.items
   pub firsts : AreFirsts t.all.items ss t.firsts.items
 
--- a typed program over truth values, whole numbers and elements of user types, sections that have a text, and their tables
+-- a typed program over values, sections that have a text, and their tables
 pub record IsReading (q : Reading) : Type 0 where
   pub typed : IsTyped (meaning_of (program_of q.program.now))
-  pub scalars : is_over_scalars true (meaning_of (program_of q.program.now)) ≡ true
+  pub scalars : is_over_values (meaning_of (program_of q.program.now)) ≡ true
   pub spelled : list_all is_section (map section_of q.sections.now) ≡ true
   pub tables : AreTables (program_of q.program.now) (map section_of q.sections.now) q.tables.now
 

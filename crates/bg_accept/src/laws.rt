@@ -4,7 +4,7 @@ ghost use Rattle.bg_ast.specs.Meaning.{meaning_of};
 ghost use Rattle.bg_ast.specs.Resolved.{Program};
 ghost use Rattle.bg_sense.specs.Typed.{IsTyped};
 ghost use Rattle.bg_sense.specs.Claims.{IsSetOf, Inductive, Safe};
-ghost use Rattle.bg_fits.specs.Scalars.{is_over_scalars};
+ghost use Rattle.bg_fits.specs.Valued.{is_over_values};
 ghost use Rattle.bg_certtext.specs.Views.{CertOf};
 ghost use Rattle.bg_accept.specs.Accepted.{retained_by, IsAccepted};
 ghost use Rattle.bg_accept.specs.Answers.{AnswerOf, Accepted, IsAnswer};
@@ -13,10 +13,10 @@ use bg_places::laws::placed_are_places;
 use bg_sense::laws::what_fails_at_no_place_is_safe;
 use bg_task::laws::{a_place_has_one_list_of_clauses, accepted_places_do_not_fail};
 
-/// Where a typed program over truth values, whole numbers and elements of user types accepts a certificate, the retained candidates are
+/// Where a typed program over values accepts a certificate, the retained candidates are
 /// an inductive set, and under it no execution of an implementation fails, of any number of steps.
 pub fn accepted_programs_are_safe()
-    ensures { (p : Program) (c : CertOf) → IsTyped (meaning_of p) → is_over_scalars true (meaning_of p) ≡ true → IsAccepted p c →
+    ensures { (p : Program) (c : CertOf) → IsTyped (meaning_of p) → is_over_values (meaning_of p) ≡ true → IsAccepted p c →
         (IsSetOf (meaning_of p) (retained_by p c)) × (Inductive (meaning_of p) (retained_by p c)) × ((k : ℕ) → k < length p.implementations → Safe (meaning_of p) (retained_by p c) k) }
 {
     accepted_places_do_not_fail();

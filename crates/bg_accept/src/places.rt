@@ -5,7 +5,7 @@ ghost use Rattle.bg_text.specs.Views.{id_of};
 ghost use Rattle.bg_ast.specs.Meaning.{meaning_of};
 ghost use Rattle.bg_ast.specs.Views.{program_of};
 ghost use Rattle.bg_sense.specs.Typed.{IsTyped};
-ghost use Rattle.bg_fits.specs.Scalars.{is_over_scalars};
+ghost use Rattle.bg_fits.specs.Valued.{is_over_values};
 ghost use Rattle.bg_cert.specs.Walks.{has};
 ghost use Rattle.bg_places.specs.Views.{placed_of, placed_in};
 ghost use Rattle.bg_term_table.specs.Lines.{lines_of};
@@ -38,7 +38,7 @@ fn shows_behind(
     lines: &[Line],
 ) -> Result<bool, AllocError>
     requires typed { IsTyped (meaning_of (program_of question.program.now)) }
-    requires scalars { is_over_scalars true (meaning_of (program_of question.program.now)) ≡ true }
+    requires scalars { is_over_values (meaning_of (program_of question.program.now)) ≡ true }
     requires prepared { IsPrepared (program_of question.program.now) question.place.now.implementation question.prepared.now }
     requires rows { list_all is_row (section_of section.now).table ≡ true }
     requires there { AreThere (program_of question.program.now) question.place.now.implementation question.prepared.now (lines_of lines.now) }
@@ -65,7 +65,7 @@ fn shows(
     section: &Section,
 ) -> Result<bool, AllocError>
     requires typed { IsTyped (meaning_of (program_of question.program.now)) }
-    requires scalars { is_over_scalars true (meaning_of (program_of question.program.now)) ≡ true }
+    requires scalars { is_over_values (meaning_of (program_of question.program.now)) ≡ true }
     requires prepared { IsPrepared (program_of question.program.now) question.place.now.implementation question.prepared.now }
     requires rows { list_all is_row (section_of section.now).table ≡ true }
     ensures { IfOk result (IsSettled (meaning_of (program_of question.entry.program.now)) (has question.entry.set.now) (map id_of numbers.now.candidates.now) (section_of section.now) (placed_of question.entry.place.now).place) }

@@ -3,7 +3,7 @@ ghost use Rattle.std.specs.Prelude.{◌≡◌, true, None, is_some, IfOk};
 ghost use Rattle.bg_ast.specs.Meaning.{meaning_of};
 ghost use Rattle.bg_ast.specs.Views.{program_of};
 ghost use Rattle.bg_sense.specs.Typed.{IsTyped};
-ghost use Rattle.bg_fits.specs.Scalars.{is_over_scalars};
+ghost use Rattle.bg_fits.specs.Valued.{is_over_values};
 ghost use Rattle.bg_certtext.specs.Views.{cert_of};
 ghost use Rattle.bg_certtext.specs.Spellable.{IsSpellable};
 ghost use Rattle.bg_accept.specs.Names.{marks, unplaced};
@@ -29,7 +29,7 @@ fn answer<'q, 'n, 'c>(
     tables: &'q Tables<'n>,
 ) -> Result<Answer<'c>, AllocError>
     requires typed { IsTyped (meaning_of (program_of program.now)) }
-    requires scalars { is_over_scalars true (meaning_of (program_of program.now)) ≡ true }
+    requires scalars { is_over_values (meaning_of (program_of program.now)) ≡ true }
     requires spellable { IsSpellable (cert_of cert.now) }
     requires interp { is_some (cert_of cert.now).interp ≡ true }
     requires retained { unplaced (program_of program.now).candidates (cert_of cert.now).retained ≡ None }
@@ -60,7 +60,7 @@ fn check_sections<'c>(
     set: &[bool],
 ) -> Result<Answer<'c>, AllocError>
     requires typed { IsTyped (meaning_of (program_of program.now)) }
-    requires scalars { is_over_scalars true (meaning_of (program_of program.now)) ≡ true }
+    requires scalars { is_over_values (meaning_of (program_of program.now)) ≡ true }
     requires spellable { IsSpellable (cert_of cert.now) }
     requires interp { is_some (cert_of cert.now).interp ≡ true }
     requires retained { unplaced (program_of program.now).candidates (cert_of cert.now).retained ≡ None }
@@ -71,7 +71,7 @@ fn check_sections<'c>(
     answer(alloc, program, cert, set, &tables)
 }
 
-/// Whether a typed program over truth values, whole numbers and elements of user types accepts a certificate that has a text, or the
+/// Whether a typed program over values accepts a certificate that has a text, or the
 /// first reason why not. Takes time for each part of the program and of the text, and memory for one place's clauses at a time.
 ///
 /// Only want of memory is an error; 2^32 incarnations and terms, or atoms, of an implementation count as such.
@@ -81,7 +81,7 @@ pub fn check<'c>(
     cert: &CertText<'c>,
 ) -> Result<Answer<'c>, AllocError>
     requires typed { IsTyped (meaning_of (program_of program.now)) }
-    requires scalars { is_over_scalars true (meaning_of (program_of program.now)) ≡ true }
+    requires scalars { is_over_values (meaning_of (program_of program.now)) ≡ true }
     requires spellable { IsSpellable (cert_of cert.now) }
     ensures { IfOk result (λ a. IsAnswer (program_of program.now) (cert_of cert.now) (answer_of a)) }
 {

@@ -36,9 +36,9 @@ module _ (depth : ℕ) (p : Prog) (h : IsOpenable depth p) (set : ℕ → Bool) 
 
   true_at : (t : Place) (v : Verdict) → IsTrueAt O set t v → IsTrueAt p set t (carried_verdict p v)
   true_at t Proved k = λ i s choices f. k (tables_of i) (with_constants i s) choices (opens depth p h set t i s choices f)
-  true_at t (Refuted i s choices) k = (
+  true_at t (Refuted i s ts choices) k = (
     closes depth p h set t i s choices k.0,
-    λ front last e. closed_runs depth p h set t i s choices front k.0 ∙ k.1 front last e,
+    ((λ front last e. closed_runs depth p h set t i s choices front k.0 ∙ k.1.0 front last e), k.1.1),
   )
   true_at t (Unknown why) k = tt
 
@@ -83,7 +83,7 @@ or_right false y e = e
 
 one_proven : (v : Verdict) → is_refuted v ≡ false → is_unknown v ≡ false → v ≡ Proved
 one_proven Proved e f = refl
-one_proven (Refuted i s choices) e f = absurd (let bad : ⊥ = cc in bad)
+one_proven (Refuted i s ts choices) e f = absurd (let bad : ⊥ = cc in bad)
 one_proven (Unknown why) e f = absurd (let bad : ⊥ = cc in bad)
 
 proven_by : (js : List Judged) → list_any (λ j. is_refuted j.verdict) js ≡ false → list_any (λ j. is_unknown j.verdict) js ≡ false → Proven js
@@ -188,5 +188,5 @@ sound depth p axioms a h x s =
 
 pub told : (depth : ℕ) (p : Prog) (set : ℕ → Bool) (v : Verdict) → IsOpenable depth p → IsTrueAt (axiom_program depth p) set axiom_place v → AreAxioms p (axioms_by v)
 told depth p set Proved h t = λ i m. t (tables_of i) (with_constants i no_state) [] (met depth p h set i m)
-told depth p set (Refuted i s choices) h t = (interp_in (of_axioms p) i s, meets depth p h set i s choices t.0)
+told depth p set (Refuted i s ts choices) h t = (interp_in (of_axioms p) i s, meets depth p h set i s choices t.0)
 told depth p set (Unknown why) h t = tt

@@ -7,7 +7,7 @@ use Rattle.bg_sound.specs.Told.{Axioms, Consistent, Contradictory, Undecided, Ve
 -- a counterexample's state holds the values of the constants, and its interpretation the tables of functions without a body
 abbrev pub carried_verdict : Prog → Verdict → Verdict
 carried_verdict p Proved = Proved
-carried_verdict p (Refuted i s choices) = Refuted (interp_in p i s) (without_constants p s) choices
+carried_verdict p (Refuted i s ts choices) = Refuted (interp_in p i s) (without_constants p s) ts choices
 carried_verdict p (Unknown why) = Unknown why
 
 abbrev pub carried_one : Prog → Judged → Judged
@@ -26,5 +26,5 @@ carried p axioms o =
 -- the word on the axioms, by what is known of the one place of their own program
 abbrev pub axioms_by : Verdict → Axioms
 axioms_by Proved = Contradictory
-axioms_by (Refuted i s choices) = Consistent
+axioms_by (Refuted i s ts choices) = Consistent
 axioms_by (Unknown why) = Undecided why

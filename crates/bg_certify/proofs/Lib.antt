@@ -4,6 +4,9 @@ pub mod Walks
 pub mod Order
 pub mod Cells
 pub mod Rightly
+pub mod Along
+pub mod Slots
+pub mod Loops
 pub mod Giving
 pub mod Whole
 pub mod Straight

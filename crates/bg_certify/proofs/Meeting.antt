@@ -10,12 +10,9 @@ use Rattle.bg_sense.specs.Types.{are_of, types_of}
 use Rattle.bg_sense.specs.Variables.{procedure_of}
 use Rattle.bg_flow.specs.Core.{frame_decls}
 use Rattle.bg_block_types.specs.Typed.{blocks_in}
-use Rattle.bg_ast.specs.Values.{Val}
+use Rattle.bg_ast.specs.Values.{Val, Ty, Table}
 use Rattle.bg_scalar.specs.Choices.{choice_of}
 use Rattle.bg_scalar.specs.Views.{tables_in, vals_in}
-use Rattle.bg_scalar.specs.declared.table.Table.{Table}
-use Rattle.bg_scalar.specs.Values.{val_of}
-use Rattle.bg_scalar.specs.declared.scalar.Scalar.{Scalar}
 use Rattle.bg_replay.specs.Moments.{Around}
 use Rattle.bg_replay.specs.Said.{Said, Stops}
 use Rattle.bg_replay.specs.Ways.{runs}
@@ -40,9 +37,10 @@ use Rattle.bg_confirm.specs.Typed.{values_fit}
 use Rattle.bg_confirm.specs.Met.{vals_for, run_in, axioms_of, constant_types, values_in, IsMet}
 use Rattle.bg_confirm.specs.Accepted.{AreMet, IsInterpMet}
 use Rattle.bg_confirm.proofs.Candidates.{M, Q}
-use Rattle.bg_certify.specs.Given.{value_of, givens, interp_by, type_names, constant_names}
+use Rattle.bg_certify.specs.Given.{values_of, givens, interp_by, type_names, constant_names}
+use Rattle.bg_certify.specs.Given as given
 use Rattle.bg_certify.specs.Written.{names_of}
-use Rattle.bg_certify.proofs.Giving.{names_back, values_given, held_back, held_fit, given_to, functions_back, tables_back}
+use Rattle.bg_certify.proofs.Giving.{meant_types, names_back, values_given, values_back, values_fitting, given_to, functions_back, tables_back}
 use Rattle.bg_certify.proofs.Straight.{runs_straight, blocks_straight}
 
 -- ---- as many values as constants
@@ -59,31 +57,40 @@ module _ (budget : Budget) (p : r.Program) (set : ℕ → Bool) (cex : Counterex
   abbrev P : Prog
   P = meaning_of p
 
-  abbrev xs : List Scalar
-  xs = cex.globals.items
+  abbrev xs : List Val
+  xs = vals_in cex.globals.items
+
+  -- the constants' types, as written and as those of the axioms' own program
+  abbrev written : List Ty
+  written = given.constant_types p.types p.constants
+
+  same : written ≡ constant_types p
+  same = sym (meant_types p.types p.constants)
 
   abbrev gs : List GivenOf
-  gs = givens (type_names p.types) (constant_names p.constants) xs
+  gs = givens (type_names p.types) (constant_names p.constants) written xs
 
   abbrev ts : List Table
-  ts = cex.tables.items
+  ts = tables_in cex.tables.items
 
   abbrev its : InterpOf
   its = record { constants = gs; functions = given_to p.types p.functions ts }
 
   count : length (constant_names p.constants) ≡ length xs
   count =
-      let values = are_of_length (types_of (axioms_of p).globals) (map val_of xs) right.0.state.globals in
+      let values = are_of_length (types_of (axioms_of p).globals) xs right.0.state.globals in
       length-map p.constants (λ c. c.name.text)
-      ∙ (sym (length-map p.constants _) ∙ (sym (const_count P.constants) ∙ (sym values ∙ length-map xs val_of)))
+      ∙ (sym (length-map p.constants _) ∙ (sym (const_count P.constants) ∙ sym values))
 
-  values : values_in its ≡ map (value_of (type_names p.types)) xs
-  values = values_given p.types (constant_names p.constants) xs count
+  values : values_in its ≡ values_of (type_names p.types) (constant_types p) xs
+  values =
+      values_given p.types (constant_names p.constants) written xs count
+      ∙ ap (λ (us : List Ty). values_of (type_names p.types) us xs) same
 
-  back : vals_for (constant_types p) (values_in its) ≡ vals_in xs
+  back : vals_for (constant_types p) (values_in its) ≡ xs
   back =
       ap (λ (vs : List ValueOf). vals_for (constant_types p) vs) values
-      ∙ held_back p.types (axioms_of p).globals xs right.0.state.globals
+      ∙ values_back p.types (constant_types p) xs right.0.state.globals
 
   frame : vals_in cex.frame.items ≡ []
   frame = no_frame (vals_in cex.frame.items) right.0.state.frame
@@ -92,25 +99,25 @@ module _ (budget : Budget) (p : r.Program) (set : ℕ → Bool) (cex : Counterex
   abbrev ran : Impl → Proc → List Val → List Val → Said
   ran m q ys fs =
       runs
-      (record { set = set; tables = tables_in ts; before = ys; globals = types_of (axioms_of p).globals; frame = types_of (frame_decls m q) })
+      (record { set = set; tables = ts; before = ys; globals = types_of (axioms_of p).globals; frame = types_of (frame_decls m q) })
       0 (blocks_in (axioms_of p) 0 m q) (moment_in ys fs (map choice_of cex.choices.items))
 
-  says : (m : Impl) (q : Proc) → M most_bodies P ≡ m → Q most_bodies P ≡ q → ran m q (vals_in xs) (vals_in cex.frame.items) ≡ Stops (Failed axiom_place.spot) → run_in (axioms_of p) set 0 m q (tables_in ts) (vals_for (constant_types p) (values_in its)) ≡ Stops (Failed axiom_place.spot)
+  says : (m : Impl) (q : Proc) → M most_bodies P ≡ m → Q most_bodies P ≡ q → ran m q xs (vals_in cex.frame.items) ≡ Stops (Failed axiom_place.spot) → run_in (axioms_of p) set 0 m q ts (vals_for (constant_types p) (values_in its)) ≡ Stops (Failed axiom_place.spot)
   says m q em eq h =
       let around : Around = record {
         set = set;
-        tables = tables_in ts;
-        before = vals_in xs;
+        tables = ts;
+        before = xs;
         globals = types_of (axioms_of p).globals;
         frame = types_of (frame_decls (M most_bodies P) (Q most_bodies P));
       } in
-      ap (λ (ys : List Val). run_in (axioms_of p) set 0 m q (tables_in ts) ys) back
-      ∙ (ap (λ (n : Impl). run_in (axioms_of p) set 0 n q (tables_in ts) (vals_in xs)) (sym em)
-      ∙ (ap (λ (n : Proc). run_in (axioms_of p) set 0 (M most_bodies P) n (tables_in ts) (vals_in xs)) (sym eq)
-      ∙ (sym (runs_straight around 0 (blocks_in (axioms_of p) 0 (M most_bodies P) (Q most_bodies P)) (moment_in (vals_in xs) [] (map choice_of cex.choices.items)) (blocks_straight most_bodies P))
-      ∙ (ap (λ (n : Proc). ran (M most_bodies P) n (vals_in xs) []) eq
-      ∙ (ap (λ (n : Impl). ran n q (vals_in xs) []) em
-      ∙ (ap (λ (fs : List Val). ran m q (vals_in xs) fs) (sym frame) ∙ h))))))
+      ap (λ (ys : List Val). run_in (axioms_of p) set 0 m q ts ys) back
+      ∙ (ap (λ (n : Impl). run_in (axioms_of p) set 0 n q ts xs) (sym em)
+      ∙ (ap (λ (n : Proc). run_in (axioms_of p) set 0 (M most_bodies P) n ts xs) (sym eq)
+      ∙ (sym (runs_straight around 0 (blocks_in (axioms_of p) 0 (M most_bodies P) (Q most_bodies P)) (moment_in xs [] (map choice_of cex.choices.items)) (blocks_straight most_bodies P))
+      ∙ (ap (λ (n : Proc). ran (M most_bodies P) n xs []) eq
+      ∙ (ap (λ (n : Impl). ran n q xs []) em
+      ∙ (ap (λ (fs : List Val). ran m q xs fs) (sym frame) ∙ h))))))
 
   met : IsMet p its
   met =
@@ -120,12 +127,13 @@ module _ (budget : Budget) (p : r.Program) (set : ℕ → Bool) (cex : Counterex
       let its_proc : Some (Q most_bodies P) ≡ Some w.procedure = ap (λ (x : Impl). procedure_of (axioms_of p) x.procedure) m ∙ w.is_its in
       let q : Q most_bodies P ≡ w.procedure = cc in
       record {
-        named = names_back p.types (constant_names p.constants) xs count;
+        named = names_back p.types (constant_names p.constants) written xs count;
         typed =
             ap (λ (vs : List ValueOf). values_fit p.types (constant_types p) vs) values
-            ∙ held_fit p.types (axioms_of p).globals xs right.0.state.globals;
+            ∙ values_fitting p.types (constant_types p) xs right.0.state.globals;
+        normal = ap (λ (ys : List Val). are_of (constant_types p) ys) back ∙ right.0.state.globals;
         functions = functions_back p.types p.functions ts right.0.meets.interp.tables;
-        tables = tables_in ts;
+        tables = ts;
         are_its = tables_back p.types p.functions ts right.0.meets.interp.tables;
         typed_tables = right.0.meets.interp.tables;
         set = set;

@@ -1,48 +1,60 @@
 -- What is written of an outcome, whatever true program it is of.
 use Rattle.std.proofs.Common.{◌≡◌, ℕ, Bool, List, [], ◌∷◌, ◌++◌, length, map, drop, refl, sym, ap, ◌∙◌, subst}
 use Rattle.bg_ast.specs.Resolved as r
+use Rattle.bg_ast.specs.Values.{Ty}
 use Rattle.bg_ast.specs.Views.{program_of}
 use Rattle.bg_tree.specs.declared.outcome.Budget.{Budget}
 use Rattle.bg_houdini.specs.Outcomes as houdini
 use Rattle.bg_opened.specs.Written.{global_for, bodiless}
 use Rattle.bg_inference.specs.declared.outcome.Outcome.{Outcome}
-use Rattle.bg_inference.specs.Outcomes.{judged_program, IsTrueOutcome}
+use Rattle.bg_inference.specs.Outcomes.{has_body, judged_program, IsTrueOutcome}
 use Rattle.bg_meant.specs.Once.{AreOnce}
 use Rattle.bg_certtext.specs.Views.{CertOf}
 use Rattle.bg_certify.specs.Names.{text_in, names_in, HasOwnNames}
 use Rattle.bg_certify.specs.Spelled.{rows}
-use Rattle.bg_certify.specs.Given.{NamesOf, interp_by, type_names, constant_names, declared_names, function_names}
+use Rattle.bg_certify.specs.Given.{NamesOf, HeadOf, interp_by, type_names, constant_names, constant_types, declared_names, declared_types, head_of, heads}
 use Rattle.bg_certify.specs.Read as read
 use Rattle.bg_certify.specs.Written.{HasSections, IsWritten, IsTrueOf, names_of}
-use Rattle.bg_certify.proofs.Giving.{same_names}
+use Rattle.bg_certify.proofs.Giving.{same_names, same_types}
 use Rattle.bg_certify.proofs.Rightly.{PlacedLaw, InsideLaw, AboveLaw, certs_of, has_sections, verdict_count}
 
 drop_front : {A : Type 0} (xs ys : List A) → drop (length xs) (xs ++ ys) ≡ ys
 drop_front [] ys = refl
 drop_front (x ∷ xs) ys = drop_front xs ys
 
-functions_named : (fs : List r.Fun) → function_names (map bodiless fs) ≡ function_names fs
-functions_named [] = refl
-functions_named (f ∷ fs) = ap (λ (l : List (List ℕ)). f.name.text ∷ l) (functions_named fs)
+functions_alike : (types : List r.TypeName) (fs : List r.Fun) → heads types (map bodiless fs) ≡ heads types fs
+functions_alike types [] = refl
+functions_alike types (f ∷ fs) = ap (λ (l : List HeadOf). head_of types f ∷ l) (functions_alike types fs)
 
--- the variables behind the globals have the constants' names
-constants_named : (p : r.Program) (o : Outcome) → program_of o.opened ≡ judged_program p → o.globals ≡ length p.globals → declared_names (drop o.globals (program_of o.opened).globals) ≡ constant_names p.constants
-constants_named p o e n =
-    ap (λ (k : ℕ). declared_names (drop k (program_of o.opened).globals)) n
-    ∙ (ap (λ (q : r.Program). declared_names (drop (length p.globals) q.globals)) e
-    ∙ (ap declared_names (drop_front p.globals (map global_for p.constants)) ∙ same_names p.constants))
+-- the variables behind the globals stand for the constants
+constants_alike : (p : r.Program) (o : Outcome) → program_of o.opened ≡ judged_program p → o.globals ≡ length p.globals → read.constants_in o ≡ map global_for p.constants
+constants_alike p o e n =
+    ap (λ (k : ℕ). drop k (program_of o.opened).globals) n
+    ∙ (ap (λ (q : r.Program). drop (length p.globals) q.globals) e
+    ∙ drop_front p.globals (map global_for p.constants))
+
+-- names and types of what is declared
+abbrev named : List r.TypeName → List r.Declared → List r.Fun → List Bool → NamesOf
+named ts ds fs bs =
+    record { types = type_names ts; constants = declared_names ds; constant_types = declared_types ts ds; functions = heads ts fs; bodies = bs }
+
+abbrev made : r.Program → List (List ℕ) → List Ty → List HeadOf → NamesOf
+made p ns us fs =
+    record { types = type_names p.types; constants = ns; constant_types = us; functions = fs; bodies = map has_body p.functions }
 
 -- an outcome has the names of its program
 same_names_in : (budget : Budget) (p : r.Program) (o : Outcome) → IsTrueOutcome budget p o → read.names_in o ≡ names_of p
 same_names_in budget p o h =
-    let constants = constants_named p o h.opened h.globals in
-    let types : type_names (program_of o.opened).types ≡ type_names p.types = ap (λ (q : r.Program). type_names q.types) h.opened in
-    let functions : function_names (program_of o.opened).functions ≡ function_names p.functions =
-    ap (λ (q : r.Program). function_names q.functions) h.opened ∙ functions_named p.functions in
-    ap (λ (ns : List (List ℕ)). let n : NamesOf = record { types = ns; constants = declared_names (drop o.globals (program_of o.opened).globals); functions = function_names (program_of o.opened).functions; bodies = o.bodies.items } in n) types
-    ∙ (ap (λ (ns : List (List ℕ)). let n : NamesOf = record { types = type_names p.types; constants = ns; functions = function_names (program_of o.opened).functions; bodies = o.bodies.items } in n) constants
-    ∙ (ap (λ (ns : List (List ℕ)). let n : NamesOf = record { types = type_names p.types; constants = constant_names p.constants; functions = ns; bodies = o.bodies.items } in n) functions
-    ∙ ap (λ (bs : List Bool). let n : NamesOf = record { types = type_names p.types; constants = constant_names p.constants; functions = function_names p.functions; bodies = bs } in n) h.bodies))
+    let alike = constants_alike p o h.opened h.globals in
+    let types : (program_of o.opened).types ≡ p.types = ap (λ (q : r.Program). q.types) h.opened in
+    let functions : (program_of o.opened).functions ≡ map bodiless p.functions = ap (λ (q : r.Program). q.functions) h.opened in
+    ap (λ (ts : List r.TypeName). named ts (read.constants_in o) (program_of o.opened).functions o.bodies.items) types
+    ∙ (ap (λ (ds : List r.Declared). named p.types ds (program_of o.opened).functions o.bodies.items) alike
+    ∙ (ap (λ (fs : List r.Fun). named p.types (map global_for p.constants) fs o.bodies.items) functions
+    ∙ (ap (λ (bs : List Bool). named p.types (map global_for p.constants) (map bodiless p.functions) bs) h.bodies
+    ∙ (ap (λ (ns : List (List ℕ)). made p ns (declared_types p.types (map global_for p.constants)) (heads p.types (map bodiless p.functions))) (same_names p.constants)
+    ∙ (ap (λ (us : List Ty). made p (constant_names p.constants) us (heads p.types (map bodiless p.functions))) (same_types p.types p.constants)
+    ∙ ap (λ (fs : List HeadOf). made p (constant_names p.constants) (constant_types p.types p.constants) fs) (functions_alike p.types p.functions))))))
 
 -- what is true of the opened program is true of the one that the outcome has
 true_opened : (budget : Budget) (p : r.Program) (o : Outcome) → IsTrueOutcome budget p o → houdini.IsTrueOutcome budget (program_of o.opened) o.judged

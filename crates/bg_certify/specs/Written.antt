@@ -16,7 +16,7 @@ use Rattle.bg_certtext.specs.Spellable.{IsSpellable}
 use Rattle.bg_accept.specs.Names.{unplaced}
 use Rattle.bg_accept.specs.Sections.{section_at}
 use Rattle.bg_accept.specs.Accepted.{retained_by, IsRequired, IsShown, extra}
-use Rattle.bg_certify.specs.Given.{NamesOf, type_names, constant_names, function_names, interp_by}
+use Rattle.bg_certify.specs.Given.{NamesOf, type_names, constant_names, constant_types, heads, interp_by}
 
 -- the outcome has a verdict on this place of implementation k, which isn't that it is proved
 pub record IsUnproved (o : houdini.Outcome) (k : ℕ) (a : Placed) : Type 0 where
@@ -38,13 +38,14 @@ pub record HasSections (p : r.Program) (o : houdini.Outcome) (c : CertOf) : Type
       IsShown (meaning_of p) (retained_by p c) p.candidates c.sections i a.place
       ⊎ (IsUnproved o k a × (section_at k i c.sections ≡ None))
 
--- the names of a program's constants and functions
+-- the names and types of a program's constants and functions
 abbrev pub names_of : r.Program → NamesOf
 names_of p =
     record {
       types = type_names p.types;
       constants = constant_names p.constants;
-      functions = function_names p.functions;
+      constant_types = constant_types p.types p.constants;
+      functions = heads p.types p.functions;
       bodies = map has_body p.functions;
     }
 

@@ -17,8 +17,8 @@ use std::alloc::{AllocError, Global};
 /// found to meet the axioms, the names of the retained candidates, and the certificate of each of their places and of each ordinary place
 /// that is proved.
 ///
-/// Only want of memory is an error; a number past 2^127 - 1 counts as such, and a name that is no word, or of a type that has an
-/// exclamation mark or a comma: no name of a text is one.
+/// Only want of memory is an error; a number past 2^127 - 1 counts as such, a name that is no word, or of a type that has an exclamation
+/// mark, a comma or a bracket: no name of a text is one; and what `bg_fits::written_kind` counts as such.
 pub fn certificate_text(alloc: Global, outcome: &Outcome) -> Result<Vec<u8>, AllocError>
     requires { (p : r.Program) × IsTrueOf p outcome.now }
     ensures { IfOk result (λ text. (p : r.Program) → IsTrueOf p outcome.now → HasOwnNames p → IsCertText p outcome.now text.items) }

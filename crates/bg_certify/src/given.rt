@@ -1,70 +1,44 @@
 //! Values of constants and tables of functions, as a certificate has them.
-ghost use Rattle.std.specs.Prelude.{◌≡◌, map, option_map, drop, slice_get, IfOk};
+ghost use Rattle.std.specs.Prelude.{◌≡◌, map, option_map, IfOk};
 ghost use Rattle.bg_ast.specs.Views.{type_name_of, declared_of, fun_of, program_of};
+ghost use Rattle.bg_kinds.specs.Views.{ref_in};
+ghost use Rattle.bg_scalar.specs.Values as scalar;
+ghost use Rattle.bg_scalar.specs.Views.{table_in, tables_in, vals_in};
 ghost use Rattle.bg_certtext.specs.Views as text;
 ghost use Rattle.bg_certtext.specs.Views.{given_of, interp_of};
-ghost use Rattle.bg_certify.specs.Read.{names_in};
-ghost use Rattle.bg_certify.specs.Given.{name_or_none, type_names, value_of, givens, entry_of, function_of, functions, interp_by, declared_names, function_names};
+ghost use Rattle.bg_certify.specs.Read.{names_in, constants_in};
+ghost use Rattle.bg_certify.specs.Given.{type_names, givens, entry_of, head_of, heads, function_of, functions, interp_by, declared_names, declared_types};
 
+use crate::values::{value_of, values_of};
 use bg_ast::resolved::{Declared, TypeName};
-use bg_certtext::{Entry, Function, Given, Interp, Value};
+use bg_certtext::{Entry, Function, Given, Interp};
 use bg_check::Verdict;
+use bg_confirm::{Signature, read_signature, type_at};
+use bg_fits::push_kinds;
 use bg_inference::Outcome;
-use bg_scalar::{Scalar, Table};
+use bg_kinds::ValueType;
+use bg_scalar::{Table, Value};
 use std::alloc::{AllocError, Global};
 
-/// The name of the type with this number; nothing where there is none.
-fn type_at(types: &[TypeName], t: u32) -> &[u8]
-    ensures { result.now ≡ name_or_none (slice_get (type_names (map type_name_of types.now)) t) }
-{
-    match types.get(t as usize) {
-        None => &[],
-        Some(d) => d.name.text.as_slice(),
-    }
-}
-
-fn value_of<'p>(types: &'p [TypeName], x: Scalar) -> Value<'p>
-    ensures { text.value_of result ≡ value_of (type_names (map type_name_of types.entry.now)) x }
-{
-    match x {
-        Scalar::Truth(b) => Value::Truth(b),
-        Scalar::Number(z) => Value::Number(z),
-        Scalar::Element(t, z) => Value::Element(type_at(types, t), z),
-    }
-}
-
-/// These constants with their values, as far as both go.
+/// These constants, which have these types, with their values, as far as constants and values go.
 fn givens<'p>(
     alloc: Global,
     types: &'p [TypeName],
     constants: &'p [Declared],
-    values: &[Scalar],
+    kinds: &[ValueType],
+    values: &[Value],
 ) -> Result<Vec<Given<'p>>, AllocError>
-    ensures { IfOk result (λ made. map given_of made.items ≡ givens (type_names (map type_name_of types.entry.now)) (declared_names (map declared_of constants.now)) values.now) }
+    ensures { IfOk result (λ made. map given_of made.items ≡ givens (type_names (map type_name_of types.entry.now)) (declared_names (map declared_of constants.entry.now)) (map ref_in kinds.now) (vals_in values.now)) }
 {
     let mut made = Vec::new(alloc);
     for k in 0..constants.len() {
         if k < values.len() {
+            let value = value_of(alloc, types, type_at(kinds, k), &values[k])?;
             made.push(Given {
                 name: constants[k].name.text.as_slice(),
-                value: value_of(types, values[k]),
+                value,
             })?;
         }
-    }
-    Ok(made)
-}
-
-/// The arguments of an entry.
-fn key_of<'p>(
-    alloc: Global,
-    types: &'p [TypeName],
-    key: &[Scalar],
-) -> Result<Vec<Value<'p>>, AllocError>
-    ensures { IfOk result (λ made. map text.value_of made.items ≡ map (value_of (type_names (map type_name_of types.entry.now))) key.now) }
-{
-    let mut made = Vec::new(alloc);
-    for x in key {
-        made.push(value_of(types, *x))?;
     }
     Ok(made)
 }
@@ -73,27 +47,28 @@ fn key_of<'p>(
 fn entry_of<'p>(
     alloc: Global,
     types: &'p [TypeName],
-    key: &[Scalar],
-    value: Scalar,
+    s: &Signature,
+    key: &[Value],
+    value: &Value,
 ) -> Result<Entry<'p>, AllocError>
-    ensures { IfOk result (λ made. text.entry_of made ≡ record { key = map (value_of (type_names (map type_name_of types.entry.now))) key.now; value = value_of (type_names (map type_name_of types.entry.now)) value }) }
+    ensures { IfOk result (λ made. text.entry_of made ≡ entry_of (type_names (map type_name_of types.entry.now)) (map ref_in s.now.params.items) (ref_in s.now.value) (vals_in key.now, scalar.value_of value.now)) }
 {
-    Ok(Entry {
-        key: key_of(alloc, types, key)?,
-        value: value_of(types, value),
-    })
+    let key = values_of(alloc, types, &s.params, key)?;
+    let value = value_of(alloc, types, s.value.as_ref(), value)?;
+    Ok(Entry { key, value })
 }
 
 fn entries_of<'p>(
     alloc: Global,
     types: &'p [TypeName],
+    s: &Signature,
     table: &Table,
 ) -> Result<Vec<Entry<'p>>, AllocError>
-    ensures { IfOk result (λ made. map text.entry_of made.items ≡ map (entry_of (type_names (map type_name_of types.entry.now))) table.now.entries.entries) }
+    ensures { IfOk result (λ made. map text.entry_of made.items ≡ map (entry_of (type_names (map type_name_of types.entry.now)) (map ref_in s.now.params.items) (ref_in s.now.value)) (table_in table.now).entries) }
 {
     let mut made = Vec::new(alloc);
     for (key, value) in &table.entries {
-        made.push(entry_of(alloc, types, key, *value)?)?;
+        made.push(entry_of(alloc, types, s, key, value)?)?;
     }
     Ok(made)
 }
@@ -102,15 +77,19 @@ fn entries_of<'p>(
 fn function_of<'p>(
     alloc: Global,
     types: &'p [TypeName],
-    name: &'p [u8],
+    f: &'p bg_ast::resolved::Function,
     table: &Table,
 ) -> Result<Function<'p>, AllocError>
-    ensures { IfOk result (λ made. text.function_of made ≡ function_of (type_names (map type_name_of types.entry.now)) name.now table.now) }
+    ensures { IfOk result (λ made. text.function_of made ≡ function_of (type_names (map type_name_of types.entry.now)) (head_of (map type_name_of types.entry.now) (fun_of f.entry.now)) (table_in table.now)) }
 {
+    let s = read_signature(alloc, types, f)?;
+    let entries = entries_of(alloc, types, &s, table)?;
+    let default = value_of(alloc, types, s.value.as_ref(), &table.default)?;
+    let name = f.name.text.as_slice();
     Ok(Function {
         name,
-        entries: entries_of(alloc, types, table)?,
-        default: value_of(types, table.default),
+        entries,
+        default,
     })
 }
 
@@ -122,7 +101,7 @@ fn functions<'p>(
     bodies: &[bool],
     tables: &[Table],
 ) -> Result<Vec<Function<'p>>, AllocError>
-    ensures { IfOk result (λ made. map text.function_of made.items ≡ functions (type_names (map type_name_of types.entry.now)) (function_names (map fun_of declared.now)) bodies.now tables.now) }
+    ensures { IfOk result (λ made. map text.function_of made.items ≡ functions (type_names (map type_name_of types.entry.now)) (heads (map type_name_of types.entry.now) (map fun_of declared.entry.now)) bodies.now (tables_in tables.now)) }
 {
     let mut made = Vec::new(alloc);
     for k in 0..declared.len() {
@@ -134,8 +113,7 @@ fn functions<'p>(
         }
         let has_body = bodies[k];
         if !has_body {
-            let name = declared[k].name.text.as_slice();
-            made.push(function_of(alloc, types, name, &tables[k])?)?;
+            made.push(function_of(alloc, types, &declared[k], &tables[k])?)?;
         }
     }
     Ok(made)
@@ -149,28 +127,24 @@ pub(crate) fn interp_by<'p>(
     ensures { IfOk result (λ made. option_map interp_of made ≡ interp_by (names_in outcome.entry.now) outcome.entry.now.axioms) }
 {
     match &outcome.axioms {
-        Verdict::Refuted(cex) => Ok(Some(Interp {
-            constants: givens(
-                alloc,
-                outcome.opened.types.as_slice(),
-                constants_of(outcome),
-                cex.globals.as_slice(),
-            )?,
-            functions: functions(
-                alloc,
-                outcome.opened.types.as_slice(),
-                outcome.opened.functions.as_slice(),
-                outcome.bodies.as_slice(),
-                cex.tables.as_slice(),
-            )?,
-        })),
+        Verdict::Refuted(cex) => {
+            let types = outcome.opened.types.as_slice();
+            let kinds = kinds_of(alloc, outcome)?;
+            let constants = givens(alloc, types, constants_of(outcome), &kinds, &cex.globals)?;
+            let declared = outcome.opened.functions.as_slice();
+            let functions = functions(alloc, types, declared, &outcome.bodies, &cex.tables)?;
+            Ok(Some(Interp {
+                constants,
+                functions,
+            }))
+        }
         _ => Ok(None),
     }
 }
 
 /// The variables that stand for the constants: in the opened program they are behind the globals.
 fn constants_of(outcome: &Outcome) -> &[Declared]
-    ensures { map declared_of result.now ≡ drop outcome.now.globals (program_of outcome.now.opened).globals }
+    ensures { map declared_of result.now ≡ constants_in outcome.now }
 {
     let all = outcome.opened.globals.as_slice();
     if outcome.globals <= all.len() {
@@ -178,4 +152,18 @@ fn constants_of(outcome: &Outcome) -> &[Declared]
     } else {
         &[]
     }
+}
+
+/// Their types.
+fn kinds_of(alloc: Global, outcome: &Outcome) -> Result<Vec<ValueType>, AllocError>
+    ensures { IfOk result (λ made. map ref_in made.items ≡ declared_types (program_of outcome.now.opened).types (constants_in outcome.now)) }
+{
+    let mut made = Vec::new(alloc);
+    push_kinds(
+        alloc,
+        outcome.opened.types.as_slice(),
+        constants_of(outcome),
+        &mut made,
+    )?;
+    Ok(made)
 }

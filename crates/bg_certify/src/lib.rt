@@ -8,5 +8,6 @@ pub mod laws;
 mod names;
 mod nodes;
 mod sections;
+mod values;
 
 pub use certificate::certificate_text;

@@ -4,7 +4,7 @@ use Rattle.std.proofs.lemmas.Bool.{eqb-true}
 use Rattle.bg_certtext.specs.Lines.{behind_comma, commas}
 use Rattle.bg_certtext.specs.Words.{parts_of, in_first}
 
-record Filled (ws : List (List ℕ)) : Type 0 where
+pub record Filled (ws : List (List ℕ)) : Type 0 where
   pub first : List ℕ
   pub others : List (List ℕ)
   pub is : ws ≡ first ∷ others
@@ -17,7 +17,7 @@ filled_by : (b : ℕ) (bs : List ℕ) (t : Bool) → (b == 44) ≡ t → Filled 
 filled_by b bs true e = record { first = []; others = parts_of bs; is = rw e refl }
 filled_by b bs false e = subst Filled (sym (let same : parts_of (b ∷ bs) ≡ in_first b (parts_of bs) = rw e refl in same)) (first_filled b (parts_of bs))
 
-filled : (bs : List ℕ) → Filled (parts_of bs)
+pub filled : (bs : List ℕ) → Filled (parts_of bs)
 filled [] = record { first = []; others = []; is = refl }
 filled (b ∷ bs) = filled_by b bs (b == 44) refl
 

@@ -44,3 +44,7 @@ spaced_words (b ∷ bs) = spaced_by b bs (b == 32) refl (spaced_words bs)
 
 pub line_words : (bs : List ℕ) → line (words_of bs) ≡ bs ++ 10 ∷ []
 line_words bs = ap (λ (cs : List ℕ). cs ++ 10 ∷ []) (spaced_words bs)
+
+-- a line of two words and a text that has words
+pub named_line : (key name bs : List ℕ) → line (key ∷ name ∷ words_of bs) ≡ (key ++ (32 ∷ (name ++ (32 ∷ bs)))) ++ 10 ∷ []
+named_line key name bs = ap (λ (x : List ℕ). (key ++ (32 ∷ (name ++ x))) ++ 10 ∷ []) (behind_filled (words_of bs) (filled bs) ∙ ap (λ (cs : List ℕ). 32 ∷ cs) (spaced_words bs))

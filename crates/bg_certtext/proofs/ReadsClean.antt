@@ -1,5 +1,5 @@
 -- The words of a certificate's lines have no space and no newline.
-use Rattle.std.proofs.Common.{◌≡◌, ℕ, suc, ◌+◌, ◌%◌, ◌<◌, ◌^◌, Bool, true, false, not, ◌&&◌, nat_lt, nat_le, int_le, List, [], ◌∷◌, ◌++◌, map, flat_map, length, codes, Option, Some, None, ℤ, pos, negsuc, refl, arith}
+use Rattle.std.proofs.Common.{◌≡◌, ℕ, suc, ◌+◌, ◌%◌, ◌<◌, ◌^◌, Bool, true, false, not, ◌&&◌, ◌==◌, nat_lt, nat_le, int_le, List, [], ◌∷◌, ◌++◌, map, flat_map, length, codes, Option, Some, None, ℤ, pos, negsuc, refl, ap, ◌∙◌, arith}
 use Rattle.std.proofs.lemmas.Bool.{ltb-true, lt-ltb, ne_eqb}
 use Rattle.std.proofs.lemmas.Fmt.{decimal_by_steps_wide}
 use Rattle.std.specs.List.{list_all}
@@ -12,11 +12,12 @@ use Rattle.bg_cert.specs.declared.cert.Named.TheVariants.{OfAtom, OfRow}
 use Rattle.bg_certtext.specs.declared.text.Term.{Term}
 use Rattle.bg_certtext.specs.declared.text.Stated.{Stated}
 use Rattle.bg_certtext.specs.declared.text.Stated.TheVariants as said
-use Rattle.bg_certtext.specs.Views.{ValueOf, Truth, Number, Element}
+use Rattle.bg_certtext.specs.Views.{PartOf, AtNumber, AtElement, ValueOf, Truth, Number, Element, Default, Slot}
 use Rattle.bg_certtext.specs.Views.{RowOf, NodeOf, Splits, Bounds, Cuts, Learns, IsClause, IsUnit, IsKnown, Derives, SectionOf, GivenOf, EntryOf, FunctionOf, InterpOf, CertOf}
 use Rattle.bg_certtext.specs.Lines.{behind_comma, commas}
-use Rattle.bg_certtext.specs.Spellable.{IsSpellable, is_inside_word, is_empty, is_name, is_type, is_inside_type, is_number, is_zero, is_factor, is_row, is_literal, is_step, is_node, is_stated, is_section, is_value, is_given, is_entry, are_entries, is_function, is_interp, are_terms, are_steps, are_trees}
-use Rattle.bg_certtext.specs.Texts.{literal_word, step_words, node_words, node_lines, term_words, row_words, table_lines, stated_words, place_words, section_lines, retain_words, value_word, given_words, key_word, first_word, other_words, function_words, interp_lines, version_words, end_words, lines_of}
+use Rattle.bg_certtext.specs.Spellable.{IsSpellable, is_inside_word, is_empty, is_name, is_type, is_inside_type, is_number, is_zero, is_factor, is_row, is_literal, is_step, is_node, is_stated, is_section, is_part, is_index, is_value, is_given, is_entry, are_entries, is_function, is_interp, are_terms, are_steps, are_trees}
+use Rattle.bg_certtext.specs.Texts.{literal_word, step_words, node_words, node_lines, term_words, row_words, table_lines, stated_words, place_words, section_lines, retain_words, element_word, part_word, index_word, row_text, default_text, value_text, inside_text, given_words, key_text, entries_text, table_text, function_words, interp_lines, version_words, end_words, lines_of}
+use Rattle.bg_certtext.specs.Words.{is_in_line, words_of, in_first}
 use Rattle.bg_certtext.proofs.ReadsOptions.{both, all_of}
 
 -- a word has neither inside, a line at least one such word
@@ -190,60 +191,134 @@ section_clean s k =
 clean_parts : (t ds : List ℕ) → is_clean t ≡ true → is_clean ds ≡ true → is_clean ((t ++ codes "!") ++ ds) ≡ true
 clean_parts t ds h k = all_append is_inside_word (t ++ codes "!") ds (all_append is_inside_word t (codes "!") h (plain (codes "!") refl)) k
 
-value_clean : (v : ValueOf) → is_value v ≡ true → is_clean (value_word v) ≡ true
-value_clean (Truth true) h = plain (codes "true") refl
-value_clean (Truth false) h = plain (codes "false") refl
-value_clean (Number k) h = signed_clean k h
-value_clean (Element t k) h =
-    let p = both (is_type t) (fits k) h in
-    let name = (both (is_name t) (list_all is_inside_type t) p.0).0 in
-    clean_parts t (signed_decimal k) (name_clean t name) (signed_clean k p.1)
-
-given_clean : (g : GivenOf) → is_given g ≡ true → is_line (given_words g) ≡ true
-given_clean g h =
-    let p = both (is_name g.name) (is_value g.value) h in
-    triple (codes "const") g.name (value_word g.value) (plain (codes "const") refl) (name_clean g.name p.0) (value_clean g.value p.1)
-
-space_like : (is_inside_word 44 ≡ true) × (is_inside_word 91 ≡ true)
+space_like : is_inside_word 44 ≡ true
 unfolding is_inside_word
-space_like = (refl, refl)
+space_like = refl
 
 behind_clean : (ws : List (List ℕ)) → list_all is_clean ws ≡ true → is_clean (flat_map behind_comma ws) ≡ true
 behind_clean [] h = refl
 behind_clean (w ∷ ws) h =
     let p = both (is_clean w) (list_all is_clean ws) h in
-    all_of (is_inside_word 44) (is_clean (w ++ flat_map behind_comma ws)) space_like.0 (all_append is_inside_word w (flat_map behind_comma ws) p.0 (behind_clean ws p.1))
+    all_of (is_inside_word 44) (is_clean (w ++ flat_map behind_comma ws)) space_like (all_append is_inside_word w (flat_map behind_comma ws) p.0 (behind_clean ws p.1))
 
 commas_clean : (ws : List (List ℕ)) → list_all is_clean ws ≡ true → is_clean (commas ws) ≡ true
 commas_clean [] h = refl
 commas_clean (w ∷ ws) h = let p = both (is_clean w) (list_all is_clean ws) h in all_append is_inside_word w (flat_map behind_comma ws) p.0 (behind_clean ws p.1)
 
-key_clean : (vs : List ValueOf) → list_all is_value vs ≡ true → is_clean (key_word vs) ≡ true
-key_clean vs h = commas_clean (map value_word vs) (all_map is_clean is_value value_word value_clean vs h)
+element_clean : (t : List ℕ) (k : ℤ) → is_type t ≡ true → fits k ≡ true → is_clean (element_word t k) ≡ true
+element_clean t k h f = clean_parts t (signed_decimal k) (name_clean t (both (is_name t) (list_all is_inside_type t) h).0) (signed_clean k f)
 
-first_clean : (es : List EntryOf) → list_all is_entry es ≡ true → is_clean (first_word es) ≡ true
-first_clean [] h = plain (codes "else") refl
-first_clean (e ∷ es) h = let p = both (is_entry e) (list_all is_entry es) h in key_clean e.key (both (list_all is_value e.key) (is_value e.value) p.0).0
+part_clean : (p : PartOf) → is_part p ≡ true → is_clean (part_word p) ≡ true
+part_clean (AtNumber k) h = signed_clean k h
+part_clean (AtElement t k) h = let p = both (is_type t) (fits k) h in element_clean t k p.0 p.1
 
-others_clean : (es : List EntryOf) (d : ValueOf) → list_all is_entry es ≡ true → is_value d ≡ true → list_all is_clean (other_words es d) ≡ true
-others_clean [] d h k = all_of (is_clean (value_word d ++ codes "]")) true (all_append is_inside_word (value_word d) (codes "]") (value_clean d k) (plain (codes "]") refl)) refl
-others_clean (e ∷ es) d h k =
+index_clean : (k : List PartOf) → is_index k ≡ true → is_clean (index_word k) ≡ true
+index_clean k h = commas_clean (map part_word k) (all_map is_clean is_part part_word part_clean k (both (not (is_empty k)) (list_all is_part k) h).1)
+
+-- ---- texts without a newline
+
+one_in_line : (b : ℕ) → is_inside_word b ≡ true → is_in_line b ≡ true
+unfolding is_inside_word is_in_line
+one_in_line b h = (both (not (b == 32)) (not (b == 10)) h).1
+
+clean_in_line : (w : List ℕ) → is_clean w ≡ true → list_all is_in_line w ≡ true
+clean_in_line [] h = refl
+clean_in_line (b ∷ bs) h = let p = both (is_inside_word b) (is_clean bs) h in all_of (is_in_line b) (list_all is_in_line bs) (one_in_line b p.0) (clean_in_line bs p.1)
+
+signs_in_line : (list_all is_in_line (codes " := ") ≡ true) × (list_all is_in_line (codes ", ") ≡ true) × (list_all is_in_line (codes "else ") ≡ true) × (list_all is_in_line (codes "]") ≡ true) × (is_in_line 91 ≡ true) × (is_in_line 44 ≡ true)
+unfolding is_in_line
+signs_in_line = (refl, refl, refl, refl, refl, refl)
+
+row_in_line : (k v x : List ℕ) → list_all is_in_line k ≡ true → list_all is_in_line v ≡ true → list_all is_in_line x ≡ true → list_all is_in_line (row_text k v x) ≡ true
+row_in_line k v x a b c =
+    all_append is_in_line k (codes " := " ++ (v ++ (codes ", " ++ x))) a
+    (all_append is_in_line (codes " := ") (v ++ (codes ", " ++ x)) signs_in_line.0
+    (all_append is_in_line v (codes ", " ++ x) b (all_append is_in_line (codes ", ") x signs_in_line.1 c)))
+
+default_in_line : (v : List ℕ) → list_all is_in_line v ≡ true → list_all is_in_line (default_text v) ≡ true
+default_in_line v h = all_append is_in_line (codes "else ") (v ++ codes "]") signs_in_line.2 (all_append is_in_line v (codes "]") h signs_in_line.3)
+
+opened_in_line : (x : List ℕ) → list_all is_in_line x ≡ true → list_all is_in_line (91 ∷ x) ≡ true
+opened_in_line x h = all_of (is_in_line 91) (list_all is_in_line x) signs_in_line.4 h
+
+mutual
+  value_in_line : (v : ValueOf) → is_value v ≡ true → list_all is_in_line (value_text v) ≡ true
+  value_in_line (Truth true) h = clean_in_line (codes "true") (plain (codes "true") refl)
+  value_in_line (Truth false) h = clean_in_line (codes "false") (plain (codes "false") refl)
+  value_in_line (Number k) h = clean_in_line (signed_decimal k) (signed_clean k h)
+  value_in_line (Element t k) h = let p = both (is_type t) (fits k) h in clean_in_line (element_word t k) (element_clean t k p.0 p.1)
+  value_in_line (Default d) h = opened_in_line (default_text (value_text d)) (default_in_line (value_text d) (value_in_line d h))
+  value_in_line (Slot k v m) h =
+      let h1 = both (is_index k) _ h in
+      let h2 = both (is_value v) _ h1.1 in
+      let h3 = both (is_value m) _ h2.1 in
+      opened_in_line (row_text (index_word k) (value_text v) (inside_text m)) (row_in_line (index_word k) (value_text v) (inside_text m) (clean_in_line (index_word k) (index_clean k h1.0)) (value_in_line v h2.0) (inside_in_line m h3.0))
+
+  inside_in_line : (m : ValueOf) → is_value m ≡ true → list_all is_in_line (inside_text m) ≡ true
+  inside_in_line (Truth b) h = refl
+  inside_in_line (Number k) h = refl
+  inside_in_line (Element t k) h = refl
+  inside_in_line (Default d) h = default_in_line (value_text d) (value_in_line d h)
+  inside_in_line (Slot k v m) h =
+      let h1 = both (is_index k) _ h in
+      let h2 = both (is_value v) _ h1.1 in
+      let h3 = both (is_value m) _ h2.1 in
+      row_in_line (index_word k) (value_text v) (inside_text m) (clean_in_line (index_word k) (index_clean k h1.0)) (value_in_line v h2.0) (inside_in_line m h3.0)
+
+others_in_line : (vs : List ValueOf) → list_all is_value vs ≡ true → list_all is_in_line (flat_map behind_comma (map value_text vs)) ≡ true
+others_in_line [] h = refl
+others_in_line (v ∷ vs) h =
+    let p = both (is_value v) (list_all is_value vs) h in
+    let more = flat_map behind_comma (map value_text vs) in
+    all_of (is_in_line 44) (list_all is_in_line (value_text v ++ more)) signs_in_line.5 (all_append is_in_line (value_text v) more (value_in_line v p.0) (others_in_line vs p.1))
+
+key_in_line : (vs : List ValueOf) → list_all is_value vs ≡ true → list_all is_in_line (key_text vs) ≡ true
+key_in_line [] h = refl
+key_in_line (v ∷ vs) h =
+    let p = both (is_value v) (list_all is_value vs) h in
+    all_append is_in_line (value_text v) (flat_map behind_comma (map value_text vs)) (value_in_line v p.0) (others_in_line vs p.1)
+
+entries_in_line : (es : List EntryOf) (d : ValueOf) → list_all is_entry es ≡ true → is_value d ≡ true → list_all is_in_line (entries_text es d) ≡ true
+entries_in_line [] d h k = default_in_line (value_text d) (value_in_line d k)
+entries_in_line (e ∷ es) d h k =
     let p = both (is_entry e) (list_all is_entry es) h in
     let q = both (list_all is_value e.key) (is_value e.value) p.0 in
-    let word : is_clean (value_word e.value ++ codes ",") ≡ true = all_append is_inside_word (value_word e.value) (codes ",") (value_clean e.value q.1) (plain (codes ",") refl) in
-    all_of (is_clean (codes ":=")) (list_all is_clean ((value_word e.value ++ codes ",") ∷ first_word es ∷ other_words es d)) (plain (codes ":=") refl)
-    (all_of (is_clean (value_word e.value ++ codes ",")) (list_all is_clean (first_word es ∷ other_words es d)) word
-    (all_of (is_clean (first_word es)) (list_all is_clean (other_words es d)) (first_clean es p.1) (others_clean es d p.1 k)))
+    row_in_line (key_text e.key) (value_text e.value) (entries_text es d) (key_in_line e.key q.0) (value_in_line e.value q.1) (entries_in_line es d p.1 k)
+
+-- the words of such a text are clean
+
+not_space : (b : ℕ) → (b == 32) ≡ false → is_in_line b ≡ true → is_inside_word b ≡ true
+unfolding is_inside_word is_in_line
+not_space b e h = all_of (not (b == 32)) (not (b == 10)) (ap not e) h
+
+first_in_clean : (b : ℕ) (ws : List (List ℕ)) → is_inside_word b ≡ true → list_all is_clean ws ≡ true → list_all is_clean (in_first b ws) ≡ true
+first_in_clean b [] h k = rw h refl
+first_in_clean b (w ∷ ws) h k =
+    let p = both (is_clean w) (list_all is_clean ws) k in
+    all_of (is_clean (b ∷ w)) (list_all is_clean ws) (all_of (is_inside_word b) (is_clean w) h p.0) p.1
+
+words_by : (b : ℕ) (bs : List ℕ) (t : Bool) → (b == 32) ≡ t → is_in_line b ≡ true → list_all is_clean (words_of bs) ≡ true → list_all is_clean (words_of (b ∷ bs)) ≡ true
+words_by b bs true e k h = ap (list_all is_clean) (let same : words_of (b ∷ bs) ≡ [] ∷ words_of bs = rw e refl in same) ∙ h
+words_by b bs false e k h = ap (list_all is_clean) (let same : words_of (b ∷ bs) ≡ in_first b (words_of bs) = rw e refl in same) ∙ first_in_clean b (words_of bs) (not_space b e k) h
+
+words_clean : (bs : List ℕ) → list_all is_in_line bs ≡ true → list_all is_clean (words_of bs) ≡ true
+words_clean [] h = refl
+words_clean (b ∷ bs) h = let p = both (is_in_line b) (list_all is_in_line bs) h in words_by b bs (b == 32) refl p.0 (words_clean bs p.1)
+
+named_clean : (key name bs : List ℕ) → is_clean key ≡ true → is_clean name ≡ true → list_all is_in_line bs ≡ true → is_line (key ∷ name ∷ words_of bs) ≡ true
+named_clean key name bs a b c = all_of (is_clean key) (list_all is_clean (name ∷ words_of bs)) a (all_of (is_clean name) (list_all is_clean (words_of bs)) b (words_clean bs c))
+
+given_clean : (g : GivenOf) → is_given g ≡ true → is_line (given_words g) ≡ true
+given_clean g h =
+    let p = both (is_name g.name) (is_value g.value) h in
+    named_clean (codes "const") g.name (value_text g.value) (plain (codes "const") refl) (name_clean g.name p.0) (value_in_line g.value p.1)
 
 function_clean : (f : FunctionOf) → is_function f ≡ true → is_line (function_words f) ≡ true
 function_clean f h =
     let h1 = both (is_name f.name) _ h in
     let h2 = both (list_all is_entry f.entries) _ h1.1 in
     let h3 = both (is_value f.default) (are_entries None f.default f.entries) h2.1 in
-    let opened : is_clean (91 ∷ first_word f.entries) ≡ true = all_of (is_inside_word 91) (is_clean (first_word f.entries)) space_like.1 (first_clean f.entries h2.0) in
-    all_of (is_clean (codes "function")) (list_all is_clean (f.name ∷ (91 ∷ first_word f.entries) ∷ other_words f.entries f.default)) (plain (codes "function") refl)
-    (all_of (is_clean f.name) (list_all is_clean ((91 ∷ first_word f.entries) ∷ other_words f.entries f.default)) (name_clean f.name h1.0)
-    (all_of (is_clean (91 ∷ first_word f.entries)) (list_all is_clean (other_words f.entries f.default)) opened (others_clean f.entries f.default h2.0 h3.0)))
+    named_clean (codes "function") f.name (table_text f.entries f.default) (plain (codes "function") refl) (name_clean f.name h1.0) (opened_in_line (entries_text f.entries f.default) (entries_in_line f.entries f.default h2.0 h3.0))
 
 interp_clean : (i : Option InterpOf) → is_interp i ≡ true → list_all is_line (interp_lines i) ≡ true
 interp_clean None h = one_line (codes "no" ∷ codes "interp" ∷ []) (pair (codes "no") (codes "interp") (plain (codes "no") refl) (plain (codes "interp") refl))

@@ -1,200 +1,77 @@
--- Values of constants are read back from their words, and their words are theirs.
-use Rattle.std.proofs.Common.{◌≡◌, ◌++◌, ◌==◌, not, cond, take, drop, length, suc, ⊎_elim, ℕ, Bool, true, false, List, [], ◌∷◌, if◌then◌else◌, ◌||◌, Option, Some, None, ℤ, codes, bytes_eq, refl, ap, sym, subst, ◌∙◌, append_assoc, append-nil}
-use Rattle.std.proofs.lemmas.Bool.{eqb-true}
-use Rattle.std.proofs.lemmas.List.{take-append-drop}
-use Rattle.std.proofs.lemmas.List.Sums.{take_while-cons}
-use Rattle.std.specs.List.{list_all, take_while}
-use Rattle.std.specs.Fmt.{signed_decimal}
-use Rattle.bg_base.specs.Exact.{fits}
-use Rattle.bg_text.specs.Pieces.{is_digit}
-use Rattle.bg_certtext.specs.Views.{ValueOf, Truth, Number, Element}
-use Rattle.bg_certtext.specs.Views.{GivenOf}
-use Rattle.bg_certtext.specs.Spellable.{is_name, is_type, is_inside_type, is_value, is_given}
-use Rattle.bg_certtext.specs.Texts.{value_word, given_words}
-use Rattle.bg_certtext.specs.Words.{integer, is_in_type, type_in}
-use Rattle.bg_certtext.specs.Machine.{then_, when, marked_in, value_in, given_in}
-use Rattle.bg_certtext.proofs.ReadsOptions.{then_made, when_made, if_made, same_some, both, all_of}
-use Rattle.bg_certtext.proofs.ReadsNumbers.{integer_back, integer_read}
-use Rattle.bg_certtext.proofs.ReadsWords.{same_word}
-use Rattle.bg_certtext.proofs.Late.{numeral_in_type}
+-- Constants are read back from their lines, and their lines are theirs.
+use Rattle.std.proofs.Common.{◌≡◌, ◌⊎◌, inl, inr, ⊎_elim, ◌++◌, ◌==◌, ℕ, zero, suc, ◌<◌, ◌≤◌, ◌-◌, length, map, take, drop, get_or, arith, Bool, true, false, ◌&&◌, List, [], ◌∷◌, Option, Some, None, codes, refl, ap, sym, subst, ◌∙◌, append-nil}
+use Rattle.std.specs.List.{list_all}
+use Rattle.std.proofs.lemmas.Bool.{ne_eqb}
+use Rattle.std.proofs.lemmas.List.{take_all}
+use Rattle.bg_certtext.specs.Views.{ValueOf, Truth, Number, Element, Default, Slot, GivenOf}
+use Rattle.bg_certtext.specs.Spellable.{is_empty, is_name, is_value, is_given}
+use Rattle.bg_certtext.specs.Lines.{spaced}
+use Rattle.bg_certtext.specs.Texts.{value_text, given_words}
+use Rattle.bg_certtext.specs.Words.{is_in_word, word_in, words_of, in_first}
+use Rattle.bg_certtext.specs.Machine.{then_, when, Got, value_at, whole, are_words, given_in}
+use Rattle.bg_certtext.proofs.ReadsOptions.{then_made, when_made, both, all_of}
+use Rattle.bg_certtext.proofs.ReadsFuel.{value_at_cuts}
+use Rattle.bg_certtext.proofs.ReadsValues.{filled_plain, value_read}
+use Rattle.bg_certtext.proofs.Spaced.{words_of_spaced}
+use Rattle.bg_certtext.proofs.Splits.{is_inside, words_cut, words_last}
+use Rattle.bg_certtext.proofs.Joined.{spaced_words}
+
+-- ---- words have no space
+
+first_free : (b : ℕ) (ws : List (List ℕ)) → is_in_word b ≡ true → are_words ws ≡ true → are_words (in_first b ws) ≡ true
+first_free b [] h k = rw h refl
+first_free b (w ∷ ws) h k =
+    let p = both (list_all is_in_word w) (are_words ws) k in
+    all_of (list_all is_in_word (b ∷ w)) (are_words ws) (all_of (is_in_word b) (list_all is_in_word w) h p.0) p.1
+
+free_by : (b : ℕ) (bs : List ℕ) (t : Bool) → (b == 32) ≡ t → are_words (words_of bs) ≡ true → are_words (words_of (b ∷ bs)) ≡ true
+free_by b bs true e h = ap are_words (let same : words_of (b ∷ bs) ≡ [] ∷ words_of bs = rw e refl in same) ∙ h
+free_by b bs false e h = ap are_words (let same : words_of (b ∷ bs) ≡ in_first b (words_of bs) = rw e refl in same) ∙ first_free b (words_of bs) (is_inside b e) h
+
+pub words_free : (bs : List ℕ) → are_words (words_of bs) ≡ true
+words_free [] = refl
+words_free (b ∷ bs) = free_by b bs (b == 32) refl (words_free bs)
+
+-- words of a text that isn't empty are those of the text
+pub again : (ws : List (List ℕ)) (bs : List ℕ) → are_words ws ≡ true → spaced ws ≡ bs → is_empty bs ≡ false → ws ≡ words_of bs
+again [] bs h e k = absurd (let bad : true ≡ false = ap is_empty e ∙ k in let no_way : ⊥ = cc in no_way)
+again (w ∷ ws) bs h e k =
+    let p = both (list_all is_in_word w) (are_words ws) h in
+    sym (words_of_spaced w ws p.0 p.1) ∙ ap words_of e
 
 -- ---- values
 
-abbrev pub IsValue : List ℕ → ValueOf → Type 0
-IsValue w v = (w ≡ value_word v) × (is_value v ≡ true)
+pub filled_text : (v : ValueOf) → is_value v ≡ true → is_empty (value_text v) ≡ false
+filled_text (Truth b) h = filled_plain (Truth b) tt h
+filled_text (Number z) h = filled_plain (Number z) tt h
+filled_text (Element t z) h = filled_plain (Element t z) tt h
+filled_text (Default d) h = refl
+filled_text (Slot k v m) h = refl
 
-number_back : (w : List ℕ) (v : ValueOf) → then_ (integer w) (λ k. Some (Number k)) ≡ Some v → IsValue w v
-number_back w v h =
-    let (k, e, g) = then_made (integer w) (λ (k : ℤ). Some (Number k)) v h in
-    let p = integer_back w k e in
-    subst (IsValue w) (same_some (Number k) v g) (p.0, p.1)
+pub nothing_left : (bs : List ℕ) → is_empty bs ≡ true → bs ≡ []
+nothing_left [] h = refl
+nothing_left (b ∷ bs) h = absurd (cc)
 
--- ---- what stands in front of the first exclamation mark, and from there on
+abbrev IsWhole : List ℕ → ValueOf → Type 0
+IsWhole bs v = (bs ≡ value_text v) × (is_value v ≡ true)
 
-is_outside : (b : ℕ) → (b == 33) ≡ true → is_in_type b ≡ false
-unfolding is_in_type
-is_outside b e = rw e refl
+whole_back : (bs : List ℕ) (v : ValueOf) → whole (value_at bs) ≡ Some v → IsWhole bs v
+whole_back bs v h =
+    let (p, e, k) = then_made (value_at bs) (λ (p : ValueOf × List ℕ). when (is_empty p.1) p.0) v h in
+    let w = when_made (is_empty p.1) p.0 v k in
+    let c = value_at_cuts bs p e in
+    subst (IsWhole bs) w.1 (c.0 ∙ (ap (λ (r : List ℕ). value_text p.0 ++ r) (nothing_left p.1 w.0) ∙ append-nil (value_text p.0)), c.1)
 
-is_inside : (b : ℕ) → (b == 33) ≡ false → is_in_type b ≡ true
-unfolding is_in_type
-is_inside b e = rw e refl
-
-abbrev length_if : ℕ → List ℕ → Bool → ℕ
-length_if b bs t = length (cond t (b ∷ take_while is_in_type bs) [])
-
-at_mark : (b : ℕ) (bs : List ℕ) → (b == 33) ≡ true → type_in (b ∷ bs) ≡ 0
-at_mark b bs e = ap length (take_while-cons is_in_type b bs) ∙ ap (length_if b bs) (is_outside b e)
-
-at_other : (b : ℕ) (bs : List ℕ) → is_in_type b ≡ true → type_in (b ∷ bs) ≡ suc (type_in bs)
-at_other b bs e = ap length (take_while-cons is_in_type b bs) ∙ ap (length_if b bs) e
-
-first_by : (x : ℕ) (xs : List ℕ) (t : Bool) → (x == 33) ≡ t → ((b : ℕ) (bs : List ℕ) → drop (type_in xs) xs ≡ b ∷ bs → b ≡ 33) → (b : ℕ) (bs : List ℕ) → drop (type_in (x ∷ xs)) (x ∷ xs) ≡ b ∷ bs → b ≡ 33
-first_by x xs true e on b bs h =
-    let here : x ∷ xs ≡ b ∷ bs = ap (λ (n : ℕ). drop n (x ∷ xs)) (sym (at_mark x xs e)) ∙ h in
-    let same : x ≡ b = cc in
-    sym same ∙ eqb-true x 33 e
-first_by x xs false e on b bs h = on b bs (ap (λ (n : ℕ). drop n (x ∷ xs)) (sym (at_other x xs (is_inside x e))) ∙ h)
-
--- what begins there is the mark
-first_mark : (w : List ℕ) (b : ℕ) (bs : List ℕ) → drop (type_in w) w ≡ b ∷ bs → b ≡ 33
-first_mark [] b bs h = absurd (cc)
-first_mark (x ∷ xs) b bs h = first_by x xs (x == 33) refl (first_mark xs) b bs h
-
-element_back : (w t bs : List ℕ) (v : ValueOf) → w ≡ t ++ 33 ∷ bs → then_ (integer bs) (λ k. when (is_type t) (Element t k)) ≡ Some v → IsValue w v
-element_back w t bs v e h =
-    let (k, f, g) = then_made (integer bs) (λ (k : ℤ). when (is_type t) (Element t k)) v h in
-    let p = integer_back bs k f in
-    let q = when_made (is_type t) (Element t k) v g in
-    subst (IsValue w) q.1 (e ∙ ap (λ (ds : List ℕ). t ++ 33 ∷ ds) p.0 ∙ sym (append_assoc t (33 ∷ []) (signed_decimal k)), all_of (is_type t) (fits k) q.0 p.1)
-
-marked_back : (w t rest : List ℕ) (v : ValueOf) → w ≡ t ++ rest → ((b : ℕ) (bs : List ℕ) → rest ≡ b ∷ bs → b ≡ 33) → marked_in t rest ≡ Some v → IsValue w v
-marked_back w t [] v e m h = number_back w v (ap (λ (u : List ℕ). then_ (integer u) (λ k. Some (Number k))) (e ∙ append-nil t) ∙ h)
-marked_back w t (b ∷ bs) v e m h =
-    element_back w t bs v (e ∙ ap (λ (c : ℕ). t ++ c ∷ bs) (m b bs refl)) h
-
-pub value_back : (w : List ℕ) (v : ValueOf) → value_in w ≡ Some v → IsValue w v
-value_back w v h =
-    ⊎_elim (λ p. subst (IsValue w) (same_some (Truth true) v p.1) (same_word w (codes "true") p.0, refl)) (λ q.
-    ⊎_elim (λ p. subst (IsValue w) (same_some (Truth false) v p.1) (same_word w (codes "false") p.0, refl)) (λ r. marked_back w (take (type_in w) w) (drop (type_in w) w) v (sym (take-append-drop (type_in w) w)) (first_mark w) r.1)
-    (if_made (bytes_eq w (codes "false")) _ _ v q.1))
-    (if_made (bytes_eq w (codes "true")) _ _ v h)
-
-true_is_none : integer (codes "true") ≡ None
-unfolding is_digit
-true_is_none = refl
-
-false_is_none : integer (codes "false") ≡ None
-unfolding is_digit
-false_is_none = refl
-
--- a numeral is no word that isn't read as a number
-apart : (k : ℤ) (key : List ℕ) → fits k ≡ true → integer key ≡ None → bytes_eq (signed_decimal k) key ≡ false
-apart k key f none = by k key (bytes_eq (signed_decimal k) key) refl f none
-  where
-    by : (k : ℤ) (key : List ℕ) (t : Bool) → bytes_eq (signed_decimal k) key ≡ t → fits k ≡ true → integer key ≡ None → t ≡ false
-    by k key false e f none = refl
-    by k key true e f none =
-        let same : signed_decimal k ≡ key = same_word (signed_decimal k) key e in
-        let clash : None ≡ Some k = sym none ∙ ap integer (sym same) ∙ integer_read k f in
-        absurd (cc)
-
--- a word of bytes that are no mark, and behind it a text that is empty or begins with one
-
-type_of : (t rest : List ℕ) → list_all is_in_type t ≡ true → type_in rest ≡ 0 → type_in (t ++ rest) ≡ length t
-type_of [] rest h k = k
-type_of (b ∷ bs) rest h k =
-    let p = both (is_in_type b) (list_all is_in_type bs) h in
-    at_other b (bs ++ rest) p.0 ∙ ap (λ (n : ℕ). suc n) (type_of bs rest p.1 k)
-
-take_front : (u ys : List ℕ) → take (length u) (u ++ ys) ≡ u
-take_front [] ys = refl
-take_front (x ∷ xs) ys = ap (λ (zs : List ℕ). x ∷ zs) (take_front xs ys)
-
-drop_front : (u ys : List ℕ) → drop (length u) (u ++ ys) ≡ ys
-drop_front [] ys = refl
-drop_front (x ∷ xs) ys = drop_front xs ys
-
--- a word that is cut at n
-abbrev cut_at : List ℕ → ℕ → Option ValueOf
-cut_at w n = marked_in (take n w) (drop n w)
-
-marked_read : (t rest : List ℕ) → list_all is_in_type t ≡ true → type_in rest ≡ 0 → cut_at (t ++ rest) (type_in (t ++ rest)) ≡ marked_in t rest
-marked_read t rest h k =
-    ap (cut_at (t ++ rest)) (type_of t rest h k)
-    ∙ ap (λ (u : List ℕ). marked_in u (drop (length t) (t ++ rest))) (take_front t rest)
-    ∙ ap (marked_in t) (drop_front t rest)
-
--- a word that is neither of the two
-abbrev value_by : Bool → Bool → Option ValueOf → Option ValueOf
-value_by a b o = if a then Some (Truth true) else (if b then Some (Truth false) else o)
-
-value_other : (w : List ℕ) → bytes_eq w (codes "true") ≡ false → bytes_eq w (codes "false") ≡ false → value_in w ≡ cut_at w (type_in w)
-value_other w a b =
-    ap (λ (t : Bool). value_by t (bytes_eq w (codes "false")) (cut_at w (type_in w))) a
-    ∙ ap (λ (t : Bool). value_by false t (cut_at w (type_in w))) b
-
--- a word with a mark is neither of the two
-abbrev has_mark : List ℕ → Bool
-has_mark [] = false
-has_mark (b ∷ bs) = (b == 33) || has_mark bs
-
-or_else : (a b : Bool) → b ≡ true → (a || b) ≡ true
-or_else true b h = refl
-or_else false b h = h
-
-marked_has : (t ds : List ℕ) → has_mark (t ++ 33 ∷ ds) ≡ true
-marked_has [] ds = refl
-marked_has (b ∷ bs) ds = or_else (b == 33) (has_mark (bs ++ 33 ∷ ds)) (marked_has bs ds)
-
-unmarked : (has_mark (codes "true") ≡ false) × (has_mark (codes "false") ≡ false)
-unmarked = (refl, refl)
-
-other_by : (w key : List ℕ) (t : Bool) → bytes_eq w key ≡ t → has_mark w ≡ true → has_mark key ≡ false → t ≡ false
-other_by w key false e h k = refl
-other_by w key true e h k =
-    let same : w ≡ key = same_word w key e in
-    let clash : true ≡ false = sym h ∙ (ap has_mark same ∙ k) in
-    absurd (cc)
-
-other_word : (w key : List ℕ) → has_mark w ≡ true → has_mark key ≡ false → bytes_eq w key ≡ false
-other_word w key h k = other_by w key (bytes_eq w key) refl h k
-
-inside_no_mark : (b : ℕ) → is_inside_type b ≡ true → is_in_type b ≡ true
-unfolding is_inside_type is_in_type
-inside_no_mark b h = (both (not (b == 33)) (not (b == 44)) h).0
-
-no_marks : (t : List ℕ) → list_all is_inside_type t ≡ true → list_all is_in_type t ≡ true
-no_marks [] h = refl
-no_marks (b ∷ bs) h =
-    let p = both (is_inside_type b) (list_all is_inside_type bs) h in
-    all_of (is_in_type b) (list_all is_in_type bs) (inside_no_mark b p.0) (no_marks bs p.1)
-
-element_read : (t : List ℕ) (k : ℤ) → is_type t ≡ true → fits k ≡ true → value_in (t ++ 33 ∷ signed_decimal k) ≡ Some (Element t k)
-element_read t k h f =
-    let ds = signed_decimal k in
-    let marked = marked_has t ds in
-    value_other (t ++ 33 ∷ ds) (other_word (t ++ 33 ∷ ds) (codes "true") marked unmarked.0) (other_word (t ++ 33 ∷ ds) (codes "false") marked unmarked.1)
-    ∙ (marked_read t (33 ∷ ds) (no_marks t (both (is_name t) (list_all is_inside_type t) h).1) (at_mark 33 ds refl)
-    ∙ (ap (λ (o : Option ℤ). then_ o (λ k. when (is_type t) (Element t k))) (integer_read k f)
-    ∙ ap (λ (b : Bool). when b (Element t k)) h))
-
-number_read : (k : ℤ) → fits k ≡ true → value_in (signed_decimal k) ≡ Some (Number k)
-number_read k h =
-    let ds = signed_decimal k in
-    value_other ds (apart k (codes "true") h true_is_none) (apart k (codes "false") h false_is_none)
-    ∙ (ap (λ (w : List ℕ). cut_at w (type_in w)) (sym (append-nil ds))
-    ∙ (marked_read ds [] (numeral_in_type k h) refl
-    ∙ ap (λ (o : Option ℤ). then_ o (λ k. Some (Number k))) (integer_read k h)))
-
-pub value_read : (v : ValueOf) → is_value v ≡ true → value_in (value_word v) ≡ Some v
-value_read (Truth true) h = refl
-value_read (Truth false) h = refl
-value_read (Number k) h = number_read k h
-value_read (Element t k) h =
-    let p = both (is_type t) (fits k) h in
-    ap value_in (append_assoc t (33 ∷ []) (signed_decimal k)) ∙ element_read t k p.0 p.1
+whole_read : (v : ValueOf) → is_value v ≡ true → whole (value_at (value_text v)) ≡ Some v
+whole_read v h = ap (λ (bs : List ℕ). whole (value_at bs)) (sym (append-nil (value_text v))) ∙ ap whole (value_read v h [] tt)
 
 -- ---- constants
+
+abbrev pub given_for : List ℕ → ValueOf → GivenOf
+given_for name v = record { name = name; value = v }
+
+abbrev pub given_from : List ℕ → List ℕ → Option GivenOf
+given_from name bs = then_ (whole (value_at bs)) (λ v. when (is_name name) (given_for name v))
 
 -- the words behind the first one of a constant's line
 abbrev pub IsGivenLine : List (List ℕ) → GivenOf → Type 0
@@ -202,14 +79,80 @@ IsGivenLine ws g = (codes "const" ∷ ws ≡ given_words g) × (is_given g ≡ t
 
 pub given_back : (ws : List (List ℕ)) (g : GivenOf) → given_in ws ≡ Some g → IsGivenLine ws g
 given_back [] g h = absurd (cc)
-given_back (name ∷ []) g h = absurd (cc)
-given_back (name ∷ w ∷ []) g h =
-    let (v, e, k) = then_made (value_in w) (λ (v : ValueOf). when (is_name name) (record { name = name; value = v })) g h in
-    let made : GivenOf = record { name = name; value = v } in
-    let p = when_made (is_name name) made g k in
-    let q = value_back w v e in
-    subst (IsGivenLine (name ∷ w ∷ [])) p.1 (ap (λ (u : List ℕ). codes "const" ∷ name ∷ u ∷ []) q.0, all_of (is_name name) (is_value v) p.0 q.1)
-given_back (name ∷ w ∷ u ∷ ws) g h = absurd (cc)
+given_back (name ∷ ws) g h =
+    let (bs, e, k) = then_made (when (are_words ws) (spaced ws)) (given_from name) g h in
+    let w = when_made (are_words ws) (spaced ws) bs e in
+    let (v, f, m) = then_made (whole (value_at bs)) (λ (v : ValueOf). when (is_name name) (given_for name v)) g k in
+    let q = whole_back bs v f in
+    let p = when_made (is_name name) (given_for name v) g m in
+    subst (IsGivenLine (name ∷ ws)) p.1 (ap (λ (u : List (List ℕ)). codes "const" ∷ name ∷ u) (again ws (value_text v) w.0 (w.1 ∙ q.0) (filled_text v q.1)), all_of (is_name name) (is_value v) p.0 q.1)
 
-pub given_read : (g : GivenOf) → is_given g ≡ true → given_in (g.name ∷ value_word g.value ∷ []) ≡ Some g
-given_read g h = let p = both (is_name g.name) (is_value g.value) h in rw (value_read g.value p.1, p.0) refl
+pub given_read : (g : GivenOf) → is_given g ≡ true → given_in (g.name ∷ words_of (value_text g.value)) ≡ Some g
+given_read g h =
+    let p = both (is_name g.name) (is_value g.value) h in
+    let bs = value_text g.value in
+    ap (λ (b : Bool). then_ (when b (spaced (words_of bs))) (given_from g.name)) (words_free bs)
+    ∙ (ap (given_from g.name) (spaced_words bs)
+    ∙ (ap (λ (o : Option ValueOf). then_ o (λ v. when (is_name g.name) (given_for g.name v))) (whole_read g.value p.1)
+    ∙ ap (λ (b : Bool). when b g) p.0))
+
+-- ---- what stands behind a line's first word
+
+lt_or_le : (n m : ℕ) → (n < m) ⊎ (m ≤ n)
+lt_or_le n zero = inr (omega arith)
+lt_or_le zero (suc m) = inl (omega arith)
+lt_or_le (suc n) (suc m) = ⊎_elim (λ h. inl (omega (arith, h))) (λ h. inr (omega (arith, h))) (lt_or_le n m)
+
+words_behind : (bs w v : List ℕ) (vs : List (List ℕ)) → words_of bs ≡ w ∷ v ∷ vs → words_of (drop 1 (drop (word_in bs) bs)) ≡ v ∷ vs
+words_behind bs w v vs h =
+    ⊎_elim
+    (λ l. let e : take (word_in bs) bs ∷ words_of (drop 1 (drop (word_in bs) bs)) ≡ w ∷ v ∷ vs = sym (words_cut bs l) ∙ h in cc)
+    (λ l. let e : bs ∷ [] ≡ w ∷ v ∷ vs = sym (words_last bs l) ∙ h in absurd (let bad : ⊥ = cc in bad))
+    (lt_or_le (word_in bs) (length bs))
+
+-- a text is taken from the words that are its
+pub text_taken : {A : Type 0} (F : List ℕ → Option A) (bs w v : List ℕ) (vs : List (List ℕ)) → words_of bs ≡ w ∷ v ∷ vs → then_ (when (are_words (v ∷ vs)) (spaced (v ∷ vs))) F ≡ F (drop 1 (drop (word_in bs) bs))
+text_taken F bs w v vs h =
+    let rest = drop 1 (drop (word_in bs) bs) in
+    ap (λ (us : List (List ℕ)). then_ (when (are_words us) (spaced us)) F) (sym (words_behind bs w v vs h))
+    ∙ (ap (λ (b : Bool). then_ (when b (spaced (words_of rest))) F) (words_free rest) ∙ ap F (spaced_words rest))
+
+pub given_short : {W : Type 0} (f : W → List ℕ) (ws : List W) → length ws < 2 → given_in (map f ws) ≡ None
+given_short f [] l = refl
+given_short f (a ∷ []) l = refl
+given_short f (a ∷ b ∷ ws) l = absurd (omega (arith, l))
+
+pub given_long : {W : Type 0} (f : W → List ℕ) (d : W) (ws : List W) (bs rest : List ℕ) → 2 ≤ length ws → map f ws ≡ words_of bs → rest ≡ drop 1 (drop (word_in bs) bs) → given_in (map f ws) ≡ given_from (f (get_or ws 0 d)) rest
+given_long f d [] bs rest l e r = absurd (omega (arith, l))
+given_long f d (a ∷ []) bs rest l e r = absurd (omega (arith, l))
+given_long f d (a ∷ b ∷ ws) bs rest l e r = text_taken (given_from (f a)) bs (f a) (f b) (map f ws) (sym e) ∙ ap (given_from (f a)) (sym r)
+
+-- what is made of a value that is read, or isn't
+
+pub given_none : (name bs : List ℕ) → value_at bs ≡ None → given_from name bs ≡ None
+given_none name bs h = ap (λ (o : Got ValueOf). then_ (whole o) (λ v. when (is_name name) (given_for name v))) h
+
+given_by : (t : Bool) (name : List ℕ) (v : ValueOf) → then_ (when t v) (λ v. when (is_name name) (given_for name v)) ≡ when (t && is_name name) (given_for name v)
+given_by true name v = refl
+given_by false name v = refl
+
+pub given_some : (name bs rest : List ℕ) (v : ValueOf) → value_at bs ≡ Some (v, rest) → given_from name bs ≡ when (is_empty rest && is_name name) (given_for name v)
+given_some name bs rest v h =
+    ap (λ (o : Got ValueOf). then_ (whole o) (λ v. when (is_name name) (given_for name v))) h ∙ given_by (is_empty rest) name v
+
+-- what is behind the first of these words, where there is any
+
+pub tail_words : {W : Type 0} (f : W → List ℕ) (ws : List W) (bs rest : List ℕ) → 1 ≤ length ws → map f ws ≡ words_of bs → rest ≡ drop 1 (drop (word_in bs) bs) → 0 < length (take (length ws - 1) (drop 1 ws)) → map f (take (length ws - 1) (drop 1 ws)) ≡ words_of rest
+tail_words f [] bs rest l e r more = absurd (omega (arith, l))
+tail_words f (a ∷ []) bs rest l e r more = absurd (omega (arith, more))
+tail_words {W = W} f (a ∷ b ∷ ws) bs rest l e r more =
+    ap (map f) (take_all (length (a ∷ b ∷ ws) - 1) (b ∷ ws) (omega arith))
+    ∙ (sym (words_behind bs (f a) (f b) (map f ws) (sym e)) ∙ ap words_of (sym r))
+
+pub empty_length : (xs : List ℕ) → is_empty xs ≡ (length xs == 0)
+empty_length [] = refl
+empty_length (x ∷ xs) = sym (ne_eqb (suc (length xs)) 0 (λ e. omega (arith, e)))
+
+pub and_false : (a b : Bool) → b ≡ false → (a && b) ≡ false
+and_false true b h = h
+and_false false b h = refl

@@ -8,7 +8,7 @@ is_outside : (b : ℕ) → (b == 32) ≡ true → is_in_word b ≡ false
 unfolding is_in_word
 is_outside b e = rw e refl
 
-is_inside : (b : ℕ) → (b == 32) ≡ false → is_in_word b ≡ true
+pub is_inside : (b : ℕ) → (b == 32) ≡ false → is_in_word b ≡ true
 unfolding is_in_word
 is_inside b e = rw e refl
 

@@ -1,9 +1,10 @@
 pub mod Views
 pub mod Lines
 pub mod Texts
-pub mod Entries
 pub mod Spellable
 pub mod Words
 pub mod Machine
-pub mod Tabled
+pub mod Got
 pub mod Reading
+pub mod Orders
+pub mod Rows

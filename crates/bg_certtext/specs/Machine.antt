@@ -9,17 +9,17 @@ use Rattle.bg_cert.specs.declared.cert.Named.TheVariants.{OfAtom, OfRow}
 use Rattle.bg_certtext.specs.declared.text.Term.{Term}
 use Rattle.bg_certtext.specs.declared.text.Stated.{Stated}
 use Rattle.bg_certtext.specs.declared.text.Stated.TheVariants as said
-use Rattle.bg_certtext.specs.Views.{ValueOf, Truth, Number, Element}
+use Rattle.bg_certtext.specs.Views.{PartOf, AtNumber, AtElement, ValueOf, Truth, Number, Element, Default, with_slots}
 use Rattle.bg_certtext.specs.declared.draft.Stage.{Stage}
 use Rattle.bg_certtext.specs.declared.draft.Stage.TheVariants as at
 use Rattle.bg_certtext.specs.declared.draft.Draft.{Draft}
 use Rattle.bg_certtext.specs.declared.error.ReadError.{ReadError}
 use Rattle.bg_certtext.specs.declared.error.ReadError.TheVariants as errors
 use Rattle.bg_certtext.specs.declared.text.CertText.{CertText}
-use Rattle.bg_certtext.specs.Lines.{line}
+use Rattle.bg_certtext.specs.Lines.{line, spaced}
 use Rattle.bg_certtext.specs.Views.{cert_of, RowOf, NodeOf, Splits, Bounds, Cuts, Learns, IsClause, IsUnit, IsKnown, Derives, SectionOf, GivenOf, EntryOf, FunctionOf, InterpOf, CertOf, interp_of, section_of, row_of, node_of}
-use Rattle.bg_certtext.specs.Spellable.{is_empty, is_name, is_type, is_factor, are_entries, children}
-use Rattle.bg_certtext.specs.Words.{natural, integer, words_of, parts_of, is_in_line, type_in}
+use Rattle.bg_certtext.specs.Spellable.{is_empty, is_name, is_type, is_factor, are_slots, are_entries, children}
+use Rattle.bg_certtext.specs.Words.{natural, integer, words_of, parts_of, is_in_line, is_in_word, word_in, value_end, type_in}
 
 -- ---- options
 
@@ -56,67 +56,130 @@ abbrev pub name_in : List (List ℕ) → Option (List ℕ)
 name_in (name ∷ []) = when (is_name name) name
 name_in _ = None
 
--- what stands in front of the first exclamation mark of a word, and what stands from there on: a number, or an element
-abbrev pub marked_in : List ℕ → List ℕ → Option ValueOf
-marked_in t [] = then_ (integer t) (λ k. Some (Number k))
-marked_in t (b ∷ bs) = then_ (integer bs) (λ k. when (is_type t) (Element t k))
+-- ---- values
 
--- the value that a word is
+-- what stands in front of the first exclamation mark of a word, and what stands from there on: a number, or an element
+abbrev pub marked_in : List ℕ → List ℕ → Option PartOf
+marked_in t [] = then_ (integer t) (λ k. Some (AtNumber k))
+marked_in t (b ∷ bs) = then_ (integer bs) (λ k. when (is_type t) (AtElement t k))
+
+-- the part of an index that a word is
+abbrev pub part_in : List ℕ → Option PartOf
+part_in w = marked_in (take (type_in w) w) (drop (type_in w) w)
+
+abbrev pub as_value : PartOf → ValueOf
+as_value (AtNumber k) = Number k
+as_value (AtElement t k) = Element t k
+
+-- the value, no map, that a word is
 abbrev pub value_in : List ℕ → Option ValueOf
 value_in w =
     if bytes_eq w (codes "true") then Some (Truth true)
-    else (if bytes_eq w (codes "false") then Some (Truth false) else marked_in (take (type_in w) w) (drop (type_in w) w))
+    else (if bytes_eq w (codes "false") then Some (Truth false) else then_ (part_in w) (λ p. Some (as_value p)))
+
+-- the parts that words are
+abbrev pub index_in : List (List ℕ) → Option (List PartOf)
+index_in [] = Some []
+index_in (w ∷ ws) = then_ (part_in w) (λ p. then_ (index_in ws) (λ ps. Some (p ∷ ps)))
+
+-- what stands behind these bytes, where they stand in front
+abbrev pub behind : List ℕ → List ℕ → Option (List ℕ)
+behind [] bs = Some bs
+behind (k ∷ ks) [] = None
+behind (k ∷ ks) (b ∷ bs) = if b == k then behind ks bs else None
+
+-- what is read from bytes, and what stands behind it
+abbrev pub Got : Type 0 → Type 0
+Got A = Option (A × List ℕ)
+
+abbrev pub either : {A B : Type 0} → Option A → (A → B) → B → B
+either None f other = other
+either (Some x) f other = f x
+
+-- an index ends in front of the first space
+abbrev pub index_from : List ℕ → Got (List PartOf)
+index_from bs = then_ (index_in (parts_of (take (word_in bs) bs))) (λ k. Some (k, drop (word_in bs) bs))
+
+-- a value that is no map ends in front of the first space, comma or closing bracket
+abbrev pub plain_from : List ℕ → Got ValueOf
+plain_from bs = then_ (value_in (take (value_end bs) bs)) (λ v. Some (v, drop (value_end bs) bs))
+
+-- rows of a table, the default, and what stands behind the bracket that closes
+pub record RowsOf (K : Type 0) : Type 0 where
+  pub entries : List (K × ValueOf)
+  pub default : ValueOf
+  pub rest : List ℕ
+
+module _ {K : Type 0} (key : List ℕ → Got K) (value : List ℕ → Got ValueOf) where
+  abbrev pub default_from : List ℕ → Option (RowsOf K)
+  default_from bs =
+      then_ (value bs) (λ d. then_ (behind (codes "]") d.1) (λ r. Some (record { entries = []; default = d.0; rest = r })))
+
+  abbrev pub row_from : List ℕ → Got (K × ValueOf)
+  row_from bs =
+      then_ (key bs) (λ k. then_ (behind (codes " := ") k.1) (λ r.
+      then_ (value r) (λ v. then_ (behind (codes ", ") v.1) (λ s. Some ((k.0, v.0), s)))))
+
+  -- at most this many rows and the default
+  abbrev pub rows_from : ℕ → List ℕ → Option (RowsOf K)
+  rows_from zero bs = None
+  rows_from (suc n) bs =
+      either (behind (codes "else ") bs) default_from
+      (then_ (row_from bs) (λ e. then_ (rows_from n e.1) (λ (s : RowsOf K). Some (record s { entries = e.0 ∷ s.entries }))))
+
+-- slots stand in the order of their indices, and none has the default's value
+abbrev pub map_of : RowsOf (List PartOf) → Got ValueOf
+map_of s = when (are_slots None s.default s.entries) (with_slots s.entries (Default s.default), s.rest)
+
+-- a value of at most so many brackets within one another
+abbrev pub value_from : ℕ → List ℕ → Got ValueOf
+value_from zero bs = None
+value_from (suc n) bs =
+    either (behind (codes "[") bs) (λ r. then_ (rows_from index_from (value_from n) n r) map_of) (plain_from bs)
+
+abbrev pub value_at : List ℕ → Got ValueOf
+value_at bs = value_from (suc (length bs)) bs
+
+-- at most this many values, with a comma between two
+abbrev pub values_from : ℕ → List ℕ → Got (List ValueOf)
+values_from zero bs = None
+values_from (suc n) bs =
+    then_ (value_at bs) (λ v.
+    either (behind (codes ",") v.1) (λ r. then_ (values_from n r) (λ vs. Some (v.0 ∷ vs.0, vs.1))) (Some (v.0 ∷ [], v.1)))
+
+-- the arguments of an entry; none in front of a space
+abbrev pub key_at : List ℕ → Got (List ValueOf)
+key_at bs = either (behind (codes " ") bs) (λ r. Some ([], bs)) (values_from (suc (length bs)) bs)
+
+-- a function's table
+abbrev pub table_at : List ℕ → Option (RowsOf (List ValueOf))
+table_at bs = then_ (behind (codes "[") bs) (λ r. rows_from key_at value_at (suc (length r)) r)
+
+abbrev pub whole : {A : Type 0} → Got A → Option A
+whole o = then_ o (λ p. when (is_empty p.1) p.0)
+
+abbrev pub are_words : List (List ℕ) → Bool
+are_words ws = list_all (list_all is_in_word) ws
 
 -- a constant's name and value
 abbrev pub given_in : List (List ℕ) → Option GivenOf
-given_in (name ∷ w ∷ []) = then_ (value_in w) (λ v. when (is_name name) (record { name = name; value = v }))
-given_in _ = None
-
--- the values that words are
-abbrev pub values_in : List (List ℕ) → Option (List ValueOf)
-values_in [] = Some []
-values_in (w ∷ ws) = then_ (value_in w) (λ v. then_ (values_in ws) (λ vs. Some (v ∷ vs)))
-
--- the values between the commas of a word; none where it is empty
-abbrev pub key_in : List ℕ → Option (List ValueOf)
-key_in w = if is_empty w then Some [] else values_in (parts_of w)
-
--- what stands in front of a word's last byte, where that is this one
-abbrev pub front_of : ℕ → List ℕ → Option (List ℕ)
-front_of c w = when (bytes_eq (drop (length w - 1) w) (c ∷ [])) (take (length w - 1) w)
-
--- the value in front of this byte
-abbrev pub value_before : ℕ → List ℕ → Option ValueOf
-value_before c w = then_ (front_of c w) value_in
-
--- an entry of a table, of these three words
-abbrev pub entry_in : List ℕ → List ℕ → List ℕ → Option EntryOf
-entry_in k s v =
-    if bytes_eq s (codes ":=") then then_ (key_in k) (λ k. then_ (value_before 44 v) (λ v. Some (record { key = k; value = v }))) else None
-
--- the default of a table, of its last two words
-abbrev pub default_in : List ℕ → List ℕ → Option ValueOf
-default_in e d = if bytes_eq e (codes "else") then value_before 93 d else None
-
--- entries and the default, of a word and those behind it
-abbrev pub entries_in : List ℕ → List (List ℕ) → Option (List EntryOf × ValueOf)
-entries_in w [] = None
-entries_in w (d ∷ []) = then_ (default_in w d) (λ d. Some ([], d))
-entries_in w (s ∷ v ∷ []) = None
-entries_in w (s ∷ v ∷ n ∷ ws) = then_ (entry_in w s v) (λ e. then_ (entries_in n ws) (λ p. Some (e ∷ p.0, p.1)))
-
--- what stands behind the bracket that opens a table
-abbrev pub opened_in : List ℕ → Option (List ℕ)
-opened_in [] = None
-opened_in (b ∷ bs) = when (b == 91) bs
+given_in [] = None
+given_in (name ∷ ws) =
+    then_ (when (are_words ws) (spaced ws)) (λ bs. then_ (whole (value_at bs)) (λ v. when (is_name name) (record { name = name; value = v })))
 
 -- a function's name and table
+abbrev pub entry_for : List ValueOf × ValueOf → EntryOf
+entry_for e = record { key = e.0; value = e.1 }
+
+abbrev pub function_with : List ℕ → RowsOf (List ValueOf) → Option FunctionOf
+function_with name s =
+    when (is_empty s.rest && (is_name name && are_entries None s.default (map entry_for s.entries))) (record { name = name; entries = map entry_for s.entries; default = s.default })
+
 abbrev pub function_in : List (List ℕ) → Option FunctionOf
 function_in [] = None
-function_in (name ∷ []) = None
-function_in (name ∷ w ∷ ws) =
-    then_ (opened_in w) (λ u. then_ (entries_in u ws) (λ p.
-    when (is_name name && are_entries None p.1 p.0) (record { name = name; entries = p.0; default = p.1 })))
+function_in (name ∷ ws) = then_ (when (are_words ws) (spaced ws)) (λ bs. then_ (table_at bs) (function_with name))
+
+-- ---- the words of other lines
 
 -- a line of terms and instances: two numbers, or three
 abbrev pub pair_in : (ℕ → ℕ → Stated) → List (List ℕ) → Option Stated

@@ -11,7 +11,7 @@ use Rattle.bg_cert.specs.declared.cert.Named.TheVariants.{OfAtom, OfRow}
 use Rattle.bg_certtext.specs.declared.text.Term.{Term}
 use Rattle.bg_certtext.specs.declared.text.Stated.{Stated}
 use Rattle.bg_certtext.specs.declared.text.Stated.TheVariants as said
-use Rattle.bg_certtext.specs.Views.{ValueOf, Truth, Number, Element}
+use Rattle.bg_certtext.specs.Views.{PartOf, AtNumber, AtElement, ValueOf, Truth, Number, Element, Default, Slot, Item}
 use Rattle.bg_certtext.specs.Views.{RowOf, NodeOf, Splits, Bounds, Cuts, Learns, IsClause, IsUnit, IsKnown, Derives, SectionOf, GivenOf, EntryOf, FunctionOf, InterpOf, CertOf}
 
 -- a byte that stands in a word: no space, no newline
@@ -26,9 +26,9 @@ is_empty (x ∷ xs) = false
 abbrev pub is_name : List ℕ → Bool
 is_name word = not (is_empty word) && list_all is_inside_word word
 
--- a byte that stands in the name of a value's type: no exclamation mark, no comma
+-- a byte that stands in the name of a value's type: no exclamation mark, no comma, no bracket
 unfoldable pub is_inside_type : ℕ → Bool
-is_inside_type b = not (b == 33) && not (b == 44)
+is_inside_type b = not (b == 33) && (not (b == 44) && (not (b == 91) && not (b == 93)))
 
 abbrev pub is_type : List ℕ → Bool
 is_type word = is_name word && list_all is_inside_type word
@@ -105,37 +105,81 @@ abbrev pub is_section : SectionOf → Bool
 is_section s =
     is_number s.implementation && (is_number s.place && (list_all is_stated s.stated && (is_number (length s.table) && (list_all is_row s.table && (list_all is_node s.nodes && are_trees 1 s.nodes)))))
 
-abbrev pub is_value : ValueOf → Bool
-is_value (Truth b) = true
-is_value (Number k) = fits k
-is_value (Element t k) = is_type t && fits k
+-- the order of values of one kind: numbers by size, `false` before `true`, elements of one type by their numbers, maps by their slots, then by
+-- their defaults
+abbrev pub part_lt : PartOf → PartOf → Bool
+part_lt (AtNumber x) (AtNumber y) = int_lt x y
+part_lt (AtNumber x) (AtElement u y) = false
+part_lt (AtElement t x) (AtNumber y) = false
+part_lt (AtElement t x) (AtElement u y) = bytes_eq t u && int_lt x y
 
-abbrev pub is_given : GivenOf → Bool
-is_given g = is_name g.name && is_value g.value
+abbrev pub part_eq : PartOf → PartOf → Bool
+part_eq (AtNumber x) (AtNumber y) = int_eq x y
+part_eq (AtNumber x) (AtElement u y) = false
+part_eq (AtElement t x) (AtNumber y) = false
+part_eq (AtElement t x) (AtElement u y) = bytes_eq t u && int_eq x y
 
--- the order of values of one kind: numbers by size, `false` before `true`, elements of one type by their numbers
-abbrev pub value_lt : ValueOf → ValueOf → Bool
-value_lt (Truth a) (Truth b) = not a && b
-value_lt (Truth a) (Number y) = false
-value_lt (Truth a) (Element u y) = false
-value_lt (Number x) (Truth b) = false
-value_lt (Number x) (Number y) = int_lt x y
-value_lt (Number x) (Element u y) = false
-value_lt (Element t x) (Truth b) = false
-value_lt (Element t x) (Number y) = false
-value_lt (Element t x) (Element u y) = bytes_eq t u && int_lt x y
+abbrev pub index_lt : List PartOf → List PartOf → Bool
+index_lt [] [] = false
+index_lt [] (q ∷ qs) = true
+index_lt (p ∷ ps) [] = false
+index_lt (p ∷ ps) (q ∷ qs) = if part_lt p q then true else part_eq p q && index_lt ps qs
+
+abbrev pub index_eq : List PartOf → List PartOf → Bool
+index_eq [] [] = true
+index_eq [] (q ∷ qs) = false
+index_eq (p ∷ ps) [] = false
+index_eq (p ∷ ps) (q ∷ qs) = part_eq p q && index_eq ps qs
 
 abbrev pub value_eq : ValueOf → ValueOf → Bool
 value_eq (Truth true) (Truth b) = b
 value_eq (Truth false) (Truth b) = not b
-value_eq (Truth a) (Number y) = false
-value_eq (Truth a) (Element u y) = false
-value_eq (Number x) (Truth b) = false
 value_eq (Number x) (Number y) = int_eq x y
-value_eq (Number x) (Element u y) = false
-value_eq (Element t x) (Truth b) = false
-value_eq (Element t x) (Number y) = false
 value_eq (Element t x) (Element u y) = bytes_eq t u && int_eq x y
+value_eq (Default c) (Default d) = value_eq c d
+value_eq (Slot k v m) (Slot l w n) = index_eq k l && (value_eq v w && value_eq m n)
+value_eq _ _ = false
+
+abbrev pub value_lt : ValueOf → ValueOf → Bool
+value_lt (Truth a) (Truth b) = not a && b
+value_lt (Number x) (Number y) = int_lt x y
+value_lt (Element t x) (Element u y) = bytes_eq t u && int_lt x y
+value_lt (Default c) (Default d) = value_lt c d
+value_lt (Default c) (Slot l w n) = true
+value_lt (Slot k v m) (Slot l w n) =
+    if index_lt k l then true else index_eq k l && (if value_lt v w then true else value_eq v w && value_lt m n)
+value_lt _ _ = false
+
+-- what a map gives where it has no slot
+abbrev pub default_of : ValueOf → ValueOf
+default_of (Default d) = d
+default_of (Slot k v m) = default_of m
+default_of v = v
+
+-- the index comes before each slot of a map
+abbrev pub comes_before : List PartOf → ValueOf → Bool
+comes_before k (Default d) = true
+comes_before k (Slot l w n) = index_lt k l
+comes_before k _ = false
+
+abbrev pub is_part : PartOf → Bool
+is_part (AtNumber k) = fits k
+is_part (AtElement t k) = is_type t && fits k
+
+abbrev pub is_index : List PartOf → Bool
+is_index ps = not (is_empty ps) && list_all is_part ps
+
+-- a slot has a map behind it whose slots come behind its index, and another value than the default
+abbrev pub is_value : ValueOf → Bool
+is_value (Truth b) = true
+is_value (Number k) = fits k
+is_value (Element t k) = is_type t && fits k
+is_value (Default d) = is_value d
+is_value (Slot k v m) =
+    is_index k && (is_value v && (is_value m && (comes_before k m && not (value_eq v (default_of m)))))
+
+abbrev pub is_given : GivenOf → Bool
+is_given g = is_name g.name && is_value g.value
 
 -- the order of keys: part by part
 abbrev pub key_lt : List ValueOf → List ValueOf → Bool
@@ -153,6 +197,16 @@ abbrev pub are_entries : Option (List ValueOf) → ValueOf → List EntryOf → 
 are_entries before d [] = true
 are_entries before d (e ∷ es) =
     comes_behind before e.key && (not (value_eq e.value d) && are_entries (Some e.key) d es)
+
+-- an index behind this one, if there is one
+abbrev pub rises : Option (List PartOf) → List PartOf → Bool
+rises None k = true
+rises (Some j) k = index_lt j k
+
+-- slots are in the order of their indices, the first behind this one if there is one, and none has the default's value
+abbrev pub are_slots : Option (List PartOf) → ValueOf → List Item → Bool
+are_slots before d [] = true
+are_slots before d (e ∷ es) = rises before e.0 && (not (value_eq e.1 d) && are_slots (Some e.0) d es)
 
 abbrev pub is_entry : EntryOf → Bool
 is_entry e = list_all is_value e.key && is_value e.value

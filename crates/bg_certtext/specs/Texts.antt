@@ -1,5 +1,5 @@
 -- The text of a certificate, as lines of words.
-use Rattle.std.specs.Prelude.{ℕ, Bool, true, false, List, [], ◌∷◌, ◌++◌, map, flat_map, length, codes, Option, Some, None}
+use Rattle.std.specs.Prelude.{ℕ, Bool, true, false, List, [], ◌∷◌, ◌++◌, map, flat_map, length, codes, ℤ, Option, Some, None}
 use Rattle.std.specs.Fmt.{decimal, signed_decimal}
 use Rattle.bg_rows.specs.declared.step.Step.{Step}
 use Rattle.bg_rows.specs.declared.step.Step.TheVariants.{Path, Sum, Tight}
@@ -8,9 +8,10 @@ use Rattle.bg_cert.specs.declared.cert.Named.TheVariants.{OfAtom, OfRow}
 use Rattle.bg_certtext.specs.declared.text.Term.{Term}
 use Rattle.bg_certtext.specs.declared.text.Stated.{Stated}
 use Rattle.bg_certtext.specs.declared.text.Stated.TheVariants as said
-use Rattle.bg_certtext.specs.Views.{ValueOf, Truth, Number, Element}
+use Rattle.bg_certtext.specs.Views.{PartOf, AtNumber, AtElement, ValueOf, Truth, Number, Element, Default, Slot}
 use Rattle.bg_certtext.specs.Views.{RowOf, NodeOf, Splits, Bounds, Cuts, Learns, IsClause, IsUnit, IsKnown, Derives, SectionOf, GivenOf, EntryOf, FunctionOf, InterpOf, CertOf}
 use Rattle.bg_certtext.specs.Lines.{line, commas}
+use Rattle.bg_certtext.specs.Words.{words_of}
 
 -- a sign in front of a literal
 abbrev pub sign_text : Bool → List ℕ
@@ -77,35 +78,58 @@ section_lines s =
 abbrev pub version_words : List (List ℕ)
 version_words = codes "bg-cert" ∷ codes "1" ∷ []
 
--- a value
-abbrev pub value_word : ValueOf → List ℕ
-value_word (Truth true) = codes "true"
-value_word (Truth false) = codes "false"
-value_word (Number k) = signed_decimal k
-value_word (Element t k) = t ++ codes "!" ++ signed_decimal k
+-- an element: its type's name and its number
+abbrev pub element_word : List ℕ → ℤ → List ℕ
+element_word t k = t ++ codes "!" ++ signed_decimal k
+
+-- an index of a map
+abbrev pub part_word : PartOf → List ℕ
+part_word (AtNumber k) = signed_decimal k
+part_word (AtElement t k) = element_word t k
+
+abbrev pub index_word : List PartOf → List ℕ
+index_word ps = commas (map part_word ps)
+
+-- a row of a table: a key, a value, and what stands behind them; and the default of all others, with the bracket that closes
+abbrev pub row_text : (key value rest : List ℕ) → List ℕ
+row_text key value rest = key ++ (codes " := " ++ (value ++ (codes ", " ++ rest)))
+
+abbrev pub default_text : List ℕ → List ℕ
+default_text value = codes "else " ++ (value ++ codes "]")
+
+-- a value; and of a map what stands behind its bracket
+abbrev mutual
+  pub value_text : ValueOf → List ℕ
+  value_text (Truth true) = codes "true"
+  value_text (Truth false) = codes "false"
+  value_text (Number k) = signed_decimal k
+  value_text (Element t k) = element_word t k
+  value_text (Default d) = codes "[" ++ default_text (value_text d)
+  value_text (Slot k v m) = codes "[" ++ row_text (index_word k) (value_text v) (inside_text m)
+
+  pub inside_text : ValueOf → List ℕ
+  inside_text (Default d) = default_text (value_text d)
+  inside_text (Slot k v m) = row_text (index_word k) (value_text v) (inside_text m)
+  inside_text v = []
 
 abbrev pub given_words : GivenOf → List (List ℕ)
-given_words g = codes "const" ∷ g.name ∷ value_word g.value ∷ []
+given_words g = codes "const" ∷ g.name ∷ words_of (value_text g.value)
 
 -- the arguments of an entry
-abbrev pub key_word : List ValueOf → List ℕ
-key_word vs = commas (map value_word vs)
+abbrev pub key_text : List ValueOf → List ℕ
+key_text vs = commas (map value_text vs)
 
--- the first word of a table behind its bracket, and the others: each entry has three words, the default two
-abbrev pub first_word : List EntryOf → List ℕ
-first_word [] = codes "else"
-first_word (e ∷ es) = key_word e.key
+-- a function's table: its entries and its default
+abbrev pub entries_text : List EntryOf → ValueOf → List ℕ
+entries_text [] d = default_text (value_text d)
+entries_text (e ∷ es) d = row_text (key_text e.key) (value_text e.value) (entries_text es d)
 
-abbrev pub other_words : List EntryOf → ValueOf → List (List ℕ)
-other_words [] d = (value_word d ++ codes "]") ∷ []
-other_words (e ∷ es) d = codes ":=" ∷ (value_word e.value ++ codes ",") ∷ first_word es ∷ other_words es d
-
-abbrev pub table_words : List EntryOf → ValueOf → List (List ℕ)
-table_words es d = (codes "[" ++ first_word es) ∷ other_words es d
+abbrev pub table_text : List EntryOf → ValueOf → List ℕ
+table_text es d = codes "[" ++ entries_text es d
 
 -- a function's line: its name and its table
 abbrev pub function_words : FunctionOf → List (List ℕ)
-function_words f = codes "function" ∷ f.name ∷ table_words f.entries f.default
+function_words f = codes "function" ∷ f.name ∷ words_of (table_text f.entries f.default)
 
 -- an interpretation's lines, or the one that says there is none
 abbrev pub interp_lines : Option InterpOf → List (List (List ℕ))

@@ -1,5 +1,5 @@
 -- Certificates of texts, without where they lie in memory.
-use Rattle.std.specs.Prelude.{ℕ, Bool, List, map, ℤ, Option, option_map}
+use Rattle.std.specs.Prelude.{ℕ, Bool, List, [], ◌∷◌, map, ℤ, Option, option_map}
 use Rattle.bg_rows.specs.declared.step.Step.{Step}
 use Rattle.bg_cert.specs.declared.cert.Named.{Named}
 use Rattle.bg_certtext.specs.declared.text.Term.{Term}
@@ -8,8 +8,11 @@ use Rattle.bg_certtext.specs.declared.text.TextNode.{TextNode}
 use Rattle.bg_certtext.specs.declared.text.TextNode.TheVariants.{Split, Bound, Cut, Lemma, Clause, Unit, Known, Rows}
 use Rattle.bg_certtext.specs.declared.text.Stated.{Stated}
 use Rattle.bg_certtext.specs.declared.text.Section.{Section}
-use Rattle.bg_certtext.specs.declared.text.Value.{Value}
+use Rattle.bg_certtext.specs.declared.text.Part.{Part}
+use Rattle.bg_certtext.specs.declared.text.Part.TheVariants as part
+use Rattle.bg_certtext.specs.declared.text.Value.{Value, Row_of-Slot, end_of-Slot, more_of-Slot}
 use Rattle.bg_certtext.specs.declared.text.Value.TheVariants as value
+use Rattle.bg_certtext.specs.declared.text.Slot as kept
 use Rattle.bg_certtext.specs.declared.text.Given.{Given}
 use Rattle.bg_certtext.specs.declared.text.Entry.{Entry}
 use Rattle.bg_certtext.specs.declared.text.Function.{Function}
@@ -40,11 +43,19 @@ pub record SectionOf : Type 0 where
   pub table : List RowOf
   pub nodes : List NodeOf
 
--- a value; an element has the name of its type and its number
+-- a part of a map's index; an element has the name of its type and its number
+pub data PartOf : Type 0 where
+  AtNumber : ℤ → PartOf
+  AtElement : (ty : List ℕ) (number : ℤ) → PartOf
+
+-- a value; an element has the name of its type and its number. A map is its slots, written in front of its default: `Slot k v m` is m with
+-- v at the index k, and `Default d` is d everywhere
 pub data ValueOf : Type 0 where
   Truth : Bool → ValueOf
   Number : ℤ → ValueOf
   Element : (ty : List ℕ) (number : ℤ) → ValueOf
+  Default : ValueOf → ValueOf
+  Slot : (index : List PartOf) (value rest : ValueOf) → ValueOf
 
 -- a constant's value in the interpretation
 pub record GivenOf : Type 0 where
@@ -96,10 +107,33 @@ section_of s =
       nodes = map node_of s.nodes.items;
     }
 
-abbrev pub value_of : Value → ValueOf
-value_of (value.Truth b) = Truth b
-value_of (value.Number k) = Number k
-value_of (value.Element t k) = Element t.now k
+abbrev pub part_of : Part → PartOf
+part_of (part.Number k) = AtNumber k
+part_of (part.Element t k) = AtElement t.now k
+
+abbrev mutual
+  pub value_of : Value → ValueOf
+  value_of (value.Truth b) = Truth b
+  value_of (value.Number k) = Number k
+  value_of (value.Element t k) = Element t.now k
+  value_of (value.Map' shape ss p d) = slotted ss (Default (value_of d))
+
+  -- slots in front of a map
+  pub slotted : {n : _} → Row_of-Slot n → ValueOf → ValueOf
+  slotted end_of-Slot m = m
+  slotted (more_of-Slot k v ss) m = Slot (map part_of k.items) (value_of v) (slotted ss m)
+
+-- a slot as an index and a value
+abbrev pub Item : Type 0
+Item = List PartOf × ValueOf
+
+abbrev pub slot_of : kept.Slot → Item
+slot_of s = (map part_of s.index.items, value_of s.value)
+
+-- the map with these slots and this default
+abbrev pub with_slots : List Item → ValueOf → ValueOf
+with_slots [] m = m
+with_slots (e ∷ es) m = Slot e.0 e.1 (with_slots es m)
 
 abbrev pub given_of : Given → GivenOf
 given_of g = record { name = g.name.now; value = value_of g.value }

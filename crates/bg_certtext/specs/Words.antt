@@ -37,6 +37,14 @@ abbrev pub parts_of : List ℕ → List (List ℕ)
 parts_of [] = [] ∷ []
 parts_of (b ∷ bs) = if b == 44 then [] ∷ parts_of bs else in_first b (parts_of bs)
 
+-- a byte of a value that is no map: no space, no comma, no closing bracket
+unfoldable pub is_in_value : ℕ → Bool
+is_in_value b = not (b == 32) && (not (b == 44) && not (b == 93))
+
+-- how many bytes stand in front of the first of these
+abbrev pub value_end : List ℕ → ℕ
+value_end bytes = length (take_while is_in_value bytes)
+
 unfoldable pub is_in_type : ℕ → Bool
 is_in_type b = not (b == 33)
 

@@ -1,21 +1,13 @@
 //! The lines in front of the places.
 ghost use Rattle.std.specs.Prelude.{◌≡◌, ◌++◌, OnOk, map, flat_map, option_map};
-ghost use Rattle.bg_certtext.specs.Lines.{line, behind_space};
-ghost use Rattle.bg_certtext.specs.Texts.{value_word, given_words, interp_lines, retain_words};
-ghost use Rattle.bg_certtext.specs.Views.{value_of, given_of, interp_of};
+ghost use Rattle.bg_certtext.specs.Lines.{line};
+ghost use Rattle.bg_certtext.specs.Texts.{given_words, interp_lines, retain_words};
+ghost use Rattle.bg_certtext.specs.Views.{given_of, interp_of};
 
-use crate::functions::{put_functions, put_plain};
+use crate::functions::{put_functions, put_value};
 use crate::put::{put_line, put_pair, put_word};
-use crate::text::{Given, Interp, Value};
+use crate::text::{Given, Interp};
 use std::alloc::AllocError;
-
-/// A value behind a space.
-fn put_value(out: &mut Vec<u8>, value: Value<'_>) -> Result<(), AllocError>
-    ensures { OnOk result (out.new.items ≡ out.old.items ++ behind_space (value_word (value_of value.entry))) }
-{
-    out.push(b' ')?;
-    put_plain(out, value)
-}
 
 /// The line of a constant.
 fn put_given(out: &mut Vec<u8>, given: &Given<'_>) -> Result<(), AllocError>
@@ -23,8 +15,10 @@ fn put_given(out: &mut Vec<u8>, given: &Given<'_>) -> Result<(), AllocError>
 {
     out.extend_from_slice(b"const")?;
     put_word(out, given.name)?;
-    put_value(out, given.value)?;
-    out.extend_from_slice(b"\n")
+    out.extend_from_slice(b" ")?;
+    put_value(out, &given.value)?;
+    out.push(b'\n')?;
+    Ok(())
 }
 
 fn put_givens(out: &mut Vec<u8>, givens: &[Given<'_>]) -> Result<(), AllocError>

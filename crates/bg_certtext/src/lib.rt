@@ -18,6 +18,7 @@ mod stages;
 mod stated;
 mod tables;
 mod text;
+mod values;
 mod words;
 mod writer;
 
@@ -25,6 +26,7 @@ pub use error::ReadError;
 pub use reader::read;
 pub use spells::is_spellable;
 pub use text::{
-    CertText, Entry, Function, Given, Interp, Section, Stated, Term, TextNode, TextRow, Value,
+    CertText, Entry, Function, Given, Interp, Part, Section, Slot, Stated, Term, TextNode, TextRow,
+    Value,
 };
 pub use writer::write;

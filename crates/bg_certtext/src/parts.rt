@@ -1,14 +1,12 @@
 //! What the words of a line say.
 ghost use Rattle.std.specs.Prelude.{◌≡◌, ◌<◌, ◌^◌, ◌∷◌, [], ◌&&◌, nat_lt, int_le, pos, map, IfOk, IfSome, option_map};
 ghost use Rattle.bg_certtext.specs.Spellable.{is_factor};
-ghost use Rattle.bg_certtext.specs.Machine.{then_, when, marked_in, one, two, with_sign, name_in, literal_in, signed_in, literals_in, value_in, given_in, term_in, terms_in, row_in, sum_in, step_in, count_in};
-ghost use Rattle.bg_certtext.specs.Spellable as spell;
-ghost use Rattle.bg_certtext.specs.Words.{is_in_type, type_in, integer};
-ghost use Rattle.bg_certtext.specs.Views.{Element, value_of, given_of, row_of};
+ghost use Rattle.bg_certtext.specs.Machine.{one, two, with_sign, name_in, literal_in, signed_in, literals_in, term_in, terms_in, row_in, sum_in, step_in, count_in};
+ghost use Rattle.bg_certtext.specs.Views.{row_of};
 
 use crate::numeral::{integer, natural};
-use crate::text::{Given, Term, TextRow, Value};
-use crate::words::{is_name, is_type, is_word};
+use crate::text::{Term, TextRow};
+use crate::words::{is_name, is_word};
 use bg_cert::Named;
 use bg_rows::Step;
 use std::alloc::{AllocError, Global};
@@ -65,73 +63,6 @@ pub(crate) fn name_in<'a>(words: &[&'a [u8]]) -> Option<&'a [u8]>
 {
     match words {
         [name] => { if is_name(name) { Some(name) } else { None } }
-        _ => None,
-    }
-}
-
-/// How many bytes stand in front of the first exclamation mark.
-fn type_in(bytes: &[u8]) -> usize
-    ensures { result ≡ type_in bytes.now }
-{
-    bytes.iter().take_while(|b| is_in_type(**b)).count()
-}
-
-#[tactic(auto, unfolding(crate::specs::Words::is_in_type))]
-fn is_in_type(b: u8) -> bool
-    ensures { result ≡ is_in_type b }
-{
-    b != b'!'
-}
-
-/// The element of this type with the number that a word is.
-fn element_in<'a>(t: &'a [u8], number: &[u8]) -> Option<Value<'a>>
-    ensures { option_map value_of result ≡ then_ (integer number.now) (λ k. when (spell.is_type t.entry.now) (Element t.entry.now k)) }
-{
-    let number = integer(number)?;
-    if is_type(t) {
-        Some(Value::Element(t, number))
-    } else {
-        None
-    }
-}
-
-/// A number, or an element, by what stands in front of an exclamation mark and what stands from there on.
-fn marked_in<'a>(t: &'a [u8], behind: &[u8]) -> Option<Value<'a>>
-    ensures { option_map value_of result ≡ marked_in t.entry.now behind.now }
-{
-    match behind {
-        [] => Some(Value::Number(integer(t)?)),
-        [_, number @ ..] => element_in(t, number),
-    }
-}
-
-/// The value that a word is.
-pub(crate) fn value_in<'a>(word: &'a [u8]) -> Option<Value<'a>>
-    ensures { option_map value_of result ≡ value_in word.entry.now }
-{
-    if is_word(word, b"true") {
-        Some(Value::Truth(true))
-    } else if is_word(word, b"false") {
-        Some(Value::Truth(false))
-    } else {
-        let (front, behind) = word.split_at(type_in(word));
-        marked_in(front, behind)
-    }
-}
-
-/// A constant's name and value.
-pub(crate) fn given_in<'a>(words: &[&'a [u8]]) -> Option<Given<'a>>
-    ensures { option_map given_of result ≡ given_in (map (λ w. w.now) words.entry.now) }
-{
-    match words {
-        [name, word] => {
-            let value = value_in(word)?;
-            if is_name(name) {
-                Some(Given { name, value })
-            } else {
-                None
-            }
-        }
         _ => None,
     }
 }

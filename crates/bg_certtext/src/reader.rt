@@ -38,7 +38,7 @@ fn read_lines<'a>(alloc: Global, bytes: &'a [u8]) -> Result<CertText<'a>, ReadEr
     let mut number = 1;
     while let Some((line, behind)) = line_of(rest) {
         split(&mut words, line)?;
-        if !take_line(alloc, &mut draft, &words)? {
+        if !take_line(alloc, &mut draft, &words, line)? {
             return if number == 1 && is_other_version(&words) {
                 Err(ReadError::Version)
             } else {

@@ -2,14 +2,16 @@
 ghost use Rattle.std.specs.Prelude.{◌≡◌, ◌&&◌, map, option_map};
 ghost use Rattle.std.specs.List.{list_all};
 ghost use Rattle.bg_base.specs.Exact.{fits};
-ghost use Rattle.bg_certtext.specs.Views.{value_of, given_of, entry_of, function_of, interp_of, row_of, node_of, section_of, cert_of};
-ghost use Rattle.bg_certtext.specs.Spellable.{is_name, is_type, is_number, are_terms, is_row, is_literal, is_step, are_steps, is_node, are_trees, is_stated, is_section, is_value, is_given, is_entry, is_function, is_interp, is_spellable};
+ghost use Rattle.bg_certtext.specs.Views.{part_of, value_of, slot_of, given_of, entry_of, function_of, interp_of, row_of, node_of, section_of, cert_of};
+ghost use Rattle.bg_certtext.specs.Spellable.{is_name, is_type, is_number, are_terms, is_row, is_literal, is_step, are_steps, is_node, are_trees, is_stated, is_section, is_part, is_index, is_value, is_given, is_entry, is_function, is_interp, is_spellable};
+ghost use Rattle.bg_certtext.specs.Orders.{is_item};
 
 use crate::draft::children;
 use crate::parts::is_factor;
-use crate::sorted::are_entries;
+use crate::sorted::{are_entries, are_slots};
 use crate::text::{
-    CertText, Entry, Function, Given, Interp, Section, Stated, Term, TextNode, TextRow, Value,
+    CertText, Entry, Function, Given, Interp, Part, Section, Slot, Stated, Term, TextNode, TextRow,
+    Value,
 };
 use crate::words::{is_name, is_type};
 use bg_cert::Named;
@@ -178,6 +180,13 @@ fn are_sections(sections: &[Section<'_>]) -> bool
     sections.iter().all(|s| is_section(s))
 }
 
+/// Each `i128` has a numeral.
+fn has_numeral(_k: i128) -> bool
+    ensures { result ≡ fits _k }
+{
+    true
+}
+
 /// Whether an element of this type has a word; each `i128` has a numeral.
 fn is_element(t: &[u8], _k: i128) -> bool
     ensures { result ≡ (is_type t.now && fits _k) }
@@ -185,21 +194,60 @@ fn is_element(t: &[u8], _k: i128) -> bool
     is_type(t)
 }
 
-/// Whether a value has a word.
-fn is_value(value: Value<'_>) -> bool
-    ensures { result ≡ is_value (value_of value.entry) }
+fn is_part(part: Part<'_>) -> bool
+    ensures { result ≡ is_part (part_of part.entry) }
+{
+    match part {
+        Part::Number(_) => true,
+        Part::Element(t, k) => is_element(t, k),
+    }
+}
+
+fn are_parts(parts: &[Part<'_>]) -> bool
+    ensures { result ≡ list_all is_part (map part_of parts.now) }
+{
+    parts.iter().all(|part| is_part(*part))
+}
+
+fn is_index(index: &[Part<'_>]) -> bool
+    ensures { result ≡ is_index (map part_of index.now) }
+{
+    !index.is_empty() && are_parts(index)
+}
+
+/// Whether a value has a text.
+#[tactic(auto, using(crate::proofs::Items::value_forms))]
+#[cycle(is_value)]
+fn is_value(value: &Value<'_>) -> bool
+    ensures { result ≡ is_value (value_of value.now) }
 {
     match value {
         Value::Truth(_) => true,
-        Value::Number(_) => true,
-        Value::Element(t, k) => is_element(t, k),
+        Value::Number(k) => has_numeral(*k),
+        Value::Element(t, k) => is_element(t, *k),
+        Value::Map(slots, default) => {
+            is_value(default) && (are_items(slots) && are_slots(slots, default))
+        }
     }
+}
+
+/// Whether the indices and values of slots have texts.
+#[cycle(is_value)]
+fn are_items(slots: &[Slot<'_>]) -> bool
+    ensures { result ≡ list_all is_item (map slot_of slots.now) }
+{
+    for slot in slots {
+        if !is_index(&slot.index) || !is_value(&slot.value) {
+            return false;
+        }
+    }
+    true
 }
 
 fn is_given(given: &Given<'_>) -> bool
     ensures { result ≡ is_given (given_of given.now) }
 {
-    is_name(given.name) && is_value(given.value)
+    is_name(given.name) && is_value(&given.value)
 }
 
 fn are_givens(givens: &[Given<'_>]) -> bool
@@ -211,13 +259,13 @@ fn are_givens(givens: &[Given<'_>]) -> bool
 fn are_values(values: &[Value<'_>]) -> bool
     ensures { result ≡ list_all is_value (map value_of values.now) }
 {
-    values.iter().all(|value| is_value(*value))
+    values.iter().all(|value| is_value(value))
 }
 
 fn is_entry(entry: &Entry<'_>) -> bool
     ensures { result ≡ is_entry (entry_of entry.now) }
 {
-    are_values(&entry.key) && is_value(entry.value)
+    are_values(&entry.key) && is_value(&entry.value)
 }
 
 fn are_spelled(entries: &[Entry<'_>]) -> bool
@@ -230,7 +278,8 @@ fn is_function(f: &Function<'_>) -> bool
     ensures { result ≡ is_function (function_of f.now) }
 {
     is_name(f.name)
-        && (are_spelled(&f.entries) && (is_value(f.default) && are_entries(f.default, &f.entries)))
+        && (are_spelled(&f.entries)
+            && (is_value(&f.default) && are_entries(&f.default, &f.entries)))
 }
 
 fn are_functions(functions: &[Function<'_>]) -> bool

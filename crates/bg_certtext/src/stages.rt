@@ -1,17 +1,18 @@
 //! What the next line makes of what is read so far.
 ghost use Rattle.std.specs.Prelude.{◌≡◌, map, IfOk, OnOk};
 ghost use Rattle.bg_certtext.specs.declared.draft.Stage.TheVariants as at;
+ghost use Rattle.bg_certtext.specs.Words.{words_of};
 ghost use Rattle.bg_certtext.specs.Machine.{draft_of, HasRoom, Takes, next, on_node, on_table, on_stated, on_section, on_retained, on_function, on_given, on_version, on_interp, by_stage};
 
 use crate::draft::{
     Draft, Stage, add_function, add_given, add_node, add_row, add_stated, add_step,
 };
 use crate::nodes::node_in;
-use crate::parts::{count_in, given_in, name_in, row_in, step_in, two};
+use crate::parts::{count_in, name_in, row_in, step_in, two};
 use crate::stated::stated_in;
-use crate::tables::function_in;
+use crate::tables::{function_in, given_in};
 use crate::text::Interp;
-use crate::words::is_word;
+use crate::words::{behind_word, is_word};
 use std::alloc::{AllocError, Global};
 
 /// A line where a node may stand.
@@ -123,8 +124,10 @@ fn on_function<'a>(
     alloc: Global,
     draft: &mut Draft<'a>,
     words: &[&'a [u8]],
+    line: &'a [u8],
 ) -> Result<bool, AllocError>
-    requires { HasRoom (draft_of draft.old) }
+    requires room { HasRoom (draft_of draft.old) }
+    requires words { map (λ w. w.now) words.now ≡ words_of line.now }
     ensures made { IfOk result (λ yes. Takes (on_function (map (λ w. w.now) words.entry.now) (draft_of draft.old)) (draft_of draft.new) yes) }
     ensures room { OnOk result (HasRoom (draft_of draft.new)) }
 {
@@ -134,7 +137,7 @@ fn on_function<'a>(
     if !is_word(key, b"function") {
         return on_retained(draft, words);
     }
-    let Some(function) = function_in(alloc, rest)? else {
+    let Some(function) = function_in(alloc, rest, behind_word(line))? else {
         return Ok(false);
     };
     add_function(draft, function)?;
@@ -146,8 +149,10 @@ fn on_given<'a>(
     alloc: Global,
     draft: &mut Draft<'a>,
     words: &[&'a [u8]],
+    line: &'a [u8],
 ) -> Result<bool, AllocError>
-    requires { HasRoom (draft_of draft.old) }
+    requires room { HasRoom (draft_of draft.old) }
+    requires words { map (λ w. w.now) words.now ≡ words_of line.now }
     ensures made { IfOk result (λ yes. Takes (on_given (map (λ w. w.now) words.entry.now) (draft_of draft.old)) (draft_of draft.new) yes) }
     ensures room { OnOk result (HasRoom (draft_of draft.new)) }
 {
@@ -155,9 +160,9 @@ fn on_given<'a>(
         return Ok(false);
     };
     if !is_word(key, b"const") {
-        return on_function(alloc, draft, words);
+        return on_function(alloc, draft, words, line);
     }
-    let Some(given) = given_in(rest) else {
+    let Some(given) = given_in(alloc, rest, behind_word(line))? else {
         return Ok(false);
     };
     add_given(draft, given)?;
@@ -243,16 +248,18 @@ pub(crate) fn take_line<'a>(
     alloc: Global,
     draft: &mut Draft<'a>,
     words: &[&'a [u8]],
+    line: &'a [u8],
 ) -> Result<bool, AllocError>
-    requires { HasRoom (draft_of draft.old) }
+    requires room { HasRoom (draft_of draft.old) }
+    requires words { map (λ w. w.now) words.now ≡ words_of line.now }
     ensures made { IfOk result (λ yes. Takes (next (map (λ w. w.now) words.entry.now) (draft_of draft.old)) (draft_of draft.new) yes) }
     ensures room { OnOk result (HasRoom (draft_of draft.new)) }
 {
     match draft.stage {
         Stage::Version => Ok(on_version(draft, words)),
         Stage::Interp => Ok(on_interp(alloc, draft, words)),
-        Stage::Givens => on_given(alloc, draft, words),
-        Stage::Functions => on_function(alloc, draft, words),
+        Stage::Givens => on_given(alloc, draft, words, line),
+        Stage::Functions => on_function(alloc, draft, words, line),
         Stage::Retained => on_retained(draft, words),
         Stage::Table => on_stated(alloc, draft, words),
         Stage::Rows => on_row(alloc, draft, words),

@@ -1,129 +1,126 @@
-//! Functions that are read.
-ghost use Rattle.std.specs.Prelude.{◌≡◌, ◌∷◌, map, IfOk, option_map};
-ghost use Rattle.bg_certtext.specs.Machine.{front_of, value_before, entry_in, default_in, entries_in, opened_in, function_in};
-ghost use Rattle.bg_certtext.specs.Views.{value_of, entry_of, function_of};
-ghost use Rattle.bg_certtext.specs.Tabled.{entries_made};
+//! Constants and functions that are read.
+ghost use Rattle.std.specs.Prelude.{◌≡◌, ◌<◌, ◌&&◌, None, length, map, IfOk, option_map};
+ghost use Rattle.bg_certtext.specs.Words.{words_of};
+ghost use Rattle.bg_certtext.specs.Machine.{when, given_in, function_in, table_at, default_from, key_at, value_at};
+ghost use Rattle.bg_certtext.specs.Spellable.{is_name, are_entries};
+ghost use Rattle.bg_certtext.specs.Views.{value_of, given_of, entry_of, function_of};
+ghost use Rattle.bg_certtext.specs.Got.{table_got, entries_at, prefix, pairs_of};
 
-use crate::keys::key_in;
-use crate::parts::value_in;
 use crate::sorted::are_entries;
-use crate::text::{Entry, Function, Value};
-use crate::words::{is_name, is_word};
+use crate::text::{Entry, Function, Given, Value};
+use crate::values::{entry_from, last_value, value_at};
+use crate::words::{behind, behind_word, is_name};
 use std::alloc::{AllocError, Global};
 
-/// What stands in front of a word's last byte, where that is this one.
-fn front_of<'w>(last: u8, word: &'w [u8]) -> Option<&'w [u8]>
-    ensures { option_map (λ w. w.now) result ≡ front_of last word.entry.now }
-{
-    let (front, behind) = word.split_at(word.len().saturating_sub(1));
-    if is_word(behind, &[last]) {
-        Some(front)
-    } else {
-        None
-    }
-}
-
-/// The value in front of this byte.
-fn value_before<'w>(last: u8, word: &'w [u8]) -> Option<Value<'w>>
-    ensures { option_map value_of result ≡ value_before last word.entry.now }
-{
-    value_in(front_of(last, word)?)
-}
-
-/// An entry of a table, of three words.
-fn entry_in<'a>(
-    alloc: Global,
-    key: &'a [u8],
-    sign: &[u8],
-    value: &'a [u8],
-) -> Result<Option<Entry<'a>>, AllocError>
-    ensures { IfOk result (λ o. option_map entry_of o ≡ entry_in key.entry.now sign.now value.entry.now) }
-{
-    if !is_word(sign, b":=") {
-        return Ok(None);
-    }
-    let Some(key) = key_in(alloc, key)? else {
-        return Ok(None);
-    };
-    match value_before(b',', value) {
-        None => Ok(None),
-        Some(value) => Ok(Some(Entry { key, value })),
-    }
-}
-
-/// The default of a table, of its last two words.
-fn default_in<'a>(word: &[u8], value: &'a [u8]) -> Option<Value<'a>>
-    ensures { option_map value_of result ≡ default_in word.now value.entry.now }
-{
-    if is_word(word, b"else") {
-        value_before(b']', value)
-    } else {
-        None
-    }
-}
-
-/// The entries of a table and its default.
-fn entries_in<'a>(
-    alloc: Global,
-    first: &'a [u8],
-    words: &[&'a [u8]],
-) -> Result<Option<(Vec<Entry<'a>>, Value<'a>)>, AllocError>
-    ensures { IfOk result (λ o. option_map entries_made o ≡ entries_in first.entry.now (map (λ w. w.now) words.entry.now)) }
-{
-    let mut made = Vec::new(alloc);
-    let mut word = first;
-    let mut rest = words;
-    while let [sign, value, next, behind @ ..] = rest {
-        let Some(entry) = entry_in(alloc, word, sign, value)? else {
-            return Ok(None);
-        };
-        made.push(entry)?;
-        word = next;
-        rest = behind;
-    }
-    match rest {
-        [] => Ok(None),
-        [value] => match default_in(word, value) {
-            None => Ok(None),
-            Some(default) => Ok(Some((made, default))),
-        },
-        _ => Ok(None),
-    }
-}
-
-/// What stands behind the bracket that opens a table.
-fn opened_in(word: &[u8]) -> Option<&[u8]>
-    ensures { option_map (λ w. w.now) result ≡ opened_in word.entry.now }
-{
-    match word {
-        [b'[', rest @ ..] => Some(rest),
-        _ => None,
-    }
-}
-
-/// A function's name and table.
-pub(crate) fn function_in<'a>(
+/// A constant's name and value, where these bytes stand behind a line's first word.
+pub(crate) fn given_in<'a>(
     alloc: Global,
     words: &[&'a [u8]],
-) -> Result<Option<Function<'a>>, AllocError>
-    ensures { IfOk result (λ o. option_map function_of o ≡ function_in (map (λ w. w.now) words.entry.now)) }
+    bytes: &'a [u8],
+) -> Result<Option<Given<'a>>, AllocError>
+    requires { 0 < length words.now → map (λ w. w.now) words.now ≡ words_of bytes.now }
+    ensures { IfOk result (λ o. option_map given_of o ≡ given_in (map (λ w. w.now) words.entry.now)) }
 {
-    let [name, first, rest @ ..] = words else {
+    let [name, _, ..] = words else {
         return Ok(None);
     };
-    let Some(opened) = opened_in(first) else {
+    let Some((value, rest)) = value_at(alloc, behind_word(bytes))? else {
         return Ok(None);
     };
-    let Some((entries, default)) = entries_in(alloc, opened, rest)? else {
+    if !rest.is_empty() {
         return Ok(None);
-    };
-    if is_name(name) && are_entries(default, &entries) {
-        Ok(Some(Function {
-            name,
-            entries,
-            default,
-        }))
+    }
+    if is_name(name) {
+        Ok(Some(Given { name, value }))
     } else {
         Ok(None)
     }
+}
+
+/// The entries of a function's table, its default, and what stands behind its bracket.
+fn table_at<'a>(
+    alloc: Global,
+    bytes: &'a [u8],
+) -> Result<Option<(Vec<Entry<'a>>, Value<'a>, &'a [u8])>, AllocError>
+    ensures { IfOk result (λ o. option_map table_got o ≡ table_at bytes.entry.now) }
+{
+    match behind(b"[", bytes) {
+        None => Ok(None),
+        Some(start) => entries_at(alloc, start),
+    }
+}
+
+/// The same behind the bracket that opens it.
+fn entries_at<'a>(
+    alloc: Global,
+    bytes: &'a [u8],
+) -> Result<Option<(Vec<Entry<'a>>, Value<'a>, &'a [u8])>, AllocError>
+    ensures { IfOk result (λ o. option_map table_got o ≡ entries_at bytes.entry.now) }
+{
+    let mut entries = Vec::new(alloc);
+    let mut rest = bytes;
+    loop {
+        if let Some(last) = behind(b"else ", rest) {
+            return closed_at(alloc, entries, last);
+        }
+        let Some((entry, more)) = entry_from(alloc, rest)? else {
+            return Ok(None);
+        };
+        entries.push(entry)?;
+        rest = more;
+    }
+}
+
+/// A table of these entries whose default stands in front, and what stands behind it.
+fn closed_at<'a>(
+    alloc: Global,
+    entries: Vec<Entry<'a>>,
+    bytes: &'a [u8],
+) -> Result<Option<(Vec<Entry<'a>>, Value<'a>, &'a [u8])>, AllocError>
+    ensures { IfOk result (λ o. option_map table_got o ≡ prefix (pairs_of entries.entry.items) (default_from key_at value_at bytes.entry.now)) }
+{
+    match last_value(alloc, bytes)? {
+        None => Ok(None),
+        Some((default, rest)) => Ok(Some((entries, default, rest))),
+    }
+}
+
+/// A function of this name with this table, where it has a text.
+fn function_for<'a>(
+    name: &'a [u8],
+    entries: Vec<Entry<'a>>,
+    default: Value<'a>,
+) -> Option<Function<'a>>
+    ensures { option_map function_of result ≡ when (is_name name.entry.now && are_entries None (value_of default.entry) (map entry_of entries.entry.items)) (record { name = name.entry.now; entries = map entry_of entries.entry.items; default = value_of default.entry }) }
+{
+    if is_name(name) && are_entries(&default, &entries) {
+        Some(Function {
+            name,
+            entries,
+            default,
+        })
+    } else {
+        None
+    }
+}
+
+/// A function's name and table, where these bytes stand behind a line's first word.
+pub(crate) fn function_in<'a>(
+    alloc: Global,
+    words: &[&'a [u8]],
+    bytes: &'a [u8],
+) -> Result<Option<Function<'a>>, AllocError>
+    requires { 0 < length words.now → map (λ w. w.now) words.now ≡ words_of bytes.now }
+    ensures { IfOk result (λ o. option_map function_of o ≡ function_in (map (λ w. w.now) words.entry.now)) }
+{
+    let [name, _, ..] = words else {
+        return Ok(None);
+    };
+    let Some((entries, default, rest)) = table_at(alloc, behind_word(bytes))? else {
+        return Ok(None);
+    };
+    if !rest.is_empty() {
+        return Ok(None);
+    }
+    Ok(function_for(name, entries, default))
 }

@@ -55,16 +55,34 @@ pub struct Section<'a> {
     pub nodes: Vec<TextNode<'a>>,
 }
 
-/// The value of a constant, or one in a function's table; an element has the name of its type and its number.
+/// A part of a map's index; an element has the name of its type and its number.
 #[derive(Clone, Copy)]
-pub enum Value<'a> {
-    Truth(bool),
+pub enum Part<'a> {
     Number(i128),
     Element(&'a [u8], i128),
 }
 
+/// The value of a constant, or one in a function's table; an element has the name of its type and its number, and a map its slots, in
+/// the order of their indices, and its default, what it gives elsewhere.
+#[derive(Drop)]
+#[cycle(value)]
+pub enum Value<'a> {
+    Truth(bool),
+    Number(i128),
+    Element(&'a [u8], i128),
+    Map(Vec<Slot<'a>>, Box<Value<'a>>),
+}
+
+/// The value of a map at an index, which has a part for each of its index types.
+#[derive(Drop)]
+#[cycle(value)]
+pub struct Slot<'a> {
+    pub index: Vec<Part<'a>>,
+    pub value: Value<'a>,
+}
+
 /// A constant's name and the value that the interpretation gives it.
-#[derive(Clone, Copy)]
+#[derive(Drop)]
 pub struct Given<'a> {
     pub name: &'a [u8],
     pub value: Value<'a>,

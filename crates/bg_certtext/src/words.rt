@@ -1,8 +1,9 @@
 //! Lines and words that are read.
-ghost use Rattle.std.specs.Prelude.{◌≡◌, ◌++◌, ◌∷◌, map, true, OnOk, IfSome, IfNone};
+ghost use Rattle.std.specs.Prelude.{◌≡◌, ◌++◌, ◌∷◌, drop, map, option_map, true, OnOk, IfSome, IfNone};
 ghost use Rattle.std.specs.Str.{bytes_eq};
 ghost use Rattle.std.specs.List.{list_all};
 ghost use Rattle.bg_certtext.specs.Words.{is_in_line, is_in_word, line_in, word_in, words_of};
+ghost use Rattle.bg_certtext.specs.Machine.{behind};
 ghost use Rattle.bg_certtext.specs.Spellable.{is_inside_word, is_name, is_inside_type, is_type};
 
 use std::alloc::AllocError;
@@ -55,7 +56,7 @@ pub(crate) fn is_name(word: &[u8]) -> bool
 fn is_inside_type(b: u8) -> bool
     ensures { result ≡ is_inside_type b }
 {
-    b != b'!' && b != b','
+    b != b'!' && (b != b',' && (b != b'[' && b != b']'))
 }
 
 fn are_inside_type(word: &[u8]) -> bool
@@ -71,6 +72,23 @@ pub(crate) fn is_type(word: &[u8]) -> bool
     is_name(word) && are_inside_type(word)
 }
 
+/// What stands behind these bytes, where they stand in front.
+pub(crate) fn behind<'a>(key: &[u8], bytes: &'a [u8]) -> Option<&'a [u8]>
+    ensures { option_map (λ w. w.now) result ≡ behind key.now bytes.entry.now }
+{
+    let mut rest = bytes;
+    for k in key {
+        let [b, more @ ..] = rest else {
+            return None;
+        };
+        if *b != *k {
+            return None;
+        }
+        rest = more;
+    }
+    Some(rest)
+}
+
 /// How many bytes stand in front of the first newline.
 fn line_in(bytes: &[u8]) -> usize
     ensures { result ≡ line_in bytes.now }
@@ -79,7 +97,7 @@ fn line_in(bytes: &[u8]) -> usize
 }
 
 /// How many bytes stand in front of the first space.
-fn word_in(bytes: &[u8]) -> usize
+pub(crate) fn word_in(bytes: &[u8]) -> usize
     ensures { result ≡ word_in bytes.now }
 {
     bytes.iter().take_while(|b| is_in_word(**b)).count()
@@ -114,4 +132,15 @@ pub(crate) fn split<'a>(words: &mut Vec<&'a [u8]>, line: &'a [u8]) -> Result<(),
     }
     words.push(rest)?;
     Ok(())
+}
+
+/// What stands behind the first word of a line and its space; nothing where it has no other.
+pub(crate) fn behind_word(line: &[u8]) -> &[u8]
+    ensures { result.now ≡ drop 1 (drop (word_in line.now) line.now) }
+{
+    let (_, behind) = line.split_at(word_in(line));
+    match behind {
+        [] => behind,
+        [_, rest @ ..] => rest,
+    }
 }

@@ -47,19 +47,17 @@ use Rattle.bg_faithful.specs.Encoded.{Encoding, Encodes}
 use Rattle.bg_terms.specs.Terms.{Term, IsModel, over}
 use Rattle.bg_terms.specs.Alike.{StandFor, HasFlatType, is_scalar, scalar_ty}
 use Rattle.bg_terms.specs.Closed.{IsFinished}
-use Rattle.bg_terms.specs.Instances as terms
-use Rattle.bg_terms.specs.Instances.{instance_ex}
 use Rattle.bg_terms.specs.Flat.{HaveNoBodies, IsFlat}
 use Rattle.bg_terms.specs.Tables.{IsReadOff}
+use Rattle.bg_flat.specs.Blocks.{FlatBlocks}
 use Rattle.bg_flatten.specs.Flattens.{AreFlattened}
-use Rattle.bg_numbered.specs.Lines.{Line, are_there}
-use Rattle.bg_flat.specs.Mapless.{are_mapless}
-use Rattle.bg_read_off.specs.Leaves.{AreApplications, AreCongruent, silent}
-use Rattle.bg_termed.specs.Built.{built_in}
-use Rattle.bg_termed.specs.Lined.{lined_terms}
-use Rattle.bg_termed.specs.Termed.{IsTabled, count_in, terms_in, flats_in, types_in, sorts_in}
+use Rattle.bg_numbered.specs.Indexed.{are_indexed, GiveIndexed}
+use Rattle.bg_numbered.specs.Lines.{Line}
+use Rattle.bg_read_off.specs.Leaves.{silent}
+use Rattle.bg_termed.specs.Lined.{HasFlats, lined_terms, lined_types, lined_sorts, lined_built}
+use Rattle.bg_termed.specs.Termed.{count_in, terms_in, flats_in}
 use Rattle.bg_places.specs.Placed.{placed, place_in}
-use Rattle.bg_fits.specs.Scalars.{is_over_scalars}
+use Rattle.bg_fits.specs.Valued.{is_over_values}
 use Rattle.bg_blocks.specs.Whole.{AreBlocks}
 use Rattle.bg_blocks.specs.declared.block.Block.{Block}
 use Rattle.bg_scalar.specs.Choices.{state_of}
@@ -77,27 +75,6 @@ SafeLaw =
 abbrev pub PlaceLaw : Type 0
 PlaceLaw = (p : r.Program) → map place_in (placed p) ≡ places (meaning_of p)
 
--- lines that name what is there bring no terms
-abbrev pub BareLaw : Type 0
-BareLaw =
-    (p : Prog) (k : ℕ) (m : Impl) (q : Proc) → IsTyped p → is_over_scalars true p ≡ true → slice_get p.implementations k ≡ Some m →
-    procedure_of p m.procedure ≡ Some q → (ls : List Line) → are_there (incarnations_in p k m q) (terms_in p k m q) ls ≡ true →
-    lined_terms p k m q ls ≡ terms_in p k m q
-
--- instances say the same of scalars and of what is built for them
-abbrev pub SaidLaw : Type 0
-SaidLaw =
-    (p : Prog) (k : ℕ) (m : Impl) (q : Proc) → IsTyped p → is_over_scalars true p ≡ true → slice_get p.implementations k ≡ Some m →
-    procedure_of p m.procedure ≡ Some q → (s : List Val) → are_of (map scalar_ty (types_in p k m q)) s ≡ true → (e : terms.Instance) →
-    ev (instance_ex (count_in p k m q) (terms_in p k m q) e) (over s) ≡ ev (instance_ex (count_in p k m q) (terms_in p k m q) e) (over (built_in p k m q s))
-
--- the leaf of scalars is finished where no congruence is false of what is built for them
-abbrev pub FinishedLaw : Type 0
-FinishedLaw =
-    (p : Prog) (k : ℕ) (m : Impl) (q : Proc) → IsTyped p → is_over_scalars true p ≡ true → slice_get p.implementations k ≡ Some m →
-    procedure_of p m.procedure ≡ Some q → (s : List Val) → are_of (map scalar_ty (types_in p k m q)) s ≡ true →
-    AreCongruent (built_in p k m q s) (count_in p k m q) (terms_in p k m q) → IsFinished s (count_in p k m q) (terms_in p k m q) (types_in p k m q)
-
 abbrev pub WholeLaw : Type 0
 WholeLaw =
     (sorts : List Sort) (candidates : ℕ) (blocks : List PassiveBlock) (a : Encoding) (target : Spot) (f : Formula) →
@@ -106,40 +83,47 @@ WholeLaw =
 -- numbers and truth values stand for values
 abbrev pub StandInLaw : Type 0
 StandInLaw =
-    (p : Prog) (k : ℕ) (m : Impl) (q : Proc) (numbers : ℕ → ℤ) (truths : ℕ → Bool) →
-    are_of (map scalar_ty (types_in p k m q)) (scalar_values numbers truths (sorts_in p k m q)) ≡ true
-
-abbrev pub ValueLaw : Type 0
-ValueLaw =
-    (p : Prog) (k : ℕ) (m : Impl) (q : Proc) (numbers : ℕ → ℤ) (truths : ℕ → Bool) →
-    are_of (types_in p k m q) (built_in p k m q (scalar_values numbers truths (sorts_in p k m q))) ≡ true
+    (p : Prog) (k : ℕ) (m : Impl) (q : Proc) (ls : List Line) (numbers : ℕ → ℤ) (truths : ℕ → Bool) →
+    are_of (map scalar_ty (lined_types p k m q ls)) (scalar_values numbers truths (lined_sorts p k m q ls)) ≡ true
 
 abbrev pub FirstLaw : Type 0
 FirstLaw =
-    (p : Prog) (k : ℕ) (m : Impl) (q : Proc) (numbers : ℕ → ℤ) (truths : ℕ → Bool) →
-    are_of (incarnations_in p k m q) (take (count_in p k m q) (built_in p k m q (scalar_values numbers truths (sorts_in p k m q)))) ≡ true
+    (p : Prog) (k : ℕ) (m : Impl) (q : Proc) (ls : List Line) (numbers : ℕ → ℤ) (truths : ℕ → Bool) →
+    are_of (incarnations_in p k m q) (take (count_in p k m q) (lined_built p k m q ls (scalar_values numbers truths (lined_sorts p k m q ls)))) ≡ true
 
 abbrev pub StartLaw : Type 0
 StartLaw =
-    (p : Prog) (k : ℕ) (m : Impl) (q : Proc) → IsTyped p → is_over_scalars true p ≡ true →
+    (p : Prog) (k : ℕ) (m : Impl) (q : Proc) → IsTyped p → is_over_values p ≡ true →
     slice_get p.implementations k ≡ Some m → procedure_of p m.procedure ≡ Some q →
     (values : List Val) → are_of (incarnations_in p k m q) values ≡ true → IsState p k (first_state p (frame_decls m q) values)
 
 abbrev pub MeetLaw : Type 0
 MeetLaw =
-    (p : Prog) (i : Interp) → is_over_scalars true p ≡ true → i.constants ≡ [] → IsTrue (are_tables p.functions i.tables) → Meets p i
+    (p : Prog) (i : Interp) → is_over_values p ≡ true → i.constants ≡ [] → IsTrue (are_tables p.functions i.tables) → Meets p i
 
 -- of flat blocks
 abbrev pub TermLaw : Type 0
 TermLaw =
-    (p : Prog) (k : ℕ) (m : Impl) (q : Proc) → IsTabled p → slice_get p.implementations k ≡ Some m → procedure_of p m.procedure ≡ Some q →
-    are_mapless (incarnations_in p k m q) ≡ true →
-    AreFlattened p.functions (incarnations_in p k m q) (passives_in p k m q) (terms_in p k m q) (flats_in p k m q)
+    (p : Prog) (k : ℕ) (m : Impl) (q : Proc) → IsTyped p → is_over_values p ≡ true →
+    slice_get p.implementations k ≡ Some m → procedure_of p m.procedure ≡ Some q → HasFlats p k m q
 
-abbrev pub AppliedLaw : Type 0
-AppliedLaw =
-    (p : Prog) (k : ℕ) (m : Impl) (q : Proc) → IsTyped p → is_over_scalars true p ≡ true → slice_get p.implementations k ≡ Some m →
-    procedure_of p m.procedure ≡ Some q → AreApplications (terms_in p k m q)
+abbrev pub IncarnationLaw : Type 0
+IncarnationLaw =
+    (p : Prog) (k : ℕ) (m : Impl) (q : Proc) → IsTyped p → is_over_values p ≡ true →
+    slice_get p.implementations k ≡ Some m → procedure_of p m.procedure ≡ Some q → are_indexed (incarnations_in p k m q) ≡ true
+
+abbrev pub ResultLaw : Type 0
+ResultLaw = (p : Prog) → IsTyped p → is_over_values p ≡ true → GiveIndexed p.functions
+
+abbrev pub LinedLaw : Type 0
+LinedLaw =
+    (p : Prog) (k : ℕ) (m : Impl) (q : Proc) → HasFlats p k m q → (ls : List Line) →
+    AreFlattened p.functions (incarnations_in p k m q) (passives_in p k m q) (lined_terms p k m q ls) (flats_in p k m q)
+
+abbrev pub OwnLaw : Type 0
+OwnLaw =
+    (p : Prog) (k : ℕ) (m : Impl) (q : Proc) → HasFlats p k m q → (ls : List Line) →
+    FlatBlocks (lined_types p k m q ls) (count_in p k m q) (terms_in p k m q) (passives_in p k m q) (flats_in p k m q)
 
 abbrev pub FlatLaw : Type 0
 FlatLaw =
@@ -154,16 +138,16 @@ AlikeLaw =
 
 abbrev pub StandLaw : Type 0
 StandLaw =
-    (p : Prog) (k : ℕ) (m : Impl) (q : Proc) → IsTyped p → is_over_scalars true p ≡ true →
-    slice_get p.implementations k ≡ Some m → procedure_of p m.procedure ≡ Some q →
-    (s : List Val) → are_of (map scalar_ty (types_in p k m q)) s ≡ true → StandFor (types_in p k m q) (built_in p k m q s) s
+    (p : Prog) (k : ℕ) (m : Impl) (q : Proc) → HasFlats p k m q → (ls : List Line) (s : List Val) →
+    are_of (map scalar_ty (lined_types p k m q ls)) s ≡ true → IsFinished s (count_in p k m q) (lined_terms p k m q ls) (lined_types p k m q ls) →
+    StandFor (lined_types p k m q ls) (lined_built p k m q ls s) s
 
 abbrev pub ModelLaw : Type 0
 ModelLaw =
-    (p : Prog) (k : ℕ) (m : Impl) (q : Proc) → IsTyped p → is_over_scalars true p ≡ true →
-    slice_get p.implementations k ≡ Some m → procedure_of p m.procedure ≡ Some q →
-    (i : Interp) (s : List Val) → are_of (map scalar_ty (types_in p k m q)) s ≡ true → AreCongruent (built_in p k m q s) (count_in p k m q) (terms_in p k m q) →
-    IsReadOff i (silent p.functions) (built_in p k m q s) (count_in p k m q) (terms_in p k m q) → IsModel i (built_in p k m q s) (count_in p k m q) (terms_in p k m q)
+    (p : Prog) (k : ℕ) (m : Impl) (q : Proc) → HasFlats p k m q → (ls : List Line) (s : List Val) →
+    are_of (map scalar_ty (lined_types p k m q ls)) s ≡ true → IsFinished s (count_in p k m q) (lined_terms p k m q ls) (lined_types p k m q ls) →
+    (i : Interp) → IsReadOff i (silent p.functions) (lined_built p k m q ls s) (count_in p k m q) (lined_terms p k m q ls) →
+    IsModel i (lined_built p k m q ls s) (count_in p k m q) (terms_in p k m q)
 
 abbrev pub HoldLaw : Type 0
 HoldLaw = (sorts : List Sort) (numbers : ℕ → ℤ) (truths : ℕ → Bool) → HoldScalars sorts numbers truths (scalar_values numbers truths sorts)
@@ -210,7 +194,7 @@ SpotLaw =
 
 abbrev pub CheckLaw : Type 0
 CheckLaw =
-    (p : Prog) (k : ℕ) (m : Impl) (q : Proc) → is_over_scalars true p ≡ true →
+    (p : Prog) (k : ℕ) (m : Impl) (q : Proc) → is_over_values p ≡ true →
     slice_get p.implementations k ≡ Some m → procedure_of p m.procedure ≡ Some q → BlocksPlaced p (passives_in p k m q)
 
 abbrev pub InsideLaw : Type 0

@@ -1,26 +1,19 @@
 -- The truth values of a path and the numbers of a point, as lists.
 use Rattle.std.proofs.Common.{◌≡◌, ℕ, zero, suc, ◌+◌, ◌<◌, ◌≤◌, ℤ, pos, Bool, true, false, if◌then◌else◌, List, [], ◌∷◌, length, map, None, refl, sym, ap, ◌∙◌, subst, replicate, arith}
-use Rattle.std.specs.Prelude.{not, ◌&&◌, ◌||◌, ◌==◌, nat_eq, slice_get, slice_set, unwrap_or}
+use Rattle.std.specs.Prelude.{◌&&◌, ◌||◌, ◌==◌, nat_eq, slice_get, slice_set, unwrap_or}
 use Rattle.std.proofs.lemmas.Bool.Decides.{nat_tests}
 use Rattle.bg_cert.specs.declared.cert.Decision.{Decision}
 use Rattle.bg_cert.specs.declared.cert.Decision.TheVariants.{Atom, AtMost}
 use Rattle.bg_cert.specs.Paths.{decides}
 use Rattle.bg_point.specs.declared.spot.Spot.{Spot}
 use Rattle.bg_point.specs.Points.{value_of}
-use Rattle.bg_ast.specs.Values.{Val, Ty, IntTy, BoolTy, UserTy, MapTy, is_map}
-use Rattle.bg_sense.proofs.Bools.{and_left, and_right}
+use Rattle.bg_linear.specs.declared.scalar.Sort.{Sort}
+use Rattle.bg_linear.specs.declared.scalar.Sort.TheVariants as sort
 use Rattle.bg_linear.specs.Sorts.{scalar_value, scalar_values}
 use Rattle.bg_atoms.specs.Ranks.{one_for, rank}
 use Rattle.bg_forms.specs.Worth.{bools_at}
-use Rattle.bg_sorts.specs.Sorts.{sort_of_type}
-use Rattle.bg_terms.specs.Terms.{Term}
-use Rattle.bg_terms.specs.Alike.{scalar_ty}
-use Rattle.bg_terms.specs.Built.{built}
-use Rattle.bg_flat.specs.Mapless.{are_mapless}
-use Rattle.bg_flat_clauses.specs.Sorts.{flat_sorts}
-use Rattle.bg_termed.specs.Built.{each_built}
 use Rattle.bg_scalar.specs.Values.{val_of}
-use Rattle.bg_check.specs.Leaves.{marked, numbered, scalar_for, one_in, scalars_from}
+use Rattle.bg_check.specs.Leaves.{marked, numbered, scalar_for, scalars_from}
 
 -- ---- lists with one item set
 
@@ -133,43 +126,29 @@ leaf_number (s ∷ ss) n j l =
     number_set (numbered ss (replicate n (pos 0))) s.variable j s.value (subst (λ k. j < k) (sym (numbered_length ss (replicate n (pos 0)) ∙ long n (pos 0))) l)
     ∙ ap (λ y. if nat_eq j s.variable then s.value else y) (leaf_number ss n j l)
 
--- ---- values
+-- ---- scalars
 
-no_true_is : (b : Bool) → not b ≡ true → b ≡ false
-no_true_is true h = absurd (let bad : ⊥ = cc in bad)
-no_true_is false h = refl
+one_value : (s : Sort) (z : ℤ) (b : Bool) → val_of (scalar_for s z b) ≡ scalar_value s z b
+one_value sort.Truth z b = refl
+one_value sort.Number z b = refl
+one_value sort.Other z b = refl
 
-one_value : (s : List Val) (n : ℕ) (ts : List Term) (t : Ty) (z : ℤ) (b : Bool) → is_map t ≡ false → val_of (scalar_for t z b) ≡ built s n ts t (scalar_value (sort_of_type (scalar_ty t)) z b)
-one_value s n ts IntTy z b h = refl
-one_value s n ts BoolTy z b h = refl
-one_value s n ts (UserTy u) z b h = refl
-one_value s n ts (MapTy ks t) z b h = absurd (let bad : true ≡ false = h in let no : ⊥ = cc in no)
+-- what stands for the values of incarnations and terms are these numbers and truth values
+pub scalars_are : (ts : List Bool) (zs : List ℤ) (numbers : ℕ → ℤ) (truths : ℕ → Bool) (j n : ℕ) (ss : List Sort) → ((i : ℕ) → i < length ss → unwrap_or (slice_get zs (j + i)) (pos 0) ≡ numbers i) → ((i : ℕ) → i < length ss → bools_at ts (n + rank ss i) ≡ truths i) → map val_of (scalars_from ts zs j n ss) ≡ scalar_values numbers truths ss
+scalars_are ts zs numbers truths j n [] h g = refl
+scalars_are ts zs numbers truths j n (s ∷ ss) h g =
+    let here : j + 0 ≡ j = omega arith in
+    let first : n + 0 ≡ n = omega arith in
+    let x = unwrap_or (slice_get zs j) (pos 0) in
+    let z = ap (λ i. unwrap_or (slice_get zs i) (pos 0)) (sym here) ∙ h 0 (omega arith) in
+    let b = ap (bools_at ts) (sym first) ∙ g 0 (omega arith) in
+    let head = one_value s x (bools_at ts n) ∙ (ap (λ y. scalar_value s y (bools_at ts n)) z ∙ ap (scalar_value s (numbers 0)) b) in
+    let tail = scalars_are ts zs (λ i. numbers (suc i)) (λ i. truths (suc i)) (suc j) (n + one_for s) ss (λ i l. ap (λ k. unwrap_or (slice_get zs k) (pos 0)) (moved i) ∙ h (suc i) (omega (arith, l))) (λ i l. ap (bools_at ts) (ranked i) ∙ g (suc i) (omega (arith, l))) in
+    ap (λ y. y ∷ map val_of (scalars_from ts zs (suc j) (n + one_for s) ss)) head
+    ∙ ap (λ l. scalar_value s (numbers 0) (truths 0) ∷ l) tail
+  where
+    moved : (i : ℕ) → suc j + i ≡ j + suc i
+    moved i = omega arith
 
-one_truth : (t : Ty) → one_in t ≡ one_for (sort_of_type (scalar_ty t))
-one_truth IntTy = refl
-one_truth BoolTy = refl
-one_truth (UserTy u) = refl
-one_truth (MapTy ks t) = refl
-
--- the values of incarnations and terms are those that are built for these numbers and truth values
-module _ (s : List Val) (m : ℕ) (us : List Term) where
-  pub scalars_are : (ts : List Bool) (zs : List ℤ) (numbers : ℕ → ℤ) (truths : ℕ → Bool) (j n : ℕ) (tys : List Ty) → are_mapless tys ≡ true → ((i : ℕ) → i < length tys → unwrap_or (slice_get zs (j + i)) (pos 0) ≡ numbers i) → ((i : ℕ) → i < length tys → bools_at ts (n + rank (flat_sorts tys) i) ≡ truths i) → map val_of (scalars_from ts zs j n tys) ≡ each_built (built s m us) tys (scalar_values numbers truths (flat_sorts tys))
-  scalars_are ts zs numbers truths j n [] mapless h g = refl
-  scalars_are ts zs numbers truths j n (t ∷ tys) mapless h g =
-      let here : j + 0 ≡ j = omega arith in
-      let first : n + 0 ≡ n = omega arith in
-      let x = unwrap_or (slice_get zs j) (pos 0) in
-      let k = sort_of_type (scalar_ty t) in
-      let z = ap (λ i. unwrap_or (slice_get zs i) (pos 0)) (sym here) ∙ h 0 (omega arith) in
-      let b = ap (bools_at ts) (sym first) ∙ g 0 (omega arith) in
-      let plain = no_true_is (is_map t) (and_left (not (is_map t)) (are_mapless tys) mapless) in
-      let head = one_value s m us t x (bools_at ts n) plain ∙ (ap (λ y. built s m us t (scalar_value k y (bools_at ts n))) z ∙ ap (λ y. built s m us t (scalar_value k (numbers 0) y)) b) in
-      let tail = scalars_are ts zs (λ i. numbers (suc i)) (λ i. truths (suc i)) (suc j) (n + one_in t) tys (and_right (not (is_map t)) (are_mapless tys) mapless) (λ i l. ap (λ k. unwrap_or (slice_get zs k) (pos 0)) (moved i) ∙ h (suc i) (omega (arith, l))) (λ i l. ap (bools_at ts) (ranked i) ∙ g (suc i) (omega (arith, l))) in
-      ap (λ y. y ∷ map val_of (scalars_from ts zs (suc j) (n + one_in t) tys)) head
-      ∙ ap (λ l. built s m us t (scalar_value k (numbers 0) (truths 0)) ∷ l) tail
-    where
-      moved : (i : ℕ) → suc j + i ≡ j + suc i
-      moved i = omega arith
-
-      ranked : (i : ℕ) → (n + one_in t) + rank (flat_sorts tys) i ≡ n + rank (flat_sorts (t ∷ tys)) (suc i)
-      ranked i = let e = one_truth t in omega (arith, e)
+    ranked : (i : ℕ) → (n + one_for s) + rank ss i ≡ n + rank (s ∷ ss) (suc i)
+    ranked i = omega arith

@@ -1,4 +1,4 @@
--- A replay over scalars tells how the run ends, and that of a counterexample fails at its check, or leaves the range.
+-- A replay over values tells how the run ends, and that of a counterexample fails at its check, or leaves the range.
 use Rattle.std.proofs.Common.{◌≡◌, ℕ, Bool, true, List, map, Option, Some, refl, sym, ap, ◌∙◌, subst, inl, inr, ⊎_elim}
 use Rattle.std.specs.Prelude.{◌⊎◌, slice_get, option_map}
 use Rattle.std.proofs.lemmas.Option.{slice_get-map}
@@ -25,12 +25,12 @@ use Rattle.bg_blocks.specs.Views.{block_of}
 use Rattle.bg_blocks.specs.Whole.{AreBlocks}
 use Rattle.bg_blocks.specs.declared.block.Block.{Block}
 use Rattle.bg_places.specs.Views.{spot_of}
-use Rattle.bg_fits.specs.Scalars.{is_over_scalars}
+use Rattle.bg_fits.specs.Valued.{is_over_values}
 use Rattle.bg_scalar.specs.Choices.{choice_of, state_of}
 use Rattle.bg_scalar.specs.Views.{tables_in, vals_in}
 use Rattle.bg_scalar.specs.declared.table.Table.{Table}
 use Rattle.bg_scalar.specs.declared.choice.Choice.{Choice}
-use Rattle.bg_scalar.specs.declared.scalar.Scalar.{Scalar}
+use Rattle.bg_scalar.specs.declared.value.Value.{Value}
 use Rattle.bg_replay.specs.Said.{Said, Stops, Leaves, Unsaid}
 use Rattle.bg_replay.specs.Ways.{runs}
 use Rattle.bg_replay.specs.Views.{set_of, said_by}
@@ -46,7 +46,7 @@ use Rattle.bg_check.specs.Replays.{run_in, RunsTo}
 use Rattle.bg_check.specs.Verdicts.{IsFailure}
 use Rattle.bg_check.proofs.LawTypes.{ReplayLaw, CodeLaw}
 use Rattle.bg_check.proofs.Refutes.{set_same}
-use Rattle.bg_check.proofs.Over.{typed_code_is_scalar}
+use Rattle.bg_check.proofs.Over.{typed_code_is_valued}
 
 module _ (p : r.Program) (k : ℕ) (m : r.Impl) (q : r.Proc) (im : slice_get p.implementations k ≡ Some m) (pr : slice_get p.procedures m.procedure ≡ Some q) where
   abbrev named : ℕ → Ty
@@ -71,11 +71,11 @@ module _ (p : r.Program) (k : ℕ) (m : r.Impl) (q : r.Proc) (im : slice_get p.i
   frame_is = ap (frame_of P) impl_there ∙ ap (λ x. frame_with x M) proc_there
 
   -- what a replay asks for
-  is_over : CodeLaw → IsTyped P → is_over_scalars true P ≡ true → (bs : List Block) (ts : List v.Table) (gs fs : List Val) → AreBlocks p k m q bs → are_tables P.functions ts ≡ true → IsState P k (state_of gs fs) → IsOver p m q bs ts gs fs
+  is_over : CodeLaw → IsTyped P → is_over_values P ≡ true → (bs : List Block) (ts : List v.Table) (gs fs : List Val) → AreBlocks p k m q bs → are_tables P.functions ts ≡ true → IsState P k (state_of gs fs) → IsOver p m q bs ts gs fs
   is_over codes t o bs ts gs fs made tables state =
       let code = subst (CodeIsTyped P (frame_decls M Q)) (sym made) (codes P k M Q t impl_there proc_there) in
       record {
-        blocks = typed_code_is_scalar P k M Q o impl_there proc_there (map (block_of p) bs) code;
+        blocks = typed_code_is_valued P (frame_decls M Q) o (map (block_of p) bs) code;
         typed = code;
         tables = tables;
         globals = state.globals;
@@ -83,7 +83,7 @@ module _ (p : r.Program) (k : ℕ) (m : r.Impl) (q : r.Proc) (im : slice_get p.i
       }
 
   -- from a state of the implementation a replay tells how the run ends
-  pub told : CodeLaw → IsTyped P → is_over_scalars true P ≡ true → (set : List Bool) (bs : List Block) (ts : List v.Table) (gs fs : List Val) (cs : List run.Choice) (ending : Ending) → AreBlocks p k m q bs → are_tables P.functions ts ≡ true → IsState P k (state_of gs fs) → IsReplay p bs set k m q ts gs fs cs ending → Tells (said_by ending)
+  pub told : CodeLaw → IsTyped P → is_over_values P ≡ true → (set : List Bool) (bs : List Block) (ts : List v.Table) (gs fs : List Val) (cs : List run.Choice) (ending : Ending) → AreBlocks p k m q bs → are_tables P.functions ts ≡ true → IsState P k (state_of gs fs) → IsReplay p bs set k m q ts gs fs cs ending → Tells (said_by ending)
   told codes t o set bs ts gs fs cs ending made tables state replay =
       replay.tells (is_over codes t o bs ts gs fs made tables state)
 
@@ -117,9 +117,9 @@ answer_is ends.Blocked y h k = inl (ap Stops (sym (k Blocked refl)))
 answer_is (ends.Failed x) y h k = inl (ap Stops (sym (k (Failed (spot_of x)) refl)))
 answer_is ends.BadChoice y h k = inl (ap Stops (sym (k BadChoice refl)))
 answer_is (ends.OutOfRange o) y h k = inr (o, refl)
-answer_is ends.NoScalars y h k = absurd h
+answer_is ends.NoValues y h k = absurd h
 
-pub fails_or_leaves : ReplayLaw → CodeLaw → (p : r.Program) (set : List Bool) (t : Place) (cex : Counterexample) (m : r.Impl) (q : r.Proc) (bs : List Block) (ending : Ending) → IsTyped (meaning_of p) → is_over_scalars true (meaning_of p) ≡ true → slice_get p.implementations t.implementation ≡ Some m → slice_get p.procedures m.procedure ≡ Some q → AreBlocks p t.implementation m q bs → IsFailure (meaning_of p) (has set) t cex → IsReplay p bs set t.implementation m q (tables_in cex.tables.items) (vals_in cex.globals.items) (vals_in cex.frame.items) (map choice_of cex.choices.items) ending → (said_by ending ≡ Stops (Failed t.spot)) ⊎ ((o : OutOfRange) × (said_by ending ≡ Leaves o))
+pub fails_or_leaves : ReplayLaw → CodeLaw → (p : r.Program) (set : List Bool) (t : Place) (cex : Counterexample) (m : r.Impl) (q : r.Proc) (bs : List Block) (ending : Ending) → IsTyped (meaning_of p) → is_over_values (meaning_of p) ≡ true → slice_get p.implementations t.implementation ≡ Some m → slice_get p.procedures m.procedure ≡ Some q → AreBlocks p t.implementation m q bs → IsFailure (meaning_of p) (has set) t cex → IsReplay p bs set t.implementation m q (tables_in cex.tables.items) (vals_in cex.globals.items) (vals_in cex.frame.items) (map choice_of cex.choices.items) ending → (said_by ending ≡ Stops (Failed t.spot)) ⊎ ((o : OutOfRange) × (said_by ending ≡ Leaves o))
 fails_or_leaves law codes p set t cex m q bs ending typed o im pr made failure replay =
     let k = t.implementation in
     let gs = vals_in cex.globals.items in
@@ -144,7 +144,7 @@ other_answer : (x : Answer) (spot : Spot) (y : Said) → y ≡ Stops x → ((x �
 other_answer x spot y e differs h =
     ⊎_elim (λ a. differs (let same : Stops x ≡ Stops (Failed spot) = sym e ∙ a in cc)) (λ a. let bad : Stops x ≡ Leaves a.0 = sym e ∙ a.1 in let worse : ⊥ = cc in worse) h
 
-pub arm : ReplayLaw → CodeLaw → (p : r.Program) (set : List Bool) (t : Place) (cex : Counterexample) (m : r.Impl) (q : r.Proc) (bs : List Block) (ending : Ending) → IsTyped (meaning_of p) → is_over_scalars true (meaning_of p) ≡ true → slice_get p.implementations t.implementation ≡ Some m → slice_get p.procedures m.procedure ≡ Some q → AreBlocks p t.implementation m q bs → IsFailure (meaning_of p) (has set) t cex → IsReplay p bs set t.implementation m q (tables_in cex.tables.items) (vals_in cex.globals.items) (vals_in cex.frame.items) (map choice_of cex.choices.items) ending → Arm (meaning_of p) (has set) t cex ending
+pub arm : ReplayLaw → CodeLaw → (p : r.Program) (set : List Bool) (t : Place) (cex : Counterexample) (m : r.Impl) (q : r.Proc) (bs : List Block) (ending : Ending) → IsTyped (meaning_of p) → is_over_values (meaning_of p) ≡ true → slice_get p.implementations t.implementation ≡ Some m → slice_get p.procedures m.procedure ≡ Some q → AreBlocks p t.implementation m q bs → IsFailure (meaning_of p) (has set) t cex → IsReplay p bs set t.implementation m q (tables_in cex.tables.items) (vals_in cex.globals.items) (vals_in cex.frame.items) (map choice_of cex.choices.items) ending → Arm (meaning_of p) (has set) t cex ending
 arm law codes p set t cex m q bs ending typed o im pr made failure replay =
     on ending replay (fails_or_leaves law codes p set t cex m q bs ending typed o im pr made failure replay)
   where
@@ -157,11 +157,11 @@ arm law codes p set t cex m q bs ending typed o im pr made failure replay =
     on ends.Ended h f = other_answer Ended t.spot (Stops Ended) refl (λ e. let bad : ⊥ = cc in bad) f
     on ends.Blocked h f = other_answer Blocked t.spot (Stops Blocked) refl (λ e. let bad : ⊥ = cc in bad) f
     on ends.BadChoice h f = other_answer BadChoice t.spot (Stops BadChoice) refl (λ e. let bad : ⊥ = cc in bad) f
-    on ends.NoScalars h f =
+    on ends.NoValues h f =
         ⊎_elim (λ e. let bad : ⊥ = cc in bad) (λ e. let bad : Unsaid ≡ Leaves e.0 = e.1 in let worse : ⊥ = cc in worse) f
 
 -- the same of what was prepared and replayed
-pub arm_here : ReplayLaw → CodeLaw → (p : r.Program) (set : List Bool) (t : Place) (cex : Counterexample) (w : Prepared) (h : IsPrepared p t.implementation w) (bs : List Block) (ts : List Table) (gs fs : List Scalar) (cs : List Choice) (ending : Ending) → IsTyped (meaning_of p) → is_over_scalars true (meaning_of p) ≡ true → bs ≡ w.blocks.items → ts ≡ cex.tables.items → gs ≡ cex.globals.items → fs ≡ cex.frame.items → cs ≡ cex.choices.items → IsFailure (meaning_of p) (has set) t cex → ((m : r.Impl) (q : r.Proc) → slice_get p.implementations t.implementation ≡ Some m → slice_get p.procedures m.procedure ≡ Some q → IsReplay p bs set t.implementation m q (tables_in ts) (vals_in gs) (vals_in fs) (map choice_of cs) ending) → Arm (meaning_of p) (has set) t cex ending
+pub arm_here : ReplayLaw → CodeLaw → (p : r.Program) (set : List Bool) (t : Place) (cex : Counterexample) (w : Prepared) (h : IsPrepared p t.implementation w) (bs : List Block) (ts : List Table) (gs fs : List Value) (cs : List Choice) (ending : Ending) → IsTyped (meaning_of p) → is_over_values (meaning_of p) ≡ true → bs ≡ w.blocks.items → ts ≡ cex.tables.items → gs ≡ cex.globals.items → fs ≡ cex.frame.items → cs ≡ cex.choices.items → IsFailure (meaning_of p) (has set) t cex → ((m : r.Impl) (q : r.Proc) → slice_get p.implementations t.implementation ≡ Some m → slice_get p.procedures m.procedure ≡ Some q → IsReplay p bs set t.implementation m q (tables_in ts) (vals_in gs) (vals_in fs) (map choice_of cs) ending) → Arm (meaning_of p) (has set) t cex ending
 arm_here law codes p set t cex w h bs ts gs fs cs ending typed o eb et eg ef ec failure replay =
     let m = h.implementation in
     let q = h.procedure in

@@ -6,11 +6,11 @@ use Rattle.bg_sense.specs.Flow.{Failed}
 use Rattle.bg_replay.specs.Said.{Stops}
 use Rattle.bg_model.specs.declared.failure.Counterexample.{Counterexample}
 use Rattle.bg_check.specs.Replays.{RunsTo}
-use Rattle.bg_check.specs.Verdicts.{IsFailure, IsUsed}
+use Rattle.bg_check.specs.Verdicts.{IsFailure, IsUsed, HasTypes}
 
--- the run fails at the place, with each operation on its way within the range
+-- the run fails at the place, with each operation on its way within the range, and its choices are of their types
 abbrev pub FailsWithin : Prog → (ℕ → Bool) → Place → Counterexample → Type 0
-FailsWithin p set t cex = IsFailure p set t cex × RunsTo p set t cex (Stops (Failed t.spot))
+FailsWithin p set t cex = IsFailure p set t cex × (RunsTo p set t cex (Stops (Failed t.spot)) × HasTypes cex)
 
 -- a choice is gone, and the run fails as before; or none is left over
 abbrev pub IsDropped : Prog → (ℕ → Bool) → Place → Counterexample → Bool → Counterexample → Type 0

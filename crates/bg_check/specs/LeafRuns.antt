@@ -1,6 +1,6 @@
 -- The run that a complete leaf gives.
 use Rattle.std.specs.Prelude.{◌≡◌, ℕ, ℤ, Bool, false, List, length, map, take, replicate}
-use Rattle.bg_ast.specs.Values.{Val}
+use Rattle.bg_ast.specs.Values.{Val, Table}
 use Rattle.bg_ast.specs.Syntax.{Proc, Impl, Prog}
 use Rattle.bg_ast.specs.Execution.{Place}
 use Rattle.bg_flow.specs.Core.{frame_decls}
@@ -56,6 +56,12 @@ vals_in p k m q ls f leaf = lined_built p k m q ls (numbers_in p k m q ls f leaf
 abbrev pub incarnation_vals : Prog → ℕ → Impl → Proc → List Line → Formula → Leaf → List Val
 incarnation_vals p k m q ls f leaf = take (count_in p k m q) (vals_in p k m q ls f leaf)
 
+-- the leaf is finished, these values are built for it, and these tables are read off them
+pub record IsBuilt (p : Prog) (k : ℕ) (m : Impl) (q : Proc) (ls : List Line) (f : Formula) (leaf : Leaf) (values : List Val) (tables : List Table) : Type 0 where
+  pub finished : IsFinished (numbers_in p k m q ls f leaf) (count_in p k m q) (lined_terms p k m q ls) (lined_types p k m q ls)
+  pub built : values ≡ vals_in p k m q ls f leaf
+  pub read_off : AreReadOff p.functions (count_in p k m q) (lined_terms p k m q ls) values tables
+
 -- the run begins with the leaf's values, goes along the lowest edges from which some walk fails under the leaf's truth values, and chooses
 -- the leaf's values there
 pub record IsRunOf (p : Prog) (set : ℕ → Bool) (t : Place) (m : Impl) (q : Proc) (ls : List Line) (f : Formula) (forms : List FormBlock) (leaf : Leaf) (cex : Counterexample) : Type 0 where
@@ -63,7 +69,7 @@ pub record IsRunOf (p : Prog) (set : ℕ → Bool) (t : Place) (m : Impl) (q : P
   pub choices : map choice_of cex.choices.items ≡ taken (walk_over set t.spot (bools_at (leaf_bools f leaf))) (incarnation_vals p t.implementation m q ls f leaf) (blocks_in p t.implementation m q) forms (map next_in (arrivals_in p t.implementation m q).arrivals) (turns (walk_over set t.spot (bools_at (leaf_bools f leaf))) forms) 0
 
 -- the counterexample is the run of a complete leaf of the place's clauses behind these lines, which is finished, and its tables are read
--- off the leaf's values
+-- off the values that are built for the leaf
 pub record HasLeaf (p : Prog) (set : ℕ → Bool) (t : Place) (ls : List Line) (cex : Counterexample) : Type 0 where
   pub formula : Formula
   pub is : HasOwnClauses p t ls formula

@@ -1,11 +1,13 @@
--- The truth values of atoms and the values of incarnations, by a path that decides every atom and a point.
+-- The truth values of atoms and what stands for the values of incarnations, by a path that decides every atom and a point.
 use Rattle.std.specs.Prelude.{ℕ, suc, ◌+◌, ℤ, pos, Bool, true, false, List, [], ◌∷◌, slice_get, slice_set, unwrap_or}
-use Rattle.bg_ast.specs.Values.{Ty, IntTy, BoolTy, UserTy, MapTy}
 use Rattle.bg_cert.specs.declared.cert.Decision.{Decision}
 use Rattle.bg_cert.specs.declared.cert.Decision.TheVariants.{Atom, AtMost}
 use Rattle.bg_point.specs.declared.spot.Spot.{Spot}
+use Rattle.bg_linear.specs.declared.scalar.Sort.{Sort}
+use Rattle.bg_linear.specs.declared.scalar.Sort.TheVariants as sort
+use Rattle.bg_atoms.specs.Ranks.{one_for}
 use Rattle.bg_scalar.specs.declared.scalar.Scalar.{Scalar}
-use Rattle.bg_scalar.specs.declared.scalar.Scalar.TheVariants.{Truth, Number, Element}
+use Rattle.bg_scalar.specs.declared.scalar.Scalar.TheVariants.{Truth, Number}
 
 -- the truth values with those that a decision makes true
 abbrev pub marked_by : Decision → List Bool → List Bool
@@ -22,22 +24,15 @@ abbrev pub numbered : List Spot → List ℤ → List ℤ
 numbered [] zs = zs
 numbered (s ∷ ss) zs = slice_set (numbered ss zs) s.variable s.value
 
--- the value of an incarnation or a term of this type; what is neither a number, a truth value nor an element is not said
-abbrev pub scalar_for : Ty → ℤ → Bool → Scalar
-scalar_for BoolTy z b = Truth b
-scalar_for IntTy z b = Number z
-scalar_for (UserTy u) z b = Element u z
-scalar_for (MapTy ks t) z b = Number (pos 0)
+-- what stands for the value of an incarnation or a term, by its sort; what is neither a number nor a truth value is not said
+abbrev pub scalar_for : Sort → ℤ → Bool → Scalar
+scalar_for sort.Truth z b = Truth b
+scalar_for sort.Number z b = Number z
+scalar_for sort.Other z b = Number (pos 0)
 
-abbrev pub one_in : Ty → ℕ
-one_in BoolTy = 1
-one_in IntTy = 0
-one_in (UserTy u) = 0
-one_in (MapTy ks t) = 0
-
--- the values of incarnations and terms, the first of which has number j, and n truth values before it
-abbrev pub scalars_from : List Bool → List ℤ → ℕ → ℕ → List Ty → List Scalar
+-- the scalars of incarnations and terms, the first of which has number j, and n truth values before it
+abbrev pub scalars_from : List Bool → List ℤ → ℕ → ℕ → List Sort → List Scalar
 scalars_from ts zs j n [] = []
-scalars_from ts zs j n (t ∷ tys) =
-    scalar_for t (unwrap_or (slice_get zs j) (pos 0)) (unwrap_or (slice_get ts n) false)
-    ∷ scalars_from ts zs (suc j) (n + one_in t) tys
+scalars_from ts zs j n (s ∷ ss) =
+    scalar_for s (unwrap_or (slice_get zs j) (pos 0)) (unwrap_or (slice_get ts n) false)
+    ∷ scalars_from ts zs (suc j) (n + one_for s) ss

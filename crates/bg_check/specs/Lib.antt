@@ -7,3 +7,4 @@ pub mod Found
 pub mod Stands
 pub mod Dropped
 pub mod Outcomes
+pub mod Fitting

@@ -1,5 +1,6 @@
 -- Verdicts as what a report tells; a cause has words behind a number of rounds.
 use Rattle.std.specs.Prelude.{ℕ, Bool, List, length, map, filter}
+use Rattle.bg_kinds.specs.Views.{ref_in}
 use Rattle.bg_model.specs.Interps.{interp_of}
 use Rattle.bg_scalar.specs.Choices.{choice_of, state_of}
 use Rattle.bg_scalar.specs.Views.{vals_in}
@@ -13,7 +14,7 @@ use Rattle.bg_check.specs.Verdicts.{placed_at}
 abbrev pub verdict_of : (ℕ → Cause → t.Why) → Verdict → t.Verdict
 verdict_of words (Proved lines cert) = t.Proved
 verdict_of words (Refuted cex) =
-    t.Refuted (interp_of cex) (state_of (vals_in cex.globals.items) (vals_in cex.frame.items)) (map choice_of cex.choices.items)
+    t.Refuted (interp_of cex) (state_of (vals_in cex.globals.items) (vals_in cex.frame.items)) (map ref_in cex.kinds.items) (map choice_of cex.choices.items)
 verdict_of words (Unknown rounds cause) = t.Unknown (words (length rounds.items) cause)
 
 abbrev pub told_one : (ℕ → Cause → t.Why) → Judged → t.Judged

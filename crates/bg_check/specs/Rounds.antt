@@ -7,7 +7,7 @@ use Rattle.bg_formula.specs.Formulas.{Formula}
 use Rattle.bg_tree.specs.Ends.{IsLeaf}
 use Rattle.bg_numbered.specs.Lines.{Line}
 use Rattle.bg_term_table.specs.Lines.{lines_of}
-use Rattle.bg_finish.specs.Wanting.{IsWanting}
+use Rattle.bg_wanted.specs.Wanting.{IsWanting}
 use Rattle.bg_termed.specs.Lined.{lined_terms}
 use Rattle.bg_task.specs.Cuts.{HasOwnClauses}
 use Rattle.bg_check.specs.declared.verdict.Round.{Round}

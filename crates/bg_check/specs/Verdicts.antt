@@ -23,13 +23,15 @@ use Rattle.bg_model.specs.Interps.{interp_of}
 use Rattle.bg_model.specs.declared.failure.Counterexample.{Counterexample}
 use Rattle.bg_sound.specs.Used.{UsesAll}
 use Rattle.bg_sound.specs.Told.{is_ordinary}
-use Rattle.bg_finish.specs.Finished.{LeavesFirst}
+use Rattle.bg_sound.specs.Chosen.{choices_are_of}
+use Rattle.bg_kinds.specs.Views.{ref_in}
+use Rattle.bg_wanted.specs.Rows.{LeavesFirst}
 use Rattle.bg_numbered.specs.Lines.{Line}
 use Rattle.bg_term_table.specs.Lines.{lines_of}
 use Rattle.bg_termed.specs.Lined.{lined_terms}
 use Rattle.bg_task.specs.Cuts.{HasOwnClauses}
 use Rattle.bg_task.specs.Certified.{HasCertificate, HasOutside}
-use Rattle.bg_check.specs.LeafRuns.{targets_for, vals_in, HasLeaf}
+use Rattle.bg_check.specs.LeafRuns.{targets_for, numbers_in, HasLeaf}
 use Rattle.bg_check.specs.Rounds.{brought, AreRounds}
 use Rattle.bg_check.specs.declared.verdict.Round.{Round}
 use Rattle.bg_check.specs.declared.verdict.Cause.{Cause}
@@ -61,7 +63,7 @@ pub record HasArgument (p : Prog) (set : ℕ → Bool) (t : Place) (ls : List Li
   pub formula : Formula
   pub is : HasOwnClauses p t ls formula
   pub is_leaf : IsLeaf (targets_for p t.implementation is.clauses.implementation is.clauses.procedure) formula set leaf
-  pub leaves : LeavesFirst (lined_terms p t.implementation is.clauses.implementation is.clauses.procedure ls) (vals_in p t.implementation is.clauses.implementation is.clauses.procedure ls formula leaf) o
+  pub leaves : LeavesFirst (lined_terms p t.implementation is.clauses.implementation is.clauses.procedure ls) (numbers_in p t.implementation is.clauses.implementation is.clauses.procedure ls formula leaf) o
 
 -- a round counts as one of the budget's nodes
 abbrev pub left_after : List Round → Budget → Budget
@@ -76,9 +78,14 @@ IsUnknown left p set t ls (Argument leaf o) = HasArgument p set t ls leaf o
 IsUnknown left p set t ls (Replay cex o) =
     HasLeaf p set t ls cex × (IsFailure p set t cex × RunsTo p set t cex (Leaves o))
 
--- the run fails at the place, each operation on its way is within the range, and no choice is left over
+-- its choices are of the types that stand beside them
+abbrev pub HasTypes : Counterexample → Type 0
+HasTypes cex = choices_are_of (map ref_in cex.kinds.items) (map choice_of cex.choices.items) ≡ true
+
+-- the run fails at the place, each operation on its way is within the range, no choice is left over, and each is of its type
 abbrev pub IsRefuted : Prog → (ℕ → Bool) → Place → Counterexample → Type 0
-IsRefuted p set t cex = IsFailure p set t cex × (RunsTo p set t cex (Stops (Failed t.spot)) × IsUsed p set t cex)
+IsRefuted p set t cex =
+    IsFailure p set t cex × (RunsTo p set t cex (Stops (Failed t.spot)) × (IsUsed p set t cex × HasTypes cex))
 
 -- a verdict on a place, under a set of candidates
 abbrev pub IsRight : Budget → Prog → (ℕ → Bool) → Place → Verdict → Type 0

@@ -3,7 +3,7 @@ ghost use Rattle.std.specs.Prelude.{◌≡◌, true, IfOk};
 ghost use Rattle.bg_ast.specs.Meaning.{meaning_of};
 ghost use Rattle.bg_ast.specs.Views.{program_of};
 ghost use Rattle.bg_sense.specs.Typed.{IsTyped};
-ghost use Rattle.bg_fits.specs.Scalars.{is_over_scalars};
+ghost use Rattle.bg_fits.specs.Valued.{is_over_values};
 ghost use Rattle.bg_places.specs.Views.{placed_of};
 ghost use Rattle.bg_cert.specs.Walks.{has};
 ghost use Rattle.bg_check.specs.Dropped.{FailsWithin, IsDropped};
@@ -14,7 +14,7 @@ use bg_model::Counterexample;
 use bg_replay::laws::replays_are_induction_runs;
 use bg_replay::{Code, Ending, Start, replay};
 use bg_task::Question;
-use bg_termed::laws::programs_over_scalars_are_tabled;
+use bg_termed::laws::programs_over_values_are_tabled;
 use std::alloc::{AllocError, Global};
 
 /// Drops the last choice where the run fails without it too, and says whether it did.
@@ -24,13 +24,13 @@ fn drop_last(
     cex: &mut Counterexample,
 ) -> Result<bool, AllocError>
     requires typed { IsTyped (meaning_of (program_of question.program.now)) }
-    requires scalars { is_over_scalars true (meaning_of (program_of question.program.now)) ≡ true }
+    requires scalars { is_over_values (meaning_of (program_of question.program.now)) ≡ true }
     requires prepared { IsPrepared (program_of question.program.now) question.place.now.implementation question.prepared.now }
     requires fails { FailsWithin (meaning_of (program_of question.program.now)) (has question.set.now) (placed_of question.place.now).place cex.old }
     ensures { IfOk result (λ dropped. IsDropped (meaning_of (program_of question.entry.program.now)) (has question.entry.set.now) (placed_of question.entry.place.now).place cex.old dropped cex.new) }
 {
     replays_are_induction_runs();
-    programs_over_scalars_are_tabled();
+    programs_over_values_are_tabled();
     let Some((_, front)) = cex.choices.split_last() else {
         return Ok(false);
     };
@@ -49,6 +49,7 @@ fn drop_last(
     match ending {
         Ending::Failed(_) => {
             cex.choices.pop();
+            cex.kinds.pop();
             Ok(true)
         }
         _ => Ok(false),
@@ -62,7 +63,7 @@ pub fn used_up(
     cex: Counterexample,
 ) -> Result<Counterexample, AllocError>
     requires typed { IsTyped (meaning_of (program_of question.program.now)) }
-    requires scalars { is_over_scalars true (meaning_of (program_of question.program.now)) ≡ true }
+    requires scalars { is_over_values (meaning_of (program_of question.program.now)) ≡ true }
     requires prepared { IsPrepared (program_of question.program.now) question.place.now.implementation question.prepared.now }
     requires fails { FailsWithin (meaning_of (program_of question.program.now)) (has question.set.now) (placed_of question.place.now).place cex }
     ensures fails { IfOk result (λ made. FailsWithin (meaning_of (program_of question.entry.program.now)) (has question.entry.set.now) (placed_of question.entry.place.now).place made) }

@@ -7,7 +7,7 @@ ghost use Rattle.bg_sense.specs.Typed.{IsTyped};
 ghost use Rattle.bg_sense.specs.Resolved.{IsResolved};
 ghost use Rattle.bg_places.specs.Views.{placed_of, placed_in};
 ghost use Rattle.bg_cert.specs.Walks.{has};
-ghost use Rattle.bg_fits.specs.Scalars.{is_over_scalars};
+ghost use Rattle.bg_fits.specs.Valued.{is_over_values};
 ghost use Rattle.bg_task.specs.Asked.{IsAsked, AreAsked};
 ghost use Rattle.bg_task.specs.Prepared.{IsPrepared, ArePrepared};
 ghost use Rattle.bg_check.specs.Verdicts.{IsRight, placed_at, AreRightAt, AreRightOf};
@@ -25,7 +25,7 @@ use std::alloc::{AllocError, Global};
 /// What is known of a place.
 fn judge(alloc: Global, question: Question<'_, '_>, budget: Budget) -> Result<Judged, AllocError>
     requires typed { IsTyped (meaning_of (program_of question.program.now)) }
-    requires scalars { is_over_scalars true (meaning_of (program_of question.program.now)) ≡ true }
+    requires scalars { is_over_values (meaning_of (program_of question.program.now)) ≡ true }
     requires prepared { IsPrepared (program_of question.program.now) question.place.now.implementation question.prepared.now }
     requires asked { IsAsked (meaning_of (program_of question.program.now)) (has question.set.now) (placed_of question.place.now).place }
     ensures place { IfOk result (λ j. j.place ≡ question.entry.place.now) }
@@ -51,7 +51,7 @@ pub fn judge_places<'q, 'p>(
     budget: Budget,
 ) -> Result<Vec<Judged>, AllocError>
     requires typed { IsTyped (meaning_of (program_of program.now)) }
-    requires scalars { is_over_scalars true (meaning_of (program_of program.now)) ≡ true }
+    requires scalars { is_over_values (meaning_of (program_of program.now)) ≡ true }
     requires prepared { ArePrepared (program_of program.now) prepared.now (placed_in places.now) }
     requires asked { AreAsked (meaning_of (program_of program.now)) (has set.now) (placed_in places.now) }
     ensures places { IfOk result (λ made. map placed_at made.items ≡ placed_in places.now) }
@@ -84,7 +84,7 @@ pub fn judge_ordinary<'q, 'p>(
     budget: Budget,
 ) -> Result<Vec<Judged>, AllocError>
     requires typed { IsTyped (meaning_of (program_of program.now)) }
-    requires scalars { is_over_scalars true (meaning_of (program_of program.now)) ≡ true }
+    requires scalars { is_over_values (meaning_of (program_of program.now)) ≡ true }
     requires prepared { IsPrepared (program_of program.now) number prepared.now }
     requires resolved { IsResolved (meaning_of (program_of program.now)) }
     ensures { IfOk result (λ made. (m : r.Impl) → slice_get (program_of program.now).implementations number ≡ Some m → AreRightOf budget (program_of program.now) (has set.now) number m made.items) }

@@ -10,7 +10,7 @@ ghost use Rattle.bg_sense.specs.Tables.{are_tables};
 ghost use Rattle.bg_sense.specs.Claims.{IsState, Inductive};
 ghost use Rattle.bg_sense.specs.Flow.{BadChoice, Failed};
 ghost use Rattle.bg_cert.specs.Walks.{has};
-ghost use Rattle.bg_fits.specs.Scalars.{is_over_scalars};
+ghost use Rattle.bg_fits.specs.Valued.{is_over_values};
 ghost use Rattle.bg_blocks.specs.Whole.{AreBlocks};
 ghost use Rattle.bg_blocks.specs.declared.block.Block.{Block};
 ghost use Rattle.bg_replay.specs.Said.{Stops, Leaves};
@@ -41,14 +41,14 @@ use bg_replay::laws::replays_are_induction_runs;
 use bg_sense::laws::{typed_programs_have_typed_bodies, what_fails_at_no_place_is_safe};
 use bg_task::laws::proved_places_do_not_fail;
 use bg_termed::laws::{
-    denied_passive_blocks_have_lined_valuations, implementations_over_scalars_have_no_maps,
-    passive_blocks_have_terms, programs_over_scalars_are_tabled,
+    denied_passive_blocks_have_lined_valuations, passive_blocks_have_terms,
+    programs_over_values_are_tabled,
 };
 
-/// An implementation of a typed program over scalars is safe under an inductive set of candidates where each of its
+/// An implementation of a typed program over values is safe under an inductive set of candidates where each of its
 /// ordinary places is proved under it: no execution of it fails, of any number of steps.
 pub fn proved_under_a_set_is_safe()
-    ensures { (p : Program) (set : ℕ → Bool) (budget : Budget) (outcome : List (List Judged)) → IsTyped (meaning_of p) → is_over_scalars true (meaning_of p) ≡ true → Inductive (meaning_of p) set → AreRightUnder set budget p outcome → ProvedAreSafe p set 0 outcome }
+    ensures { (p : Program) (set : ℕ → Bool) (budget : Budget) (outcome : List (List Judged)) → IsTyped (meaning_of p) → is_over_values (meaning_of p) ≡ true → Inductive (meaning_of p) set → AreRightUnder set budget p outcome → ProvedAreSafe p set 0 outcome }
 {
     typed_programs_have_typed_bodies();
     what_fails_at_no_place_is_safe();
@@ -56,8 +56,7 @@ pub fn proved_under_a_set_is_safe()
     passive_blocks_fail_alike();
     arrivals_fit();
     equations_deny_failing_walks();
-    programs_over_scalars_are_tabled();
-    implementations_over_scalars_have_no_maps();
+    programs_over_values_are_tabled();
     passive_blocks_have_terms();
     denied_passive_blocks_have_lined_valuations();
     accepted_has_no_valuation();
@@ -65,12 +64,12 @@ pub fn proved_under_a_set_is_safe()
     atoms_of_clauses()
 }
 
-/// A replay of the blocks of an implementation of a typed program over scalars, from a state of the
+/// A replay of the blocks of an implementation of a typed program over values, from a state of the
 /// implementation and with a table of its type for each function, tells how the run ends: with an answer, or at an operation that leaves
 /// 128 bits.
-pub fn replays_over_scalars_tell()
+pub fn replays_over_values_tell()
     ensures { (p : Program) (set : List Bool) (k : ℕ) (m : Impl) (q : Proc) (bs : List Block) (ts : List Table) (gs fs : List Val) (cs : List Choice) (ending : Ending) →
-        IsTyped (meaning_of p) → is_over_scalars true (meaning_of p) ≡ true →
+        IsTyped (meaning_of p) → is_over_values (meaning_of p) ≡ true →
         slice_get p.implementations k ≡ Some m → slice_get p.procedures m.procedure ≡ Some q → AreBlocks p k m q bs →
         are_tables (meaning_of p).functions ts ≡ true → IsState (meaning_of p) k (state_of gs fs) → IsReplay p bs set k m q ts gs fs cs ending → Tells (said_by ending) }
 {
@@ -80,7 +79,7 @@ pub fn replays_over_scalars_tell()
 /// The replay of a run that fails at a place ends there, or at an operation that leaves 128 bits.
 pub fn failures_replay_or_leave()
     ensures { (p : Program) (set : List Bool) (t : Place) (cex : Counterexample) (m : Impl) (q : Proc) (bs : List Block) (ending : Ending) →
-        IsTyped (meaning_of p) → is_over_scalars true (meaning_of p) ≡ true →
+        IsTyped (meaning_of p) → is_over_values (meaning_of p) ≡ true →
         slice_get p.implementations t.implementation ≡ Some m → slice_get p.procedures m.procedure ≡ Some q → AreBlocks p t.implementation m q bs →
         IsFailure (meaning_of p) (has set) t cex →
         IsReplay p bs set t.implementation m q (tables_in cex.tables.items) (vals_in cex.globals.items) (vals_in cex.frame.items) (map choice_of cex.choices.items) ending →
@@ -107,10 +106,10 @@ pub fn shorter_replays_lack_a_choice_or_fail()
         (said_by ending ≡ Stops BadChoice) ⊎ (said_by ending ≡ Stops (Failed t.spot)) }
 {}
 
-/// What a report tells of right verdicts under an inductive set of candidates is true, of a typed program over scalars,
+/// What a report tells of right verdicts under an inductive set of candidates is true, of a typed program over values,
 /// whatever words it has for causes.
 pub fn right_verdicts_are_true()
-    ensures { (p : Program) (set : ℕ → Bool) (budget : Budget) (outcome : List (List Judged)) (words : ℕ → Cause → Why) → IsTyped (meaning_of p) → is_over_scalars true (meaning_of p) ≡ true →
+    ensures { (p : Program) (set : ℕ → Bool) (budget : Budget) (outcome : List (List Judged)) (words : ℕ → Cause → Why) → IsTyped (meaning_of p) → is_over_values (meaning_of p) ≡ true →
         Inductive (meaning_of p) set → AreRightUnder set budget p outcome → AreTrueFrom p set 0 p.implementations (map (told words) outcome) }
 {
     proved_places_do_not_fail();

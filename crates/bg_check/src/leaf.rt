@@ -1,11 +1,10 @@
-//! The truth values of atoms and the values of incarnations and terms, by a complete leaf.
-ghost use Rattle.std.specs.Prelude.{◌≡◌, ◌+◌, pos, false, map, replicate, length, slice_get, slice_set, unwrap_or, IfOk};
-ghost use Rattle.bg_kinds.specs.Views.{base_of, ref_in, ref_of};
-ghost use Rattle.bg_check.specs.Leaves.{marked_by, marked, numbered, scalar_for, one_in, scalars_from};
+//! The truth values of atoms and what stands for the values of incarnations and terms, by a complete leaf.
+ghost use Rattle.std.specs.Prelude.{◌≡◌, ◌+◌, pos, false, replicate, length, slice_get, slice_set, unwrap_or, IfOk};
+ghost use Rattle.bg_atoms.specs.Ranks.{one_for};
+ghost use Rattle.bg_check.specs.Leaves.{marked_by, marked, numbered, scalar_for, scalars_from};
 
 use bg_cert::Decision;
-use bg_fits::base_in;
-use bg_kinds::{Base, TypeRef, ValueType};
+use bg_linear::Sort;
 use bg_point::Spot;
 use bg_scalar::Scalar;
 use std::alloc::{AllocError, Global};
@@ -74,23 +73,14 @@ fn truth_at(truths: &[bool], n: usize) -> bool
     }
 }
 
-fn scalar_of(base: Base, z: i128, b: bool) -> Scalar
-    ensures { result ≡ scalar_for (base_of base) z b }
+/// What stands for the value of what has this sort.
+fn scalar_for(sort: Sort, z: i128, b: bool) -> Scalar
+    ensures { result ≡ scalar_for sort z b }
 {
-    match base {
-        Base::Bool => Scalar::Truth(b),
-        Base::Int => Scalar::Number(z),
-        Base::User(u) => Scalar::Element(u, z),
-    }
-}
-
-/// The value of what has this type.
-fn scalar_for(t: TypeRef<'_>, z: i128, b: bool) -> Scalar
-    ensures { result ≡ scalar_for (ref_of t.entry) z b }
-{
-    match base_in(t) {
-        None => Scalar::Number(0),
-        Some(base) => scalar_of(base, z, b),
+    match sort {
+        Sort::Truth => Scalar::Truth(b),
+        Sort::Number => Scalar::Number(z),
+        Sort::Other => Scalar::Number(0),
     }
 }
 
@@ -104,43 +94,34 @@ fn one_more(n: usize) -> Result<usize, AllocError>
     }
 }
 
-fn behind_base(n: usize, base: Base) -> Result<usize, AllocError>
-    ensures { IfOk result (λ k. k ≡ n + one_in (base_of base)) }
+/// How many truth values there are behind what has this sort.
+fn behind(n: usize, sort: Sort) -> Result<usize, AllocError>
+    ensures { IfOk result (λ k. k ≡ n + one_for sort) }
 {
-    match base {
-        Base::Bool => one_more(n),
-        Base::Int => Ok(n),
-        Base::User(_) => Ok(n),
+    match sort {
+        Sort::Truth => one_more(n),
+        Sort::Number => Ok(n),
+        Sort::Other => Ok(n),
     }
 }
 
-/// How many truth values there are behind what has this type.
-fn behind(n: usize, t: TypeRef<'_>) -> Result<usize, AllocError>
-    ensures { IfOk result (λ k. k ≡ n + one_in (ref_of t.entry)) }
-{
-    match base_in(t) {
-        None => Ok(n),
-        Some(base) => behind_base(n, base),
-    }
-}
-
-/// The values of incarnations and terms: truth values in their order are the first atoms', a number is that of the point, and so is that of
-/// an element.
+/// What stands for the values of incarnations and terms of these sorts: truth values in their order are the first atoms', a number is that
+/// of the point.
 #[tactic(auto, using(crate::proofs::Points::next_scalar, crate::proofs::Points::no_more))]
-pub fn leaf_values(
+pub fn leaf_scalars(
     alloc: Global,
-    kinds: &[ValueType],
+    sorts: &[Sort],
     truths: &[bool],
     spots: &[Spot],
 ) -> Result<Vec<Scalar>, AllocError>
-    ensures { IfOk result (λ made. made.items ≡ scalars_from truths.now (numbered spots.now (replicate (length kinds.now) (pos 0))) 0 0 (map ref_in kinds.now)) }
+    ensures { IfOk result (λ made. made.items ≡ scalars_from truths.now (numbered spots.now (replicate (length sorts.now) (pos 0))) 0 0 sorts.now) }
 {
-    let numbers = leaf_numbers(alloc, kinds.len(), spots)?;
+    let numbers = leaf_numbers(alloc, sorts.len(), spots)?;
     let mut made = Vec::new(alloc);
     let mut n = 0;
-    for (j, t) in kinds.iter().enumerate() {
-        made.push(scalar_for(t.as_ref(), number_at(&numbers, j), truth_at(truths, n)))?;
-        n = behind(n, t.as_ref())?;
+    for (j, sort) in sorts.iter().enumerate() {
+        made.push(scalar_for(*sort, number_at(&numbers, j), truth_at(truths, n)))?;
+        n = behind(n, *sort)?;
     }
     Ok(made)
 }

@@ -1,11 +1,12 @@
-//! What is known of a place of a program over truth values, whole numbers, elements of user types and functions on them: proved with a
-//! certificate behind lines, refuted with a counterexample, or unknown with the rounds of lines and what is kept of a budget, or
-//! an operation that leaves 128 bits.
+//! What is known of a place of a program over truth values, whole numbers, elements of user types, maps and functions on them: proved
+//! with a certificate behind lines, refuted with a counterexample, or unknown with the rounds of lines and what is kept of a budget, or an
+//! operation that leaves 128 bits.
 #![tactic(auto)]
 
-mod defaults;
+mod attempt;
 mod dropping;
 mod failing;
+mod fitting;
 mod found;
 mod front;
 mod implementation;
@@ -13,6 +14,7 @@ pub mod laws;
 mod leaf;
 mod ordinary;
 mod place;
+mod relevant;
 mod replayed;
 mod rounds;
 mod verdict;

@@ -9,7 +9,7 @@ ghost use Rattle.bg_cert.specs.Walks.{has};
 ghost use Rattle.bg_point.specs.Points.{target_of};
 ghost use Rattle.bg_tree.specs.declared.outcome.Budget.{Budget};
 ghost use Rattle.bg_tree.specs.Ends.{IsLeaf};
-ghost use Rattle.bg_fits.specs.Scalars.{is_over_scalars};
+ghost use Rattle.bg_fits.specs.Valued.{is_over_values};
 ghost use Rattle.bg_term_table.specs.Lines.{lines_of};
 ghost use Rattle.bg_task.specs.Lines.{AreThere};
 ghost use Rattle.bg_task.specs.Asked.{IsAsked};
@@ -18,24 +18,25 @@ ghost use Rattle.bg_task.specs.Slices.{IsSliceFor};
 ghost use Rattle.bg_task.specs.Made.{ClausesOf};
 ghost use Rattle.bg_check.specs.Found.{IsFound};
 
-use crate::defaults::defaults;
+use crate::attempt::attempt;
 use crate::failing::{Met, failing};
 use crate::found::Found;
-use crate::leaf::{leaf_truths, leaf_values};
+use crate::leaf::{leaf_scalars, leaf_truths};
+use crate::relevant::relevant;
 use crate::replayed::replayed;
 use crate::verdict::{Cause, Round};
 use bg_faithful::laws::clauses_of_encodings_are_whole;
 use bg_finish::{Finish, finish};
 use bg_formula::Clauses;
 use bg_search::search;
-use bg_task::{Cut, Made, Question, cut_down, place_clauses};
-use bg_term_table::Line;
+use bg_task::{Cut, Made, Question, cut_down, place_clauses, with_lines};
+use bg_term_table::{Around, Line};
 use bg_termed::laws::{
-    built_values_are_models, built_values_are_typed, implementations_over_scalars_have_no_maps,
-    lines_over_scalars_bring_nothing, passive_blocks_have_terms, programs_over_scalars_are_tabled,
-    terms_over_scalars_are_applications,
+    blocks_behind_lines_stay_flat, built_values_are_typed, passive_blocks_have_terms,
+    programs_over_values_are_tabled, types_over_values_are_indexed,
 };
 use bg_tree::{Budget, Leaf, Outcome};
+use bg_wanted::Hints;
 use std::alloc::{AllocError, Global};
 
 /// What a complete leaf of a place's clauses behind lines comes to.
@@ -48,7 +49,7 @@ fn leaf_found(
     leaf: Leaf,
 ) -> Result<Found, AllocError>
     requires typed { IsTyped (meaning_of (program_of question.program.now)) }
-    requires scalars { is_over_scalars true (meaning_of (program_of question.program.now)) ≡ true }
+    requires scalars { is_over_values (meaning_of (program_of question.program.now)) ≡ true }
     requires prepared { IsPrepared (program_of question.program.now) question.place.now.implementation question.prepared.now }
     requires asked { IsAsked (meaning_of (program_of question.program.now)) (has question.set.now) (placed_of question.place.now).place }
     requires slice { IsSliceFor (program_of question.program.now) question.place.now.implementation question.prepared.now (lines_of lines.now) (spot_of question.place.now.spot) cut.now }
@@ -57,19 +58,25 @@ fn leaf_found(
     requires leaf { IsLeaf (target_of question.prepared.now.targets.items) (formula_of f.now) (has question.set.now) leaf }
     ensures { IfOk result (λ found. (left : Budget) → IsFound left (meaning_of (program_of question.entry.program.now)) (has question.entry.set.now) (placed_of question.entry.place.now).place (lines_of lines.now) found) }
 {
-    programs_over_scalars_are_tabled();
-    implementations_over_scalars_have_no_maps();
+    programs_over_values_are_tabled();
     passive_blocks_have_terms();
-    terms_over_scalars_are_applications();
-    lines_over_scalars_bring_nothing();
+    types_over_values_are_indexed();
+    blocks_behind_lines_stay_flat();
     built_values_are_typed();
-    built_values_are_models();
-    let prepared = question.prepared;
     let truths = leaf_truths(alloc, f.atoms.len(), &leaf.path)?;
-    let values = leaf_values(alloc, &prepared.kinds, &truths, &leaf.spots)?;
-    let defaults = defaults(alloc, question.program)?;
-    match finish(alloc, &defaults, prepared.count, &prepared.terms, &values)? {
-        Finish::Tables(tables) => {
+    let lined = with_lines(alloc, question.program, question.prepared, lines)?;
+    let scalars = leaf_scalars(alloc, &lined.sorts, &truths, &leaf.spots)?;
+    let around = Around {
+        incarnations: lined.incarnations,
+        results: &lined.results,
+    };
+    let marks = relevant(alloc, f, &lined.sorts, &lined.terms)?;
+    let hints = Hints {
+        beside: &question.prepared.beside,
+        marks: &marks,
+    };
+    match finish(alloc, around, &lined.terms, &scalars, hints)? {
+        Finish::Tables(values, tables) => {
             let met = Met {
                 clauses: f,
                 leaf: &leaf,
@@ -79,7 +86,19 @@ fn leaf_found(
             let cex = failing(alloc, question, cut, lines, met, tables)?;
             replayed(alloc, question, cex)
         }
-        Finish::Lines(more) => Ok(Found::Wanted(Round { leaf, lines: more })),
+        Finish::Lines(more, values, tables) => {
+            let met = Met {
+                clauses: f,
+                leaf: &leaf,
+                truths: &truths,
+                values: &values,
+            };
+            let found = attempt(alloc, question, cut, lines, met, tables)?;
+            match found {
+                None => Ok(Found::Wanted(Round { leaf, lines: more })),
+                Some(cex) => Ok(Found::Refuted(cex)),
+            }
+        }
         Finish::Leaves(o) => Ok(Found::Unknown(Cause::Argument(leaf, o))),
         Finish::NoScalars => unreachable!(),
     }
@@ -95,7 +114,7 @@ fn clauses_found(
     f: &Clauses,
 ) -> Result<Found, AllocError>
     requires typed { IsTyped (meaning_of (program_of question.program.now)) }
-    requires scalars { is_over_scalars true (meaning_of (program_of question.program.now)) ≡ true }
+    requires scalars { is_over_values (meaning_of (program_of question.program.now)) ≡ true }
     requires prepared { IsPrepared (program_of question.program.now) question.place.now.implementation question.prepared.now }
     requires asked { IsAsked (meaning_of (program_of question.program.now)) (has question.set.now) (placed_of question.place.now).place }
     requires there { AreThere (program_of question.program.now) question.place.now.implementation question.prepared.now (lines_of lines.now) }
@@ -120,7 +139,7 @@ pub fn search_place(
     lines: &[Line],
 ) -> Result<Found, AllocError>
     requires typed { IsTyped (meaning_of (program_of question.program.now)) }
-    requires scalars { is_over_scalars true (meaning_of (program_of question.program.now)) ≡ true }
+    requires scalars { is_over_values (meaning_of (program_of question.program.now)) ≡ true }
     requires prepared { IsPrepared (program_of question.program.now) question.place.now.implementation question.prepared.now }
     requires asked { IsAsked (meaning_of (program_of question.program.now)) (has question.set.now) (placed_of question.place.now).place }
     requires there { AreThere (program_of question.program.now) question.place.now.implementation question.prepared.now (lines_of lines.now) }

@@ -6,11 +6,11 @@ ghost use Rattle.bg_sense.specs.Typed.{IsTyped};
 ghost use Rattle.bg_places.specs.Views.{placed_of};
 ghost use Rattle.bg_cert.specs.Walks.{has};
 ghost use Rattle.bg_tree.specs.declared.outcome.Budget.{Budget};
-ghost use Rattle.bg_fits.specs.Scalars.{is_over_scalars};
+ghost use Rattle.bg_fits.specs.Valued.{is_over_values};
 ghost use Rattle.bg_check.specs.LeafRuns.{HasLeaf};
 ghost use Rattle.bg_task.specs.Prepared.{IsPrepared};
 ghost use Rattle.bg_numbered.specs.Lines.{Line};
-ghost use Rattle.bg_check.specs.Verdicts.{IsFailure};
+ghost use Rattle.bg_check.specs.Verdicts.{IsFailure, HasTypes};
 ghost use Rattle.bg_check.specs.Found.{IsFound};
 
 use crate::dropping::used_up;
@@ -31,9 +31,10 @@ pub fn replayed(
     cex: Counterexample,
 ) -> Result<Found, AllocError>
     requires typed { IsTyped (meaning_of (program_of question.program.now)) }
-    requires scalars { is_over_scalars true (meaning_of (program_of question.program.now)) ≡ true }
+    requires scalars { is_over_values (meaning_of (program_of question.program.now)) ≡ true }
     requires prepared { IsPrepared (program_of question.program.now) question.place.now.implementation question.prepared.now }
     requires fails { IsFailure (meaning_of (program_of question.program.now)) (has question.set.now) (placed_of question.place.now).place cex }
+    requires types { HasTypes cex }
     ensures { IfOk result (λ found. (left : Budget) (lines : List Line) → HasLeaf (meaning_of (program_of question.entry.program.now)) (has question.entry.set.now) (placed_of question.entry.place.now).place lines cex → IsFound left (meaning_of (program_of question.entry.program.now)) (has question.entry.set.now) (placed_of question.entry.place.now).place lines found) }
 {
     blocks_are_typed();
@@ -59,6 +60,6 @@ pub fn replayed(
         Ending::Ended => unreachable!(),
         Ending::Blocked => unreachable!(),
         Ending::BadChoice => unreachable!(),
-        Ending::NoScalars => unreachable!(),
+        Ending::NoValues => unreachable!(),
     }
 }

@@ -5,7 +5,7 @@ ghost use Rattle.bg_ast.specs.Views.{program_of};
 ghost use Rattle.bg_sense.specs.Typed.{IsTyped};
 ghost use Rattle.bg_places.specs.Views.{placed_of};
 ghost use Rattle.bg_cert.specs.Walks.{has};
-ghost use Rattle.bg_fits.specs.Scalars.{is_over_scalars};
+ghost use Rattle.bg_fits.specs.Valued.{is_over_values};
 ghost use Rattle.bg_task.specs.Asked.{IsAsked};
 ghost use Rattle.bg_task.specs.Prepared.{IsPrepared};
 ghost use Rattle.bg_check.specs.Verdicts.{IsRight};
@@ -48,9 +48,9 @@ fn add(stand: &mut Stand, round: Round) -> Result<(), AllocError>
     Ok(())
 }
 
-/// What is known of a place of a typed program over scalars, under a set of candidates that has the place's
-/// own, if it has one. At each complete leaf at which a congruence of terms is false lines come in, and the search begins anew. A
-/// round counts as one of the budget's nodes, and in a search at most those count that are left; it keeps at most the budget's rows.
+/// What is known of a place of a typed program over values, under a set of candidates that has the place's own, if it has one. At each
+/// complete leaf that isn't finished lines come in that are wanted there, and the search begins anew. A round counts as one of the budget's
+/// nodes, and in a search at most those count that are left; it keeps at most the budget's rows.
 ///
 /// Only want of memory is an error; 2^32 atoms count as such.
 pub fn check_place(
@@ -59,7 +59,7 @@ pub fn check_place(
     budget: Budget,
 ) -> Result<Verdict, AllocError>
     requires typed { IsTyped (meaning_of (program_of question.program.now)) }
-    requires scalars { is_over_scalars true (meaning_of (program_of question.program.now)) ≡ true }
+    requires scalars { is_over_values (meaning_of (program_of question.program.now)) ≡ true }
     requires prepared { IsPrepared (program_of question.program.now) question.place.now.implementation question.prepared.now }
     requires asked { IsAsked (meaning_of (program_of question.program.now)) (has question.set.now) (placed_of question.place.now).place }
     ensures { IfOk result (λ verdict. IsRight budget (meaning_of (program_of question.entry.program.now)) (has question.entry.set.now) (placed_of question.entry.place.now).place verdict) }

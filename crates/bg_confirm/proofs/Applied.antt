@@ -1,9 +1,9 @@
 -- The run of the axioms' own program is the same under tables that agree where functions have no body: it applies no other functions.
 use Rattle.std.proofs.Common.{◌≡◌, ℕ, zero, suc, Bool, true, false, List, [], ◌∷◌, ◌++◌, map, refl, ap, ◌∙◌}
-use Rattle.std.specs.Prelude.{not, slice_get}
+use Rattle.std.specs.Prelude.{◌&&◌, not, slice_get}
 use Rattle.std.specs.List.{list_all}
 use Rattle.bg_ast.specs.Syntax.{Global, Local, Ex, Exs, Number, Fact, Constant, Read, Not, Negative, Binary, Apply, Select, Update, Old, NoMore, More, St, Const, Fun, Prog}
-use Rattle.bg_fits.specs.Scalars.{is_scalar_type, is_empty, st_passes, fun_passes, proc_passes, impl_passes, decls_pass}
+use Rattle.bg_fits.specs.Valued.{is_value_type, is_empty, st_passes, fun_passes, proc_passes, impl_passes, decls_pass}
 use Rattle.bg_sense.specs.Tables.{has_body}
 use Rattle.bg_sense.specs.Variables.{wheres_of}
 use Rattle.bg_sense.proofs.Bools.{and_left, and_right}
@@ -13,7 +13,7 @@ use Rattle.bg_flow.specs.Core.{Demand, Saying, Cmd, Check, Suppose, Forget, Put,
 use Rattle.bg_flow.specs.Blocks.{Exit, Leap, Either, Block, Coded, led, code, at_end}
 use Rattle.bg_block_types.specs.Typed.{blocks_in}
 use Rattle.bg_sense.specs.Eval.{look_up}
-use Rattle.bg_scalar.specs.Worths.{Is, Seen, Listed, Are, Leave, NoValues, and_then, and_then_all, cons, joined, not_on, minus_on, worth, worths}
+use Rattle.bg_scalar.specs.Worths.{Is, Seen, Listed, Are, Leave, NoValues, and_then, and_then_all, cons, joined, selected, updated, not_on, minus_on, worth, worths}
 use Rattle.bg_replay.specs.Moments.{Moment, Around, Out, Goes, Over, Outside, Unknown, and_so, seen_at}
 use Rattle.bg_replay.specs.Said.{Said, on_said, checks, supposes}
 use Rattle.bg_replay.specs.Acts.{acts}
@@ -91,8 +91,14 @@ module _ (F : List Fun) (ts us : List Table) (agree : Agree F ts us) where
     worth_alike (Apply k es) g b f h =
         ap (λ l. and_then_all l (λ xs. Is (look_up (slice_get ts k) xs))) (worths_alike es g b f (and_right (not (has_body (raw_bodies F k))) (are_plain F es) h))
         ∙ told_alike k (worths es (seen us g b f)) (false_of (has_body (raw_bodies F k)) (and_left (not (has_body (raw_bodies F k))) (are_plain F es) h))
-    worth_alike (Select m es) g b f h = absurd (let bad : ⊥ = cc in bad)
-    worth_alike (Update m es e) g b f h = absurd (let bad : ⊥ = cc in bad)
+    worth_alike (Select m es) g b f h =
+        ap (λ a. selected a (worths es (seen ts g b f))) (worth_alike m g b f (and_left (is_plain F m) (are_plain F es) h))
+        ∙ ap (λ l. selected (worth m (seen us g b f)) l) (worths_alike es g b f (and_right (is_plain F m) (are_plain F es) h))
+    worth_alike (Update m es e) g b f h =
+        let rest = and_right (is_plain F m) (are_plain F es && is_plain F e) h in
+        ap (λ a. updated a (worths es (seen ts g b f)) (worth e (seen ts g b f))) (worth_alike m g b f (and_left (is_plain F m) (are_plain F es && is_plain F e) h))
+        ∙ (ap (λ l. updated (worth m (seen us g b f)) l (worth e (seen ts g b f))) (worths_alike es g b f (and_left (are_plain F es) (is_plain F e) rest))
+        ∙ ap (λ a. updated (worth m (seen us g b f)) (worths es (seen us g b f)) a) (worth_alike e g b f (and_right (are_plain F es) (is_plain F e) rest)))
     worth_alike (Old e) g b f h = worth_alike e b b f h
 
     worths_alike : (es : Exs) (g b f : List Val) → are_plain F es ≡ true → worths es (seen ts g b f) ≡ worths es (seen us g b f)
@@ -214,7 +220,7 @@ claims_plain depth p o =
     let q = of_axioms p in
     let F = p.functions in
     let x = axiom_program depth p in
-    let ty = is_scalar_type true in
+    let ty = is_value_type in
     let h = q_openable depth p o in
     let all : is_over_plain F x ≡ true = over_plain depth q h.typed h.chains h.judged in
     let a = and_right (decls_pass ty (is_plain F) x.globals) _ all in

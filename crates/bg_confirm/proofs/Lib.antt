@@ -11,4 +11,5 @@ pub mod Meeting
 pub mod Safety
 pub mod Answering
 pub mod Telling
-pub mod Bases
+pub mod Slots
+pub mod Defaults

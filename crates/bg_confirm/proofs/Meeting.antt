@@ -30,7 +30,6 @@ use Rattle.bg_expanded.specs.Chains.{most_bodies}
 use Rattle.bg_certtext.specs.Views.{InterpOf}
 use Rattle.bg_confirm.specs.Met.{vals_for, axioms_of, constant_types, values_in, IsMet}
 use Rattle.bg_confirm.specs.Accepted.{AreMet}
-use Rattle.bg_confirm.proofs.Fitting.{are_held}
 
 answer_is : (s : Said) (y x : Answer) → s ≡ Stops x → RunIs s y → y ≡ x
 answer_is s y x e h = subst (λ t. RunIs t y) e h
@@ -70,7 +69,7 @@ module _ (p : r.Program) (i : InterpOf) (h : IsMet p i) where
   failing =
       record {
         meets = record { interp = record { constants = refl; tables = h.typed_tables }; unique = refl; axioms = refl };
-        state = record { globals = are_held p.types (axioms_of p).globals (values_in i) h.typed; frame = refl };
+        state = record { globals = h.normal; frame = refl };
         fails =
             sym (blocks_same (axioms_of p) h.set tabled 0 h.met.implementation h.met.procedure (state_of xs []) [] h.met.is_there h.met.is_its)
             ∙ answer_is _ _ (Failed axiom_place.spot) h.met.says

@@ -19,6 +19,7 @@ use Rattle.bg_replay.specs.declared.ending.Ending.{Ending}
 use Rattle.bg_opened.specs.Axioms.{axiom_program, axiom_place}
 use Rattle.bg_expanded.specs.Chains.{most_bodies}
 use Rattle.bg_sense.specs.Tables.{are_tables}
+use Rattle.bg_sense.specs.Types.{are_of}
 use Rattle.bg_opened.specs.Openable.{IsOpenable}
 use Rattle.bg_certtext.specs.Views.{InterpOf}
 use Rattle.bg_confirm.specs.Met.{vals_for, tables_by, run_in, axioms_of, constant_types, values_in, IsMet}
@@ -66,11 +67,12 @@ module _ (p : r.Program) (i : InterpOf) (said : Said) (is : said ≡ run_in (A m
   abbrev P : Prog
   P = meaning_of p
 
-  pub met : map (λ g. g.name) i.constants ≡ map (λ c. c.name.text) p.constants → values_fit p.types (constant_types p) (values_in i) ≡ true → functions_fit p.types p.functions i.functions ≡ true → are_tables (axioms_of p).functions (its_tables p i) ≡ true → said ≡ Stops (Failed axiom_place.spot) → IsMet p i
-  met n t f u e =
+  pub met : map (λ g. g.name) i.constants ≡ map (λ c. c.name.text) p.constants → values_fit p.types (constant_types p) (values_in i) ≡ true → are_of (constant_types p) (its_values p i) ≡ true → functions_fit p.types p.functions i.functions ≡ true → are_tables (axioms_of p).functions (its_tables p i) ≡ true → said ≡ Stops (Failed axiom_place.spot) → IsMet p i
+  met n t v f u e =
       record {
         named = n;
         typed = t;
+        normal = v;
         functions = f;
         tables = its_tables p i;
         are_its = λ f h. refl;

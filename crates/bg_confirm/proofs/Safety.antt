@@ -12,7 +12,7 @@ use Rattle.bg_sense.specs.Places.{places}
 use Rattle.bg_sense.specs.Claims.{IsSetOf, Inductive, Safe, Fails}
 use Rattle.bg_sense.specs.Clauses.{is_kept}
 use Rattle.bg_sense.proofs.Members.{In, member}
-use Rattle.bg_fits.specs.Scalars.{is_over_scalars}
+use Rattle.bg_fits.specs.Valued.{is_over_values}
 use Rattle.bg_formula.specs.Atoms.{AtomOf}
 use Rattle.bg_formula.specs.Formulas.{Formula}
 use Rattle.bg_cert.specs.Certs as cert
@@ -55,7 +55,7 @@ at_of (x ∷ xs) u (inl e) = record { number = 0; placed = x; there = refl; is =
 at_of (x ∷ xs) u (inr i) = let a = at_of xs u i in record { number = suc a.number; placed = a.placed; there = a.there; is = a.is }
 
 -- no run of a program that accepts a certificate fails at a place whose clause is there
-module _ (fails : FailLaw) (place : PlaceLaw) (p : r.Program) (c : CertOf) (t : IsTyped (meaning_of p)) (over : is_over_scalars true (meaning_of p) ≡ true) (h : IsAccepted p c) where
+module _ (fails : FailLaw) (place : PlaceLaw) (p : r.Program) (c : CertOf) (t : IsTyped (meaning_of p)) (over : is_over_values (meaning_of p) ≡ true) (h : IsAccepted p c) where
   abbrev kept_set : ℕ → Bool
   kept_set = retained_by p c
 
@@ -93,8 +93,8 @@ module _ (fails : FailLaw) (place : PlaceLaw) (safe : SafeLaw) (p : r.Program) (
   opened_typed : IsTyped (meaning_of J)
   opened_typed = subst IsTyped (sym means) (whole.typed most_bodies P h)
 
-  opened_over : is_over_scalars true (meaning_of J) ≡ true
-  opened_over = ap (is_over_scalars true) means ∙ whole.scalars most_bodies P h
+  opened_over : is_over_values (meaning_of J) ≡ true
+  opened_over = ap is_over_values means ∙ whole.scalars most_bodies P h
 
   pub set_of_candidates : IsSetOf P set
   set_of_candidates = is_set fails place safe J c opened_typed opened_over g

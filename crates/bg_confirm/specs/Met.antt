@@ -1,14 +1,15 @@
 -- When the values and tables that a certificate gives constants and functions are an interpretation that meets the axioms, as a replay
 -- tells.
-use Rattle.std.specs.Prelude.{◌≡◌, ℕ, ℤ, pos, Bool, true, false, if◌then◌else◌, List, [], ◌∷◌, map, drop, Some, slice_get}
+use Rattle.std.specs.Prelude.{◌≡◌, ℕ, ℤ, Bool, true, false, if◌then◌else◌, List, [], ◌∷◌, map, drop, Some, slice_get}
 use Rattle.bg_ast.specs.Values as v
-use Rattle.bg_ast.specs.Values.{Val, Table, Ty, BoolTy, UserTy}
+use Rattle.bg_ast.specs.Values.{Val, Table, Ty, UserTy, result_of}
 use Rattle.bg_ast.specs.Syntax.{Fun, Proc, Impl, Prog}
 use Rattle.bg_ast.specs.Resolved as r
 use Rattle.bg_ast.specs.Meaning.{meaning_of}
 use Rattle.bg_ast.specs.Execution.{Place}
 use Rattle.bg_sense.specs.Flow.{Failed}
-use Rattle.bg_sense.specs.Types.{types_of}
+use Rattle.bg_sense.specs.Types.{types_of, are_of}
+use Rattle.bg_sense.specs.Eval.{default_for}
 use Rattle.bg_sense.specs.Tables.{has_body, are_tables}
 use Rattle.bg_sense.specs.Variables.{procedure_of}
 use Rattle.bg_flow.specs.Core.{frame_decls}
@@ -21,7 +22,7 @@ use Rattle.bg_opened.specs.Exprs.{raw_bodies}
 use Rattle.bg_opened.specs.Axioms.{axiom_program, axiom_place}
 use Rattle.bg_expanded.specs.Chains.{most_bodies}
 use Rattle.bg_certtext.specs.Views as value
-use Rattle.bg_certtext.specs.Views.{ValueOf, EntryOf, FunctionOf, InterpOf}
+use Rattle.bg_certtext.specs.Views.{PartOf, AtNumber, AtElement, ValueOf, Item, EntryOf, FunctionOf, InterpOf}
 use Rattle.bg_confirm.specs.Typed.{values_fit, functions_fit}
 
 -- a value as one of a type: an element has its number, and the type
@@ -29,10 +30,21 @@ abbrev pub element_in : Ty → ℤ → Val
 element_in (UserTy k) z = v.Element k z
 element_in _ z = v.Num z
 
+-- the number that stands for a part of an index
+abbrev pub number_at : PartOf → ℤ
+number_at (AtNumber z) = z
+number_at (AtElement name z) = z
+
 abbrev pub val_for : Ty → ValueOf → Val
 val_for t (value.Truth b) = v.Truth b
 val_for t (value.Number z) = v.Num z
 val_for t (value.Element name z) = element_in t z
+val_for t (value.Default d) = v.Default (val_for (result_of t) d)
+val_for t (value.Slot k x m) = v.Entry (map number_at k) (val_for (result_of t) x) (val_for t m)
+
+-- a slot as an entry of a map that gives values of a type
+abbrev pub entry_for : Ty → Item → List ℤ × Val
+entry_for t e = (map number_at e.0, val_for t e.1)
 
 -- values as those of types, one by one
 abbrev pub vals_for : List Ty → List ValueOf → List Val
@@ -46,14 +58,9 @@ entry_of f e = (vals_for f.params e.key, val_for f.result e.value)
 abbrev pub table_of : Fun → FunctionOf → Table
 table_of f g = record { entries = map (entry_of f) g.entries; default = val_for f.result g.default }
 
--- the table without entries of a function that gives values of a type
-abbrev pub default_in : Ty → Val
-default_in BoolTy = v.Truth false
-default_in (UserTy k) = v.Element k (pos 0)
-default_in _ = v.Num (pos 0)
-
+-- the table without entries
 abbrev pub blank : Fun → Table
-blank f = record { entries = []; default = default_in f.result }
+blank f = record { entries = []; default = default_for f.result }
 
 abbrev pub first_table : Fun → List FunctionOf → Table
 first_table f [] = blank f
@@ -96,13 +103,14 @@ constant_types p = types_of (axioms_of p).globals
 abbrev pub values_in : InterpOf → List ValueOf
 values_in i = map (λ g. g.value) i.constants
 
--- The constants' names, in order, each with a value of its type; the names of the functions without a body, in order, each with a table of
--- its types in normal form; an element is of a type where it has its name; and from these values the axioms' own program fails at its
--- place, where functions have these tables. It applies no function with a body and has no candidates: all tables of such functions and all
--- sets of candidates are as good.
+-- The constants' names, in order, each with a value of its type in normal form; the names of the functions without a body, in order, each
+-- with a table of its types in normal form; an element is of a type where it has its name; and from these values the axioms' own program
+-- fails at its place, where functions have these tables. It applies no function with a body and has no candidates: all tables of such
+-- functions and all sets of candidates are as good.
 pub record IsMet (p : r.Program) (i : InterpOf) : Type 0 where
   pub named : map (λ g. g.name) i.constants ≡ map (λ c. c.name.text) p.constants
   pub typed : values_fit p.types (constant_types p) (values_in i) ≡ true
+  pub normal : are_of (constant_types p) (vals_for (constant_types p) (values_in i)) ≡ true
   pub functions : functions_fit p.types p.functions i.functions ≡ true
   pub tables : List Table
   pub are_its : AreTablesOf (meaning_of p).functions i.functions tables

@@ -14,7 +14,7 @@ use bg_ast::resolved::Resolved;
 use bg_blocks::{blocks, callees_of};
 use bg_places::Spot;
 use bg_replay::{Code, Ending, Start, replay};
-use bg_scalar::{Scalar, Table};
+use bg_scalar::{Table, Value};
 use std::alloc::{AllocError, Global};
 
 /// How the run of a program's first implementation ends, where functions have these tables, from these values of globals, without a
@@ -23,7 +23,7 @@ pub fn ending_from(
     alloc: Global,
     program: &Resolved,
     tables: &[Table],
-    values: &[Scalar],
+    values: &[Value],
 ) -> Result<Ending, AllocError>
     ensures { IfOk result (λ ending. (m : r.Impl) (q : r.Proc) → slice_get (program_of program.now).implementations 0 ≡ Some m → slice_get (program_of program.now).procedures m.procedure ≡ Some q →
         said_by ending ≡ run_in (meaning_of (program_of program.now)) (set_of []) 0 (impl_of (named_of (program_of program.now).types) m) (proc_of (named_of (program_of program.now).types) q) (tables_in tables.now) (vals_in values.now)) }

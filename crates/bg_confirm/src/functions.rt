@@ -20,7 +20,7 @@ fn values_fit(types: &[TypeName], kinds: &[ValueType], values: &[Value]) -> bool
         return false;
     }
     for k in 0..values.len() {
-        if !fits(types, kinds[k].as_ref(), values[k]) {
+        if !fits(types, kinds[k].as_ref(), &values[k]) {
             return false;
         }
     }
@@ -31,7 +31,7 @@ fn values_fit(types: &[TypeName], kinds: &[ValueType], values: &[Value]) -> bool
 fn entry_fits(types: &[TypeName], s: &Signature, entry: &Entry) -> bool
     ensures { result ≡ entry_by (map type_name_of types.now) (map ref_in s.now.params.items) (ref_in s.now.value) (entry_of entry.now) }
 {
-    values_fit(types, &s.params, &entry.key) && fits(types, s.value.as_ref(), entry.value)
+    values_fit(types, &s.params, &entry.key) && fits(types, s.value.as_ref(), &entry.value)
 }
 
 fn entries_fit(types: &[TypeName], s: &Signature, entries: &[Entry]) -> bool
@@ -57,7 +57,7 @@ fn function_fits(
     let s = read_signature(alloc, types, f)?;
     Ok(
         f.name.text.as_slice() == given.name
-            && (fits(types, s.value.as_ref(), given.default)
+            && (fits(types, s.value.as_ref(), &given.default)
                 && entries_fit(types, &s, &given.entries)),
     )
 }

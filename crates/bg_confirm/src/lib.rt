@@ -14,4 +14,6 @@ mod text;
 mod values;
 
 pub use program::{Checked, check};
+pub use signature::{Signature, read_signature};
 pub use text::answer_text;
+pub use values::{inside, type_at};

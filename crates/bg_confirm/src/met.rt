@@ -13,7 +13,7 @@ use crate::ending::{ending_from, is_failure};
 use crate::functions::functions_fit;
 use crate::names::are_for;
 use crate::tables::tables_by;
-use crate::values::{are_given, kinds_in, scalars_in};
+use crate::values::{are_given, kinds_in, values_in};
 use bg_ast::resolved::Resolved;
 use bg_certtext::{CertText, Interp};
 use bg_opening::axiom_program;
@@ -43,7 +43,7 @@ fn are_met(alloc: Global, program: &Resolved, interp: &Interp) -> Result<bool, A
     if !are_given(&program.types, &kinds, &interp.constants) {
         return Ok(false);
     }
-    let values = scalars_in(alloc, &kinds, &interp.constants)?;
+    let values = values_in(alloc, &kinds, &interp.constants)?;
     let ending = ending_from(alloc, &axioms, &tables, &values)?;
     Ok(is_failure(ending))
 }

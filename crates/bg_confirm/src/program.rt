@@ -13,7 +13,7 @@ use crate::met::is_interp_met;
 use bg_accept::Answer;
 use bg_ast::resolved::Resolved;
 use bg_certtext::CertText;
-use bg_opened::laws::{opened_programs_are_over_scalars, written_programs_are_opened};
+use bg_opened::laws::{opened_programs_are_over_values, written_programs_are_opened};
 use bg_opening::open_program;
 use std::alloc::{AllocError, Global};
 
@@ -43,7 +43,7 @@ pub fn check<'c>(
     ensures answer { IfOk result (λ a. IsAnswer (program_of program) (cert_of cert.now) (answer_of a.answer)) }
     ensures opened { IfOk result (λ a. program_of a.opened ≡ judged_program (program_of program)) }
 {
-    opened_programs_are_over_scalars();
+    opened_programs_are_over_values();
     written_programs_are_opened();
     let met = is_interp_met(alloc, &program, cert)?;
     let opened = open_program(alloc, DEPTH, program)?;

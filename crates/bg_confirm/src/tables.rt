@@ -5,34 +5,41 @@ ghost use Rattle.bg_ast.specs.Meaning as m;
 ghost use Rattle.bg_ast.specs.Meaning.{meaning_of, named_of};
 ghost use Rattle.bg_ast.specs.Views.{program_of, type_name_of, fun_of};
 ghost use Rattle.bg_kinds.specs.Views.{base_of, ref_in, ref_of};
+ghost use Rattle.bg_sense.specs.Eval.{default_for};
+ghost use Rattle.bg_scalar.specs.Values as scalar;
 ghost use Rattle.bg_scalar.specs.Values.{val_of};
 ghost use Rattle.bg_scalar.specs.Views.{table_in, tables_in, vals_in};
 ghost use Rattle.bg_certtext.specs.Views.{value_of, function_of};
 ghost use Rattle.bg_certtext.specs.Spellable.{is_function};
-ghost use Rattle.bg_confirm.specs.Met.{vals_for, default_in, blank, table_of, tables_by};
+ghost use Rattle.bg_confirm.specs.Met.{vals_for, blank, table_of, tables_by};
 
 use crate::signature::read_signature;
-use crate::values::{scalar_in, type_at};
+use crate::values::{type_at, value_in};
 use bg_ast::resolved::{Function, Resolved, TypeName};
 use bg_certtext::Value;
-use bg_fits::{base_in, written_kind};
+use bg_fits::written_kind;
 use bg_kinds::{Base, TypeRef, ValueType};
 use bg_scalar::{Scalar, Table};
 use std::alloc::{AllocError, Global};
 use std::collections::BTreeMap;
 
-/// The arguments of an entry over scalars, where these are the types of a function's.
-fn key_of(alloc: Global, kinds: &[ValueType], key: &[Value]) -> Result<Vec<Scalar>, AllocError>
+/// The arguments of an entry, where these are the types of a function's.
+fn key_of(
+    alloc: Global,
+    kinds: &[ValueType],
+    key: &[Value],
+) -> Result<Vec<bg_scalar::Value>, AllocError>
     ensures { IfOk result (λ made. vals_in made.items ≡ vals_for (map ref_in kinds.now) (map value_of key.now)) }
 {
     let mut made = Vec::new(alloc);
     for k in 0..key.len() {
-        made.push(scalar_in(type_at(kinds, k), key[k]))?;
+        let value = value_in(alloc, type_at(kinds, k), &key[k])?;
+        made.push(value)?;
     }
     Ok(made)
 }
 
-/// A function's table over scalars, entered from its last entry on.
+/// A function's table, entered from its last entry on.
 fn table_of(
     alloc: Global,
     types: &[TypeName],
@@ -49,14 +56,15 @@ fn table_of(
         k -= 1;
         let entry = &given.entries[k];
         let key = key_of(alloc, &s.params, &entry.key)?;
-        entries.insert(key, scalar_in(s.value.as_ref(), entry.value))?;
+        let value = value_in(alloc, s.value.as_ref(), &entry.value)?;
+        entries.insert(key, value)?;
     }
-    let default = scalar_in(s.value.as_ref(), given.default);
+    let default = value_in(alloc, s.value.as_ref(), &given.default)?;
     Ok(Table { entries, default })
 }
 
 fn default_of(base: Base) -> Scalar
-    ensures { val_of result ≡ default_in (base_of base) }
+    ensures { val_of result ≡ default_for (base_of base) }
 {
     match base {
         Base::Bool => Scalar::Truth(false),
@@ -65,24 +73,29 @@ fn default_of(base: Base) -> Scalar
     }
 }
 
-/// The default of a type.
-fn default_in(t: TypeRef<'_>) -> Scalar
-    ensures { val_of result ≡ default_in (ref_of t.entry) }
+/// Some value of a type, the same as everywhere.
+fn default_value(alloc: Global, t: TypeRef<'_>) -> Result<bg_scalar::Value, AllocError>
+    ensures { IfOk result (λ made. scalar.value_of made ≡ default_for (ref_of t.entry)) }
 {
-    match base_in(t) {
-        None => Scalar::Number(0),
-        Some(base) => default_of(base),
+    let mut made = bg_scalar::Value::Plain(default_of(t.base));
+    let mut k = 0;
+    while k < t.maps.len() {
+        let inner = Box::new(alloc, made)?;
+        made = bg_scalar::Value::Map(Vec::new(alloc), inner);
+        k += 1;
     }
+    Ok(made)
 }
 
 /// A function's table without entries.
 fn blank(alloc: Global, types: &[TypeName], f: &Function) -> Result<Table, AllocError>
     ensures { IfOk result (λ made. table_in made ≡ blank (m.fun_of (named_of (map type_name_of types.now)) (fun_of f.now))) }
 {
-    let value = written_kind(alloc, types, &f.result)?;
+    let result = written_kind(alloc, types, &f.result)?;
+    let default = default_value(alloc, result.as_ref())?;
     Ok(Table {
         entries: BTreeMap::new(alloc),
-        default: default_in(value.as_ref()),
+        default,
     })
 }
 

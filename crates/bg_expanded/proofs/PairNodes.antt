@@ -17,7 +17,7 @@ length_both : {A : Type 0} (xs ys : List A) → length (xs ++ ys) ≡ length xs 
 length_both [] ys = omega arith
 length_both (x ∷ xs) ys = let h = length_both xs ys in omega arith
 
-length_with : (k : ℕ) (t : Ty) (xs : List (ℕ × Ty)) → length (pairs_with k t xs) ≡ count_with t xs
+pub length_with : (k : ℕ) (t : Ty) (xs : List (ℕ × Ty)) → length (pairs_with k t xs) ≡ count_with t xs
 length_with k t [] = refl
 length_with k t (x ∷ xs) = by (ty_eq t x.1) (length_with k t xs)
   where

@@ -14,17 +14,6 @@ product_room [] n ws = none n ws
 product_room (r ∷ rs) n [] = ap (λ (m : ℕ). r + m) (product_room rs n [])
 product_room (r ∷ rs) n (w ∷ ws) = ap (λ (m : ℕ). r * w + m) (product_room rs n ws)
 
-read_none : (n k : ℕ) → ◌≡◌ {A = ℕ} (get_or (replicate n 0) k 0) 0
-read_none zero k = refl
-read_none (suc n) zero = refl
-read_none (suc n) (suc k) = read_none n k
-
--- what room is made for is read as before
-pub read_room : (rs : List ℕ) (n k : ℕ) → ◌≡◌ {A = ℕ} (get_or (rs ++ replicate n 0) k 0) (get_or rs k 0)
-read_room [] n k = read_none n k
-read_room (r ∷ rs) n zero = refl
-read_room (r ∷ rs) n (suc k) = read_room rs n k
-
 pub product_set : (rs : List ℕ) (j t : ℕ) (ws : List ℕ) → j < length rs → IsAlike (product (set rs j (min (get_or rs j 0 + t) (2 ^ 64 - 1))) ws) (product rs ws + t * get_or ws j 1)
 product_set [] j t ws h = absurd (omega arith)
 product_set (r ∷ rs) zero t [] h = let e = mul-one t in omega arith

@@ -1,10 +1,11 @@
 -- How many pairs of unique constants there are.
-use Rattle.std.specs.Prelude.{ℕ, ◌+◌, if◌then◌else◌, List, [], ◌∷◌, get_or}
+use Rattle.std.specs.Prelude.{◌≡◌, ◌<◌, ◌≤◌, ℕ, ◌+◌, ◌-◌, if◌then◌else◌, List, [], ◌∷◌, length, get_or, drop, map}
 use Rattle.bg_ast.specs.Values.{Ty}
 use Rattle.bg_sense.specs.Types.{ty_eq}
-use Rattle.bg_kinds.specs.declared.kinds.Base.{Base}
-use Rattle.bg_kinds.specs.declared.kinds.Base.TheVariants as base
-use Rattle.bg_expanded.specs.declared.pairs.Tally.{Tally}
+use Rattle.bg_kinds.specs.Views.{ref_in}
+use Rattle.bg_opening.specs.Constants.{unique_of}
+use Rattle.bg_opening.specs.declared.uniques.Unique.{Unique}
+use Rattle.bg_expanded.specs.Bodies.{IsAlike}
 
 -- one, where both types are the same
 abbrev pub one_with : Ty → Ty → ℕ
@@ -20,8 +21,6 @@ abbrev pub pair_count : List (ℕ × Ty) → ℕ
 pair_count [] = 0
 pair_count (x ∷ xs) = count_with x.1 xs + pair_count xs
 
--- how many are of this type, as it was counted
-abbrev pub tallied : Tally → Base → ℕ
-tallied t base.Int = t.numbers
-tallied t base.Bool = t.truths
-tallied t (base.User u) = get_or t.elements.items u 0
+-- of each from a place on, how many behind it are of its type, from the last one on
+abbrev pub AreCounts : List Unique → ℕ → List ℕ → Type 0
+AreCounts told from counts = (j : ℕ) (x : Unique) → from ≤ j → j < length told → x ≡ get_or told j x → IsAlike (get_or counts ((length told - 1) - j) 0) (count_with (ref_in x.kind) (map unique_of (drop (j + 1) told)))

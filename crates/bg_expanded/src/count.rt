@@ -32,9 +32,8 @@ pub fn add_own(count: &mut Count, n: u64)
 }
 
 /// Makes room for so many.
-pub fn widen(reads: &mut Vec<u64>, n: usize) -> Result<(), AllocError>
+fn widen(reads: &mut Vec<u64>, n: usize) -> Result<(), AllocError>
     ensures room { OnOk result (n ≤ length reads.new.items) }
-    ensures each { OnOk result ((k : ℕ) → get_or reads.new.items k 0 ≡ get_or reads.old.items k 0) }
     ensures same { OnOk result ((ws : List ℕ) → product reads.new.items ws ≡ product reads.old.items ws) }
 {
     if reads.len() < n {

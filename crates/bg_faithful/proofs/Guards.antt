@@ -1,4 +1,4 @@
--- Commands that declared candidates alone guard, of which each check is at a place of the program, and calls take and give scalars.
+-- Commands that declared candidates alone guard, of which each check is at a place of the program, and in the types of what calls take and give each map has an index.
 use Rattle.std.proofs.Common.{◌≡◌, ℕ, zero, suc, ◌+◌, Bool, true, false, if◌then◌else◌, List, [], ◌∷◌, ◌++◌, Option, Some, None, refl, sym, subst, inl, inr, arith}
 use Rattle.std.specs.Prelude.{◌&&◌, slice_get}
 use Rattle.std.specs.List.{list_all}
@@ -11,9 +11,9 @@ use Rattle.bg_sense.proofs.Bools.{and_left, and_right}
 use Rattle.bg_sense.proofs.Members.{In, in_left, in_right, contained}
 use Rattle.bg_flow.specs.Core.{Demand, Saying, Plan, Cmd, Check, Suppose, Forget, Put, Perform, Finish, Head, Core, Nil, Seq, Mark, Do, To, Choose, Loop, demands, demands_if, sayings, sayings_if, each_one, the_checked, the_free, plain, still, plan_of, calls_of, desugar}
 use Rattle.bg_flow.specs.Blocks.{Block, Coded, led, closed, skipped, turned, code, at_end, blocks_of}
-use Rattle.bg_fits.specs.Scalars.{clause_passes, guard_passes, st_passes, is_scalar}
+use Rattle.bg_fits.specs.Valued.{clause_passes, guard_passes, st_passes, any_ex}
 use Rattle.bg_faithful.specs.Checks.{HasPlace}
-use Rattle.bg_faithful.proofs.Scalars.{AreScalars, IsDeclared, FitClauses, fit_clause, fit_clauses, ScalarProc}
+use Rattle.bg_faithful.proofs.ValueTypes.{AreValueTypes, IsDeclared, FitClauses, fit_clause, fit_clauses, ValueProc}
 
 -- a check at this spot, with this candidate: it is a declared one, and the program has a place with both
 abbrev pub FitCheck : Prog → Spot → Option ℕ → Type 0
@@ -29,7 +29,7 @@ FitSayings p (d ∷ ds) = IsDeclared p.candidates d.candidate × FitSayings p ds
 
 abbrev pub FitPlan : Prog → Plan → Type 0
 FitPlan p k =
-    FitDemands p k.needs × (FitSayings p k.gives × (AreScalars (types_of k.params) × AreScalars (types_of k.results)))
+    FitDemands p k.needs × (FitSayings p k.gives × (AreValueTypes (types_of k.params) × AreValueTypes (types_of k.results)))
 
 abbrev pub FitCmd : Prog → Cmd → Type 0
 FitCmd p (Check ds) = FitDemands p ds
@@ -119,9 +119,9 @@ placed_left p us vs h u i = h u (in_left us vs u i)
 placed_right : (p : Prog) (us vs : List Place) → Placed p (us ++ vs) → Placed p vs
 placed_right p us vs h u i = h u (in_right us vs u i)
 
-module _ (p : Prog) (ds : List Decl) (n : ℕ) (procs : (k : ℕ) (c : Proc) → slice_get p.procedures k ≡ Some c → ScalarProc p.candidates c) where
+module _ (p : Prog) (ds : List Decl) (n : ℕ) (procs : (k : ℕ) (c : Proc) → slice_get p.procedures k ≡ Some c → ValueProc p.candidates c) where
   abbrev Q : Ex → Bool
-  Q = is_scalar true
+  Q = any_ex
 
   abbrev st_ok : St → Bool
   st_ok = st_passes p.candidates Q
@@ -129,11 +129,11 @@ module _ (p : Prog) (ds : List Decl) (n : ℕ) (procs : (k : ℕ) (c : Proc) →
   abbrev all_ok : List Clause → Bool
   all_ok = list_all (clause_passes p.candidates Q)
 
-  plan_fits : (k : Call) (c : Proc) → ScalarProc p.candidates c → Placed p (checks_of n (AtCall k.site) c.requires_) → FitPlan p (plan_of p c k)
+  plan_fits : (k : Call) (c : Proc) → ValueProc p.candidates c → Placed p (checks_of n (AtCall k.site) c.requires_) → FitPlan p (plan_of p c k)
   plan_fits k c h w =
       (fit_demands p n (AtCall k.site) c.requires_ h.requires_ w, (fit_plain p (wheres_at (still p []) (modified p c)) _ (fit_plain p (wheres_of c.results) _ (fit_sayings p each_one c.ensures_ h.ensures_)), (h.params, h.results)))
 
-  calls_fit : (k : Call) (o : Option Proc) → ((c : Proc) → o ≡ Some c → ScalarProc p.candidates c) → Placed p (checks_of n (AtCall k.site) (requires_in o)) → FitCmds p (calls_of p o k)
+  calls_fit : (k : Call) (o : Option Proc) → ((c : Proc) → o ≡ Some c → ValueProc p.candidates c) → Placed p (checks_of n (AtCall k.site) (requires_in o)) → FitCmds p (calls_of p o k)
   calls_fit k None f w = tt
   calls_fit k (Some c) f w = (plan_fits k c (f c refl) w, tt)
 

@@ -10,7 +10,7 @@ use Rattle.bg_linear.specs.declared.scalar.Kind.{Kind}
 use Rattle.bg_linear.specs.declared.scalar.Kind.TheVariants as kind
 use Rattle.bg_linear.specs.Sorts.{kind_at, is_truth, is_number, number_only, truth_if, both_truths, related_kind, equal_kind, sum_kind, product_kind, kind_by, kind_ex}
 use Rattle.bg_sorts.specs.Sorts.{sort_of_type}
-use Rattle.bg_faithful.proofs.Scalars.{AreBasic}
+use Rattle.bg_faithful.proofs.ValueTypes.{AreBasic}
 
 -- the kind of what has this type, which is `int` or `bool`
 abbrev pub HasKind : Ty → Option Kind → Type 0

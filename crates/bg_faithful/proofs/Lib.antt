@@ -1,5 +1,5 @@
 pub mod Even
-pub mod Scalars
+pub mod ValueTypes
 pub mod Kinded
 pub mod Guards
 pub mod Incs

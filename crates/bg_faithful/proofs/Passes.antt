@@ -7,7 +7,7 @@ use Rattle.bg_flow.specs.Blocks.{Exit, Leap, Either, Block}
 use Rattle.bg_passive.specs.Passive.{PassiveCmd, Claims, Supposes, Edge, PassiveBlock}
 use Rattle.bg_passive.specs.Incarnations.{Env, rename, claims_in, supposes_in, is_worth, set_to, pass, pass_all, Arrival, joins, join_env, edge_to, edges, passives}
 use Rattle.bg_faithful.specs.Checks.{CmdsPlaced, EdgesPlaced, BlocksPlaced}
-use Rattle.bg_faithful.proofs.Scalars.{IsDeclared}
+use Rattle.bg_faithful.proofs.ValueTypes.{IsDeclared}
 use Rattle.bg_faithful.proofs.Guards.{FitCheck, FitDemands, FitSayings, FitCmd, FitCmds, FitBlocks}
 
 -- a candidate that guards the command is a declared one, and a check is at a place of the program

@@ -5,7 +5,7 @@ use Rattle.bg_sense.specs.Types.{are_of}
 use Rattle.bg_sense.specs.Eval.{value_at}
 use Rattle.bg_linear.specs.Sorts.{scalar_values}
 use Rattle.bg_sorts.specs.Sorts.{sort_of_type}
-use Rattle.bg_faithful.proofs.Scalars.{AreBasic}
+use Rattle.bg_faithful.proofs.ValueTypes.{AreBasic}
 
 -- the numbers and the truth values at the places of a list
 abbrev pub numbers_of : List Val → ℕ → ℤ

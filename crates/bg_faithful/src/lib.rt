@@ -1,5 +1,4 @@
-//! Typed programs over scalars: their incarnations are scalars, and their clauses fail where their runs do. The
-//! crate has laws alone.
+//! Typed programs over values: each map among their incarnations has an index, and their checks are places. The crate has laws alone.
 #![tactic(auto)]
 
 pub mod laws;

@@ -1,10 +1,7 @@
-//! Leaves over functions on truth values, whole numbers and elements: tables of the functions, or congruences that are false.
+//! Leaves over numbers and truth values: the values of incarnations and terms with tables of the functions, or lines that are wanted.
 #![tactic(auto)]
 
-mod firsts;
 mod kind;
-mod row;
-mod rows;
 mod tables;
 mod whole;
 

@@ -1,6 +1,5 @@
 -- Types by the brackets that the code has.
-use Rattle.std.proofs.Common.{◌≡◌, ◌<◌, List, [], ◌∷◌, length, Option, Some, None, refl, sym, arith}
-use Rattle.bg_ast.specs.Values as v
+use Rattle.std.proofs.Common.{◌≡◌, ◌<◌, List, [], ◌∷◌, length, Some, None, refl, arith}
 use Rattle.bg_kinds.specs.declared.kinds.Base.{Base}
 use Rattle.bg_kinds.specs.declared.kinds.Base.TheVariants as base
 use Rattle.bg_kinds.specs.declared.kinds.Keys.{Keys}

@@ -1,4 +1,3 @@
 pub mod Synonyms
-pub mod Bare
 pub mod Towers
 pub mod Bases

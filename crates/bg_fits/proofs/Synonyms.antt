@@ -12,7 +12,7 @@ use Rattle.bg_ast.specs.declared.resolved.WrittenType.TheVariants as type
 use Rattle.bg_ast.proofs.Lists.{type_of-Map}
 use Rattle.bg_kinds.specs.declared.kinds.Base.{Base}
 use Rattle.bg_kinds.specs.declared.kinds.Base.TheVariants as base
-use Rattle.bg_fits.specs.Scalars.{is_empty}
+use Rattle.bg_fits.specs.Valued.{is_empty}
 use Rattle.bg_fits.specs.Bases.{base_in, key_by}
 
 no_map_is : (named : ℕ → v.Ty) (bs : List IndexTypes) (t : v.Ty) → base_in (map_type named (indexed_of (map index_view bs)) t) ≡ (if is_empty bs then base_in t else None)

@@ -1,9 +1,9 @@
 -- Brackets that are gathered from the left.
-use Rattle.std.proofs.Common.{◌≡◌, ℕ, ◌+◌, suc, ◌-◌, ◌<◌, ◌≤◌, List, [], ◌∷◌, ◌++◌, map, refl, sym, ap, ◌∙◌, Vec, Box, Global, arith, slice_get}
+use Rattle.std.proofs.Common.{◌≡◌, ℕ, ◌+◌, suc, ◌-◌, ◌<◌, ◌≤◌, List, [], ◌∷◌, ◌++◌, map, refl, sym, ap, ◌∙◌, Vec, Box, Global, arith}
 use Rattle.bg_ast.specs.Values as v
 use Rattle.bg_ast.specs.Resolved as r
-use Rattle.bg_ast.specs.Meaning.{type_in, map_type, keys_in, synonym_or, named_within}
-use Rattle.bg_ast.specs.Views.{type_of, tys_of, indexed_of, index_view, type_name_of}
+use Rattle.bg_ast.specs.Meaning.{type_in, map_type, keys_in, named_within}
+use Rattle.bg_ast.specs.Views.{type_of, tys_of, indexed_of, index_view}
 use Rattle.bg_ast.specs.declared.resolved.IndexTypes.{IndexTypes}
 use Rattle.bg_ast.specs.declared.resolved.WrittenType.{WrittenType}
 use Rattle.bg_ast.specs.declared.resolved.WrittenType.TheVariants as type
@@ -13,7 +13,6 @@ use Rattle.bg_kinds.specs.Views.{keys_of, tower}
 use Rattle.bg_kinds.proofs.Gathered.{tower_same}
 use Rattle.bg_fits.specs.Bases.{end_in}
 use Rattle.bg_fits.specs.declared.written.End.{End}
-use Rattle.bg_fits.specs.declared.written.End.TheVariants as end
 
 pub tower_append : (ks ls : List Keys) (t : v.Ty) → tower (ks ++ ls) t ≡ tower ks (tower ls t)
 tower_append [] ls t = refl

@@ -1,4 +1,5 @@
-//! The types of what a program declares, and what programs over truth values, whole numbers and elements of user types are.
+//! The types of what a program declares, and what programs over values are: of variables and functions without a body, in which each map has an
+//! index.
 #![tactic(auto)]
 
 mod copies;

@@ -14,6 +14,9 @@ use bg_ast::resolved::{Declared, IndexTypes, TypeName, WrittenType};
 use bg_kinds::{Base, IndexType, Keys, ValueType};
 use std::alloc::{AllocError, Global};
 
+/// How many brackets a type may have, synonyms unfolded: values of it nest so deep. As many as may be open in a text.
+const MOST_BRACKETS: usize = 200;
+
 /// What stands behind the brackets of a written type: a type that is no map, or a declared one.
 #[derive(Clone, Copy)]
 pub enum End {
@@ -66,6 +69,9 @@ fn push_brackets(
     ensures { OnOk result ((t : v.Ty) → tower maps.new.items t ≡ tower maps.old.items (map_type (named_within left (map type_name_of types.now)) (indexed_of (map index_view brackets.now)) t)) }
 {
     for bracket in brackets {
+        if maps.len() >= MOST_BRACKETS {
+            return Err(AllocError);
+        }
         maps.push(keys_within(alloc, types, left, &bracket.indices)?)?;
     }
     Ok(())
@@ -153,7 +159,7 @@ fn push_whole(
 
 /// What a written type stands for, where these types are declared.
 ///
-/// Only want of memory is an error.
+/// Only want of memory is an error; more than `MOST_BRACKETS` brackets count as such.
 pub fn written_kind(
     alloc: Global,
     types: &[TypeName],

@@ -5,7 +5,7 @@ use Rattle.bg_ast.specs.Syntax.{Ex}
 use Rattle.bg_sense.specs.Typed.{IsLinear}
 use Rattle.bg_linear.specs.Sorts.{kind_ex, is_truth}
 use Rattle.bg_flat_clauses.specs.Sorts.{flat_sorts}
-use Rattle.bg_faithful.proofs.Scalars.{AreBasic}
+use Rattle.bg_faithful.proofs.ValueTypes.{AreBasic}
 use Rattle.bg_faithful.proofs.Kinded.{truths_sorted}
 use Rattle.bg_terms.specs.Alike.{HasFlatType, scalar_ty}
 use Rattle.bg_terms.proofs.Linear.{over_scalars, no_old}

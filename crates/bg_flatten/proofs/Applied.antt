@@ -1,71 +1,22 @@
--- Each term that blocks without selects and updates have is an application; and no term of blocks is a part of an index.
-use Rattle.std.proofs.Common.{◌≡◌, ℕ, true, false, List, [], ◌∷◌, Option, Some, None, refl, ap, ◌∙◌, ⊎_elim}
+-- No term of blocks is a part of an index.
+use Rattle.std.proofs.Common.{◌≡◌, ℕ, false, List, [], ◌∷◌, Option, Some, None, refl, ap, ◌∙◌, ⊎_elim}
 use Rattle.std.specs.Prelude.{slice_get}
 use Rattle.bg_ast.specs.Values.{Ty}
 use Rattle.bg_ast.specs.Syntax.{Ex, Exs, Number, Fact, Constant, Read, Not, Negative, Binary, Apply, Select, Update, Old, NoMore, More, Fun}
 use Rattle.bg_passive.specs.Passive.{PassiveCmd, Claims, Supposes, Edge, PassiveBlock}
 use Rattle.bg_terms.specs.Terms.{Head, Applies, Term}
 use Rattle.bg_terms.specs.Closed.{is_differs}
-use Rattle.bg_terms.specs.Tables.{is_application}
 use Rattle.bg_numbered.specs.Put.{found_from, made, with_by, with_term, select_head, update_head, map_ty}
 use Rattle.bg_numbered.specs.Numbered.{behind, numbered, all_behind, all_numbered}
 use Rattle.bg_numbered.proofs.Growing.{last_or}
 use Rattle.bg_flatten.specs.Makes.{Each}
 use Rattle.bg_flatten.specs.Numbered.{list_behind, cmd_behind, edge_behind, block_behind, terms_of}
-use Rattle.bg_flatten.proofs.Handled.{HasNoMaps, HaveNoMaps, CmdWithout, EdgeWithout, BlockWithout}
 
 -- ---- lists
 
 list_keeps : {A : Type 0} → (Fine : A → Type 0) (Good : List Term → Type 0) (f : A → List Term → List Term) → ((x : A) (ts : List Term) → Fine x → Good ts → Good (f x ts)) → (xs : List A) (ts : List Term) → Each Fine xs → Good ts → Good (list_behind f xs ts)
 list_keeps Fine Good f one [] ts k h = h
 list_keeps Fine Good f one (x ∷ xs) ts k h = list_keeps Fine Good f one xs (f x ts) k.1 (one x ts k.0 h)
-
--- ---- applications
-
-abbrev AreApplied : List Term → Type 0
-AreApplied ts = (a : ℕ) (t : Term) → slice_get ts a ≡ Some t → is_application t.head ≡ true
-
-module _ (fs : List Fun) (incs : List Ty) where
-  put_applied : (f : ℕ) (xs : Exs) (ts : List Term) → AreApplied ts → AreApplied (with_term fs (Applies f) xs ts)
-  put_applied f xs ts h = on (found_from 0 (Applies f) xs ts)
-    where
-      on : (o : Option ℕ) → AreApplied (with_by o (made fs (Applies f) xs) ts)
-      on (Some a) = h
-      on None =
-          λ a t e. ⊎_elim (h a t) (λ same. ap (λ u. is_application u.head) same) (last_or ts (made fs (Applies f) xs) a t e)
-
-  mutual
-    each : (e : Ex) (ts : List Term) → HasNoMaps e → AreApplied ts → AreApplied (behind fs incs e ts)
-    each (Number z) ts k h = h
-    each (Fact b) ts k h = h
-    each (Constant c) ts k h = h
-    each (Read x) ts k h = h
-    each (Not e) ts k h = each e ts k h
-    each (Negative e) ts k h = each e ts k h
-    each (Binary op a b) ts k h = each b (behind fs incs a ts) k.1 (each a ts k.0 h)
-    each (Apply f es) ts k h = put_applied f (all_numbered fs incs es ts) (all_behind fs incs es ts) (all es ts k h)
-    each (Select m es) ts k h = absurd k
-    each (Update m es e) ts k h = absurd k
-    each (Old e) ts k h = each e ts k h
-
-    all : (es : Exs) (ts : List Term) → HaveNoMaps es → AreApplied ts → AreApplied (all_behind fs incs es ts)
-    all NoMore ts k h = h
-    all (More e es) ts k h = all es (behind fs incs e ts) k.1 (each e ts k.0 h)
-
-  cmd : (k : PassiveCmd) (ts : List Term) → CmdWithout k → AreApplied ts → AreApplied (cmd_behind fs incs k ts)
-  cmd (Claims s b e) ts k h = each e ts k h
-  cmd (Supposes b e) ts k h = each e ts k h
-
-  edge : (e : Edge) (ts : List Term) → EdgeWithout e → AreApplied ts → AreApplied (edge_behind fs incs e ts)
-  edge e ts k h = list_keeps CmdWithout AreApplied (cmd_behind fs incs) cmd e.cmds ts k h
-
-  block : (b : PassiveBlock) (ts : List Term) → BlockWithout b → AreApplied ts → AreApplied (block_behind fs incs b ts)
-  block b ts k h =
-      list_keeps EdgeWithout AreApplied (edge_behind fs incs) edge b.next (list_behind (cmd_behind fs incs) b.cmds ts) k.1 (list_keeps CmdWithout AreApplied (cmd_behind fs incs) cmd b.cmds ts k.0 h)
-
-  pub are_applied : (bs : List PassiveBlock) → Each BlockWithout bs → AreApplied (terms_of fs incs bs)
-  are_applied bs k =
-      list_keeps BlockWithout AreApplied (block_behind fs incs) block bs [] k (λ a t e. absurd (let bad : ⊥ = cc in bad))
 
 -- ---- no parts of indices
 

@@ -1,18 +1,18 @@
--- What is typed over no constants is handled; and where no maps are there, it selects from none and updates none.
-use Rattle.std.proofs.Common.{◌≡◌, ℕ, zero, suc, Bool, true, false, List, [], ◌∷◌, Some, refl, ap, ◌∙◌, subst}
-use Rattle.std.specs.Prelude.{slice_get, not, map, ◌&&◌}
-use Rattle.bg_ast.specs.Values.{Ty, IntTy, BoolTy, UserTy, MapTy, is_map}
+-- What is typed over no constants is handled; and where no functions and no maps are there, it is plain.
+use Rattle.std.proofs.Common.{◌≡◌, ℕ, zero, suc, Bool, true, false, List, [], ◌∷◌, Some, refl, ap, subst}
+use Rattle.std.specs.Prelude.{slice_get, not, map}
+use Rattle.bg_ast.specs.Values.{Ty, IntTy, BoolTy, MapTy, is_map}
 use Rattle.bg_ast.specs.Syntax.{Ex, Exs, Op, And, Or, Implies, Iff, Equal, Unequal, Less, AtMost, Greater, AtLeast, Plus, Minus, Times, Number, Fact, Constant, Read, Local, Global, Not, Negative, Binary, Apply, Select, Update, Old, NoMore, More, Fun}
 use Rattle.bg_sense.specs.Typing.{key_ty, Sig, OpHasType, HasType, HaveTypes}
+use Rattle.bg_sense.specs.Typed.{HasNoOld}
 use Rattle.bg_sense.proofs.Bools.{and_left, and_right}
 use Rattle.bg_passive.specs.Passive.{PassiveCmd, Claims, Supposes, Edge, PassiveBlock}
 use Rattle.bg_block_types.specs.Typed.{TypedCmds, TypedEdges, TypedBlocks}
 use Rattle.bg_terms.specs.Typed.{sig_with}
 use Rattle.bg_numbered.specs.Fair.{IsHandled, AreHandled}
-use Rattle.bg_numbered.specs.Indexed.{is_indexed, are_indexed, GiveIndexed}
 use Rattle.bg_numbered.proofs.Numbered.{side_types}
 use Rattle.bg_flatten.specs.Makes.{Each, FineCmds, FineEdges, FineBlocks}
-use Rattle.bg_flat.specs.Mapless.{are_mapless, GiveNoMaps}
+use Rattle.bg_flatten.specs.Plain.{are_mapless, IsPlain, PlainCmd, PlainEdge, PlainBlocks}
 
 nothing : (j : ℕ) (t : Ty) → slice_get [] j ≡ Some t → ⊥
 nothing j t e = cc
@@ -42,32 +42,6 @@ op_mapless AtLeast A B t h = ap is_map h.0
 op_mapless Plus A B t h = ap is_map h.0
 op_mapless Minus A B t h = ap is_map h.0
 op_mapless Times A B t h = ap is_map h.0
-
-abbrev mutual
-  -- no map is selected from or updated
-  pub HasNoMaps : Ex → Type 0
-  HasNoMaps (Not e) = HasNoMaps e
-  HasNoMaps (Negative e) = HasNoMaps e
-  HasNoMaps (Binary op a b) = HasNoMaps a × HasNoMaps b
-  HasNoMaps (Apply f es) = HaveNoMaps es
-  HasNoMaps (Select m es) = ⊥
-  HasNoMaps (Update m es e) = ⊥
-  HasNoMaps (Old e) = HasNoMaps e
-  HasNoMaps _ = Unit {0}
-
-  pub HaveNoMaps : Exs → Type 0
-  HaveNoMaps NoMore = Unit {0}
-  HaveNoMaps (More e es) = HasNoMaps e × HaveNoMaps es
-
-abbrev pub CmdWithout : PassiveCmd → Type 0
-CmdWithout (Claims s b e) = HasNoMaps e
-CmdWithout (Supposes b e) = HasNoMaps e
-
-abbrev pub EdgeWithout : Edge → Type 0
-EdgeWithout e = Each CmdWithout e.cmds
-
-abbrev pub BlockWithout : PassiveBlock → Type 0
-BlockWithout b = Each CmdWithout b.cmds × Each EdgeWithout b.next
 
 module _ (fs : List Fun) (incs : List Ty) where
   abbrev g : Sig
@@ -113,61 +87,39 @@ module _ (fs : List Fun) (incs : List Ty) where
   blocks_fine [] h = tt
   blocks_fine (b ∷ bs) h = ((cmds_fine b.cmds h.0.0, edges_fine b.next h.0.1), blocks_fine bs h.1)
 
-module _ (fs : List Fun) (results : GiveNoMaps fs) (incs : List Ty) (mapless : are_mapless incs ≡ true) where
+-- ---- without functions and maps
+
+module _ (incs : List Ty) (mapless : are_mapless incs ≡ true) where
   abbrev sig : Sig
-  sig = sig_with [] fs incs
+  sig = sig_with [] [] incs
 
-  mutual
-    without : (e : Ex) (t : Ty) → HasType e sig t → (is_map t ≡ false) × HasNoMaps e
-    without (Number z) t h = (ap is_map h, tt)
-    without (Fact b) t h = (ap is_map h, tt)
-    without (Constant k) t h = absurd (nothing k t h)
-    without (Read (Local j)) t h = (mapless_at incs j t mapless h, tt)
-    without (Read (Global j)) t h = absurd (nothing j t h)
-    without (Not e) t h = (ap is_map h.0, (without e BoolTy h.1).1)
-    without (Negative e) t h = (ap is_map h.0, (without e IntTy h.1).1)
-    without (Binary op a b) t h =
-        let s = side_types op (HasType a sig) (HasType b sig) t h in
-        (op_mapless op (HasType a sig) (HasType b sig) t h, ((without a s.0.0 s.0.1).1, (without b s.1.0 s.1.1).1))
-    without (Apply f es) t h = (ap is_map h.2 ∙ results f h.0 h.1, all_without es h.0.params h.3)
-    without (Select m es) t h = absurd (let no = (without m (MapTy h.0 t) h.1).0 in let bad : ⊥ = cc in bad)
-    without (Update m es e) t h =
-        absurd (let no = (without m (MapTy h.0 h.1.0) h.1.2).0 in let bad : ⊥ = cc in bad)
-    without (Old e) t h = without e t h
+  plain : (e : Ex) (t : Ty) → HasType e sig t → HasNoOld e → (is_map t ≡ false) × IsPlain e
+  plain (Number z) t h o = (ap is_map h, tt)
+  plain (Fact b) t h o = (ap is_map h, tt)
+  plain (Constant k) t h o = absurd (nothing k t h)
+  plain (Read (Local j)) t h o = (mapless_at incs j t mapless h, tt)
+  plain (Read (Global j)) t h o = absurd (nothing j t h)
+  plain (Not e) t h o = (ap is_map h.0, (plain e BoolTy h.1 o).1)
+  plain (Negative e) t h o = (ap is_map h.0, (plain e IntTy h.1 o).1)
+  plain (Binary op a b) t h o =
+      let s = side_types op (HasType a sig) (HasType b sig) t h in
+      (op_mapless op (HasType a sig) (HasType b sig) t h, ((plain a s.0.0 s.0.1 o.0).1, (plain b s.1.0 s.1.1 o.1).1))
+  plain (Apply f es) t h o = absurd (let gone : slice_get [] f ≡ Some h.0 = h.1 in let bad : ⊥ = cc in bad)
+  plain (Select m es) t h o =
+      absurd (let not_one = (plain m (MapTy h.0 t) h.1 o.0).0 in let bad : ⊥ = cc in bad)
+  plain (Update m es e) t h o =
+      absurd (let not_one = (plain m (MapTy h.0 h.1.0) h.1.2 o.0).0 in let bad : ⊥ = cc in bad)
+  plain (Old e) t h o = absurd o
 
-    all_without : (es : Exs) (ts : List Ty) → HaveTypes es sig ts → HaveNoMaps es
-    all_without NoMore ts h = tt
-    all_without (More e es) [] h = absurd h
-    all_without (More e es) (t ∷ ts) h = ((without e t h.0).1, all_without es ts h.1)
+  cmds_plain : (ks : List PassiveCmd) → TypedCmds sig ks → Each PlainCmd ks
+  cmds_plain [] h = tt
+  cmds_plain (Claims s b e ∷ ks) h = ((plain e BoolTy h.0.0.0 h.0.1).1, cmds_plain ks h.1)
+  cmds_plain (Supposes b e ∷ ks) h = ((plain e BoolTy h.0.0.0 h.0.1).1, cmds_plain ks h.1)
 
-  cmds_without : (ks : List PassiveCmd) → TypedCmds sig ks → Each CmdWithout ks
-  cmds_without [] h = tt
-  cmds_without (Claims s b e ∷ ks) h = ((without e BoolTy h.0.0.0).1, cmds_without ks h.1)
-  cmds_without (Supposes b e ∷ ks) h = ((without e BoolTy h.0.0.0).1, cmds_without ks h.1)
+  edges_plain : (es : List Edge) → TypedEdges sig es → Each PlainEdge es
+  edges_plain [] h = tt
+  edges_plain (e ∷ es) h = (cmds_plain e.cmds h.0, edges_plain es h.1)
 
-  edges_without : (es : List Edge) → TypedEdges sig es → Each EdgeWithout es
-  edges_without [] h = tt
-  edges_without (e ∷ es) h = (cmds_without e.cmds h.0, edges_without es h.1)
-
-  pub blocks_without : (bs : List PassiveBlock) → TypedBlocks sig bs → Each BlockWithout bs
-  blocks_without [] h = tt
-  blocks_without (b ∷ bs) h = ((cmds_without b.cmds h.0.0, edges_without b.next h.0.1), blocks_without bs h.1)
-
--- ---- types without maps
-
-type_indexed : (t : Ty) → is_map t ≡ false → is_indexed t ≡ true
-type_indexed IntTy h = refl
-type_indexed BoolTy h = refl
-type_indexed (UserTy u) h = refl
-type_indexed (MapTy ks t) h = absurd (let bad : ⊥ = cc in bad)
-
-and_true : (a b : Bool) → a ≡ true → b ≡ true → (a && b) ≡ true
-and_true a b h k = ap (λ x. x && b) h ∙ k
-
-pub types_indexed : (tys : List Ty) → are_mapless tys ≡ true → are_indexed tys ≡ true
-types_indexed [] h = refl
-types_indexed (t ∷ tys) h =
-    and_true (is_indexed t) (are_indexed tys) (type_indexed t (not_false (is_map t) (and_left (not (is_map t)) (are_mapless tys) h))) (types_indexed tys (and_right (not (is_map t)) (are_mapless tys) h))
-
-pub results_indexed : (fs : List Fun) → GiveNoMaps fs → GiveIndexed fs
-results_indexed fs h f fn e = type_indexed fn.result (h f fn e)
+  pub blocks_plain : (bs : List PassiveBlock) → TypedBlocks sig bs → PlainBlocks bs
+  blocks_plain [] h = tt
+  blocks_plain (b ∷ bs) h = ((cmds_plain b.cmds h.0.0, edges_plain b.next h.0.1), blocks_plain bs h.1)

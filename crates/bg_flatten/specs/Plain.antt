@@ -1,8 +1,14 @@
--- Blocks without applications, selects, updates and `old`.
-use Rattle.std.specs.Prelude.{List}
+-- Types that are no maps, and blocks without applications, selects, updates and `old`.
+use Rattle.std.specs.Prelude.{Bool, true, not, ◌&&◌, List, [], ◌∷◌}
+use Rattle.bg_ast.specs.Values.{Ty, is_map}
 use Rattle.bg_ast.specs.Syntax.{Ex, Not, Negative, Binary, Apply, Select, Update, Old}
 use Rattle.bg_passive.specs.Passive.{PassiveCmd, Claims, Supposes, Edge, PassiveBlock}
 use Rattle.bg_flatten.specs.Makes.{Each}
+
+-- whether none is a map
+abbrev pub are_mapless : List Ty → Bool
+are_mapless [] = true
+are_mapless (t ∷ ts) = not (is_map t) && are_mapless ts
 
 abbrev pub IsPlain : Ex → Type 0
 IsPlain (Not e) = IsPlain e

@@ -6,14 +6,12 @@ ghost use Rattle.bg_passive.specs.Passive.{PassiveBlock};
 ghost use Rattle.bg_block_types.specs.Typed.{sig_over, TypedBlocks};
 ghost use Rattle.bg_terms.specs.Terms.{Term};
 ghost use Rattle.bg_terms.specs.Closed.{is_differs};
-ghost use Rattle.bg_terms.specs.Tables.{is_application};
 ghost use Rattle.bg_numbered.specs.Indexed.{are_indexed, GiveIndexed};
 ghost use Rattle.bg_numbered.specs.Lines.{Line, after_lines};
 ghost use Rattle.bg_flatten.specs.Makes.{FineBlocks};
 ghost use Rattle.bg_flatten.specs.Flattens.{AreFlattened};
 ghost use Rattle.bg_flatten.specs.Numbered.{terms_of, flat_of};
-ghost use Rattle.bg_flatten.specs.Plain.{PlainBlocks};
-ghost use Rattle.bg_flat.specs.Mapless.{are_mapless, GiveNoMaps};
+ghost use Rattle.bg_flatten.specs.Plain.{are_mapless, PlainBlocks};
 
 /// Typed blocks are made flat, where there are no constants.
 pub fn typed_blocks_are_fine()
@@ -29,6 +27,12 @@ pub fn numbered_blocks_are_flattened()
     bg_numbered::laws::numbered_expressions_are_flat()
 }
 
+/// Typed blocks hold no application, select, update and `old`, where there are no constants and functions, and no incarnation is a map.
+pub fn blocks_without_functions_are_plain()
+    ensures { (p : Prog) (incs : List Ty) (blocks : List PassiveBlock) → p.constants ≡ [] → p.functions ≡ [] → are_mapless incs ≡ true →
+        TypedBlocks (sig_over p incs) blocks → PlainBlocks blocks }
+{}
+
 /// Blocks without applications, selects, updates and `old` have no terms, and are flat as they are.
 pub fn plain_blocks_stay()
     ensures terms { (fs : List Fun) (incs : List Ty) (blocks : List PassiveBlock) → PlainBlocks blocks → terms_of fs incs blocks ≡ [] }
@@ -38,18 +42,6 @@ pub fn plain_blocks_stay()
 /// No term of blocks is a part of an index at which two maps differ.
 pub fn terms_are_ordinary()
     ensures { (fs : List Fun) (incs : List Ty) (blocks : List PassiveBlock) (a : ℕ) (t : Term) → slice_get (terms_of fs incs blocks) a ≡ Some t → is_differs t.head ≡ false }
-{}
-
-/// Each term of typed blocks is an application, where there are no constants, and neither an incarnation is a map nor what a function gives.
-pub fn terms_are_applications()
-    ensures { (p : Prog) (incs : List Ty) (blocks : List PassiveBlock) → p.constants ≡ [] → are_mapless incs ≡ true → GiveNoMaps p.functions →
-        TypedBlocks (sig_over p incs) blocks → (a : ℕ) (t : Term) → slice_get (terms_of p.functions incs blocks) a ≡ Some t → is_application t.head ≡ true }
-{}
-
-/// Where there are no maps, each has an index.
-pub fn mapless_types_are_indexed()
-    ensures types { (tys : List Ty) → are_mapless tys ≡ true → are_indexed tys ≡ true }
-    ensures functions { (fs : List Fun) → GiveNoMaps fs → GiveIndexed fs }
 {}
 
 /// Flat blocks stay so over the terms that lines bring.

@@ -6,9 +6,8 @@ use Rattle.bg_places.specs.Counts.{most_places, most_expanded, place_counts, fir
 use Rattle.bg_expanded.specs.Chains.{most_bodies, longest_chain}
 use Rattle.bg_expanded.specs.Counts.{opened_counts}
 use Rattle.bg_typed.specs.Rules.{KeepsTypes}
-use Rattle.bg_front.specs.Later.{AreJudged}
 use Rattle.bg_front.specs.Limits.{most_implementations, most_candidates}
-use Rattle.bg_front.specs.Refusals.{Refusal, TooLong, Bytes, Syntax, Nesting, Names, Types, Later, Implementations, Candidates, Places, Bodies, Expanded, refusal_of}
+use Rattle.bg_front.specs.Refusals.{Refusal, TooLong, Bytes, Syntax, Nesting, Names, Types, Implementations, Candidates, Places, Bodies, Expanded, refusal_of}
 use Rattle.bg_front.specs.declared.refusal.ReadError.{ReadError}
 use Rattle.bg_front.specs.declared.refusal.ReadError.TheVariants as errors
 use Rattle.bg_front.specs.Programs.{IsMeaningOf, IsRefusedBy, IsRefused, IsLimitOf, size_limit, candidate_count, or_else, too_many, too_large, limit_of, with_guesses}
@@ -60,24 +59,23 @@ is_a_size p =
 no_size : {A : Type 0} → false ≡ true → A
 no_size e = absurd (let k : false ≡ true = e in cc)
 
-limit_refuses : (guess : Bool) (bytes : List ℕ) (ts : List Tok) (p : r.Program) (x : Refusal) → IsMeaningOf bytes ts p → KeepsTypes p → AreJudged ts → limit_of (with_guesses guess p) ≡ Some x → IsRefusedBy guess bytes x
-limit_refuses guess bytes ts p (Implementations n) m w j e = (ts, p, m, w, j, e)
-limit_refuses guess bytes ts p (Candidates n) m w j e = (ts, p, m, w, j, e)
-limit_refuses guess bytes ts p (Places n) m w j e = (ts, p, m, w, j, e)
-limit_refuses guess bytes ts p (Bodies n) m w j e = (ts, p, m, w, j, e)
-limit_refuses guess bytes ts p Expanded m w j e = (ts, p, m, w, j, e)
-limit_refuses guess bytes ts p TooLong m w j e = no_size (is_a_size (with_guesses guess p) TooLong e)
-limit_refuses guess bytes ts p (Bytes q f) m w j e = no_size (is_a_size (with_guesses guess p) (Bytes q f) e)
-limit_refuses guess bytes ts p (Syntax q) m w j e = no_size (is_a_size (with_guesses guess p) (Syntax q) e)
-limit_refuses guess bytes ts p Nesting m w j e = no_size (is_a_size (with_guesses guess p) Nesting e)
-limit_refuses guess bytes ts p (Names f) m w j e = no_size (is_a_size (with_guesses guess p) (Names f) e)
-limit_refuses guess bytes ts p (Types ds f) m w j e = no_size (is_a_size (with_guesses guess p) (Types ds f) e)
-limit_refuses guess bytes ts p (Later q word) m w j e = no_size (is_a_size (with_guesses guess p) (Later q word) e)
+limit_refuses : (guess : Bool) (bytes : List ℕ) (ts : List Tok) (p : r.Program) (x : Refusal) → IsMeaningOf bytes ts p → KeepsTypes p → limit_of (with_guesses guess p) ≡ Some x → IsRefusedBy guess bytes x
+limit_refuses guess bytes ts p (Implementations n) m w e = (ts, p, m, w, e)
+limit_refuses guess bytes ts p (Candidates n) m w e = (ts, p, m, w, e)
+limit_refuses guess bytes ts p (Places n) m w e = (ts, p, m, w, e)
+limit_refuses guess bytes ts p (Bodies n) m w e = (ts, p, m, w, e)
+limit_refuses guess bytes ts p Expanded m w e = (ts, p, m, w, e)
+limit_refuses guess bytes ts p TooLong m w e = no_size (is_a_size (with_guesses guess p) TooLong e)
+limit_refuses guess bytes ts p (Bytes q f) m w e = no_size (is_a_size (with_guesses guess p) (Bytes q f) e)
+limit_refuses guess bytes ts p (Syntax q) m w e = no_size (is_a_size (with_guesses guess p) (Syntax q) e)
+limit_refuses guess bytes ts p Nesting m w e = no_size (is_a_size (with_guesses guess p) Nesting e)
+limit_refuses guess bytes ts p (Names f) m w e = no_size (is_a_size (with_guesses guess p) (Names f) e)
+limit_refuses guess bytes ts p (Types ds f) m w e = no_size (is_a_size (with_guesses guess p) (Types ds f) e)
 
 -- the same of an answer
-pub limit_is_refused : (guess : Bool) (bytes : List ℕ) (ts : List Tok) (p : r.Program) (e : ReadError) → IsMeaningOf bytes ts p → KeepsTypes p → AreJudged ts → IsLimitOf (with_guesses guess p) e → IsRefused guess bytes e
-limit_is_refused guess bytes ts p (errors.Refused e) m w j h = limit_refuses guess bytes ts p (refusal_of e) m w j h
-limit_is_refused guess bytes ts p errors.Memory m w j h = h
+pub limit_is_refused : (guess : Bool) (bytes : List ℕ) (ts : List Tok) (p : r.Program) (e : ReadError) → IsMeaningOf bytes ts p → KeepsTypes p → IsLimitOf (with_guesses guess p) e → IsRefused guess bytes e
+limit_is_refused guess bytes ts p (errors.Refused e) m w h = limit_refuses guess bytes ts p (refusal_of e) m w h
+limit_is_refused guess bytes ts p errors.Memory m w h = h
 
 -- neither too many of something nor too large, or the latter alone
 pub no_limit : (p : r.Program) → None ≡ too_many p → None ≡ too_large p → limit_of p ≡ None

@@ -1,4 +1,3 @@
-pub mod Firsts
 pub mod Guessing
 pub mod Large
 pub mod Lengths

@@ -8,7 +8,7 @@ use Rattle.bg_text.specs.Trees.{Decl}
 use Rattle.bg_text.specs.Declarations.{SpellsTree, SpellsTreeAt}
 use Rattle.bg_reader.specs.Told.{IsTooDeep}
 use Rattle.bg_parse.specs.Programs.{IsProgram, IsStopped}
-use Rattle.bg_front.specs.Refusals.{Refusal, TooLong, Bytes, Syntax, Nesting, Names, Types, Later, Implementations, Candidates, Places, Bodies, Expanded}
+use Rattle.bg_front.specs.Refusals.{Refusal, TooLong, Bytes, Syntax, Nesting, Names, Types, Implementations, Candidates, Places, Bodies, Expanded}
 use Rattle.bg_front.specs.Trees.{IsTreeOf, HasNoTree, position_of, end_of}
 
 -- what is known of tokens and trees
@@ -36,7 +36,6 @@ not_both k bytes ts ds Nesting a b =
 not_both k bytes ts ds TooLong a b = b
 not_both k bytes ts ds (Names f) a b = b
 not_both k bytes ts ds (Types xs f) a b = b
-not_both k bytes ts ds (Later p w) a b = b
 not_both k bytes ts ds (Implementations n) a b = b
 not_both k bytes ts ds (Candidates n) a b = b
 not_both k bytes ts ds (Places n) a b = b
@@ -63,7 +62,6 @@ one_refusal k bytes Nesting Nesting a b = refl
 one_refusal k bytes TooLong s a b = absurd a
 one_refusal k bytes (Names f) s a b = absurd a
 one_refusal k bytes (Types xs f) s a b = absurd a
-one_refusal k bytes (Later p v) s a b = absurd a
 one_refusal k bytes (Implementations m) s a b = absurd a
 one_refusal k bytes (Candidates m) s a b = absurd a
 one_refusal k bytes (Places m) s a b = absurd a
@@ -72,7 +70,6 @@ one_refusal k bytes Expanded s a b = absurd a
 one_refusal k bytes (Bytes p f) TooLong a b = absurd b
 one_refusal k bytes (Bytes p f) (Names g) a b = absurd b
 one_refusal k bytes (Bytes p f) (Types ys g) a b = absurd b
-one_refusal k bytes (Bytes p f) (Later q w) a b = absurd b
 one_refusal k bytes (Bytes p f) (Implementations n) a b = absurd b
 one_refusal k bytes (Bytes p f) (Candidates n) a b = absurd b
 one_refusal k bytes (Bytes p f) (Places n) a b = absurd b
@@ -81,7 +78,6 @@ one_refusal k bytes (Bytes p f) Expanded a b = absurd b
 one_refusal k bytes (Syntax p) TooLong a b = absurd b
 one_refusal k bytes (Syntax p) (Names g) a b = absurd b
 one_refusal k bytes (Syntax p) (Types ys g) a b = absurd b
-one_refusal k bytes (Syntax p) (Later q w) a b = absurd b
 one_refusal k bytes (Syntax p) (Implementations n) a b = absurd b
 one_refusal k bytes (Syntax p) (Candidates n) a b = absurd b
 one_refusal k bytes (Syntax p) (Places n) a b = absurd b
@@ -90,7 +86,6 @@ one_refusal k bytes (Syntax p) Expanded a b = absurd b
 one_refusal k bytes Nesting TooLong a b = absurd b
 one_refusal k bytes Nesting (Names g) a b = absurd b
 one_refusal k bytes Nesting (Types ys g) a b = absurd b
-one_refusal k bytes Nesting (Later q w) a b = absurd b
 one_refusal k bytes Nesting (Implementations n) a b = absurd b
 one_refusal k bytes Nesting (Candidates n) a b = absurd b
 one_refusal k bytes Nesting (Places n) a b = absurd b

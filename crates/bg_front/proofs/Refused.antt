@@ -1,6 +1,5 @@
 -- A text has one program, or one refusal.
 use Rattle.std.proofs.Common.{◌≡◌, ◌≤◌, ◌<◌, ℕ, Bool, List, length, Option, Some, None, refl, sym, ap, ◌∙◌, subst, arith}
-use Rattle.bg_base.specs.declared.pos.Pos.{Pos}
 use Rattle.bg_text.specs.Tokens.{Tok}
 use Rattle.bg_text.specs.Trees.{Decl}
 use Rattle.bg_ast.specs.Resolved as r
@@ -11,12 +10,10 @@ use Rattle.bg_resolve.proofs.Told.{one_told}
 use Rattle.bg_kinds.specs.Faults as t
 use Rattle.bg_types.specs.Verdicts.{IsWellTyped, IsFault}
 use Rattle.bg_typed.specs.Rules.{KeepsTypes}
-use Rattle.bg_front.specs.Later.{outside, AreJudged, IsUnjudged}
 use Rattle.bg_front.specs.Limits.{most_bytes}
-use Rattle.bg_front.specs.Refusals.{Refusal, TooLong, Bytes, Syntax, Nesting, Names, Types, Later, Implementations, Candidates, Places, Bodies, Expanded}
+use Rattle.bg_front.specs.Refusals.{Refusal, TooLong, Bytes, Syntax, Nesting, Names, Types, Implementations, Candidates, Places, Bodies, Expanded}
 use Rattle.bg_front.specs.Trees.{IsTreeOf, HasNoTree}
 use Rattle.bg_front.specs.Programs.{IsMeaningOf, IsProgramOf, ExceedsLimit, IsRefusedBy, limit_of, with_guesses}
-use Rattle.bg_front.proofs.Firsts.{one_unjudged, judged_not_unjudged}
 use Rattle.bg_front.proofs.Named.{AreNamed, are_named_in, is_named_in}
 use Rattle.bg_front.proofs.NameFaults.{named_no_fault}
 use Rattle.bg_front.proofs.Ones.{Known, one_tree, not_both, one_refusal}
@@ -26,8 +23,7 @@ use Rattle.bg_front.proofs.TypeFaults.{typed_no_fault, one_fault}
 data Rest (guess : Bool) (ts : List Tok) (ds : List Decl) (x : Refusal) : Type 0 where
   misnamed : (f : n.Fault) → IsToldFault ds f → x ≡ Names f → Rest guess ts ds x
   mistyped : (f : t.Fault) → AreNamed ds → IsFault (named ds) f → x ≡ Types (named ds).types f → Rest guess ts ds x
-  unjudged : (p : Pos) (w : List ℕ) → AreNamed ds → IsWellTyped (named ds) → IsUnjudged ts p w → x ≡ Later p w → Rest guess ts ds x
-  large : AreNamed ds → IsWellTyped (named ds) → AreJudged ts → limit_of (with_guesses guess (named ds)) ≡ Some x → Rest guess ts ds x
+  large : AreNamed ds → IsWellTyped (named ds) → limit_of (with_guesses guess (named ds)) ≡ Some x → Rest guess ts ds x
 
 data Why (guess : Bool) (bytes : List ℕ) (x : Refusal) : Type 0 where
   long : most_bytes < length bytes → x ≡ TooLong → Why guess bytes x
@@ -41,7 +37,7 @@ Fine = (p : r.Program) → KeepsTypes p → IsWellTyped p
 exceeded : (guess : Bool) → Fine → (bytes : List ℕ) (x : Refusal) → ExceedsLimit guess bytes x → Why guess bytes x
 exceeded guess fine bytes x h =
     let m : IsMeaningOf bytes h.0 h.1 = h.2 in
-    some m.short h.0 m.decls m.tree (large (are_named_in bytes h.0 h.1 m) (subst (λ (p : r.Program). IsWellTyped p) (is_named_in bytes h.0 h.1 m) (fine h.1 h.3)) h.4 (subst (λ (p : r.Program). limit_of (with_guesses guess p) ≡ Some x) (is_named_in bytes h.0 h.1 m) h.5))
+    some m.short h.0 m.decls m.tree (large (are_named_in bytes h.0 h.1 m) (subst (λ (p : r.Program). IsWellTyped p) (is_named_in bytes h.0 h.1 m) (fine h.1 h.3)) (subst (λ (p : r.Program). limit_of (with_guesses guess p) ≡ Some x) (is_named_in bytes h.0 h.1 m) h.4))
 
 why : (guess : Bool) → Fine → (bytes : List ℕ) (x : Refusal) → IsRefusedBy guess bytes x → Why guess bytes x
 why guess fine bytes TooLong h = long h refl
@@ -52,9 +48,6 @@ why guess fine bytes (Names f) h = some h.0 h.1 h.2 h.3 (misnamed f h.4 refl)
 why guess fine bytes (Types xs f) h =
     let m : IsMeaningOf bytes h.0 h.1 = h.2 in
     some m.short h.0 m.decls m.tree (mistyped f (are_named_in bytes h.0 h.1 m) (subst (λ (p : r.Program). IsFault p f) (is_named_in bytes h.0 h.1 m) h.3) (ap (λ (l : List r.TypeName). Types l f) (h.4 ∙ ap (λ (p : r.Program). p.types) (is_named_in bytes h.0 h.1 m))))
-why guess fine bytes (Later q w) h =
-    let m : IsMeaningOf bytes h.0 h.1 = h.2 in
-    some m.short h.0 m.decls m.tree (unjudged q w (are_named_in bytes h.0 h.1 m) (subst (λ (p : r.Program). IsWellTyped p) (is_named_in bytes h.0 h.1 m) (fine h.1 h.3)) h.4 refl)
 why guess fine bytes (Implementations c) h = exceeded guess fine bytes (Implementations c) h
 why guess fine bytes (Candidates c) h = exceeded guess fine bytes (Candidates c) h
 why guess fine bytes (Places c) h = exceeded guess fine bytes (Places c) h
@@ -71,11 +64,10 @@ one_program k guess bytes p q a b =
 no_limit : (o : Option Refusal) (x : Refusal) → o ≡ None → o ≡ Some x → ⊥
 no_limit o x h k = absurd (let e : None ≡ Some x = sym h ∙ k in cc)
 
-few_rest : (guess : Bool) (ts : List Tok) (ds : List Decl) (x : Refusal) → AreNamed ds → IsWellTyped (named ds) → AreJudged ts → limit_of (with_guesses guess (named ds)) ≡ None → Rest guess ts ds x → ⊥
-few_rest guess ts ds x a b c d (misnamed f h e) = named_no_fault ds f a h
-few_rest guess ts ds x a b c d (mistyped f n h e) = typed_no_fault (named ds) f b h
-few_rest guess ts ds x a b c d (unjudged p w n t h e) = judged_not_unjudged outside ts p w c h
-few_rest guess ts ds x a b c d (large n w j h) = no_limit (limit_of (with_guesses guess (named ds))) x d h
+few_rest : (guess : Bool) (ts : List Tok) (ds : List Decl) (x : Refusal) → AreNamed ds → IsWellTyped (named ds) → limit_of (with_guesses guess (named ds)) ≡ None → Rest guess ts ds x → ⊥
+few_rest guess ts ds x a b d (misnamed f h e) = named_no_fault ds f a h
+few_rest guess ts ds x a b d (mistyped f n h e) = typed_no_fault (named ds) f b h
+few_rest guess ts ds x a b d (large n w h) = no_limit (limit_of (with_guesses guess (named ds))) x d h
 
 no_reason : Known → Fine → (guess : Bool) (bytes : List ℕ) (p : r.Program) (x : Refusal) → IsProgramOf guess bytes p → Why guess bytes x → ⊥
 no_reason k fine guess bytes p x a (long l e) = omega (arith, l, a.spelled.short)
@@ -86,7 +78,6 @@ no_reason k fine guess bytes p x a (some l ts ds tree h) =
     few_rest guess ts ds x
     (subst (λ (d : List Decl). AreNamed d) (sym e.1) (are_named_in bytes a.tokens a.written a.spelled))
     (fine (named ds) (subst (λ (q : r.Program). KeepsTypes q) meant a.typed))
-    (subst (λ (t : List Tok). AreJudged t) (sym e.0) a.judged)
     (subst (λ (q : r.Program). limit_of q ≡ None) (a.is ∙ ap (with_guesses guess) meant) a.within)
     h
 
@@ -94,9 +85,6 @@ pub program_not_refused : Known → Fine → (guess : Bool) (bytes : List ℕ) (
 program_not_refused k fine guess bytes p x a b = no_reason k fine guess bytes p x a (why guess fine bytes x b)
 
 -- ---- refusals
-later_alike : (p q : Pos) (v w : List ℕ) → (p ≡ q) × (v ≡ w) → Later p v ≡ Later q w
-later_alike p q v w e = ap (λ (x : Pos). Later x v) e.0 ∙ ap (λ (x : List ℕ). Later q x) e.1
-
 one_limit : (o : Option Refusal) (x y : Refusal) → o ≡ Some x → o ≡ Some y → x ≡ y
 one_limit o x y h k = let e : Some x ≡ Some y = sym h ∙ k in cc
 
@@ -107,22 +95,14 @@ through x y u v h k e = h ∙ (e ∙ sym k)
 rest_alike : (guess : Bool) (ts : List Tok) (ds : List Decl) (x y : Refusal) → Rest guess ts ds x → Rest guess ts ds y → x ≡ y
 rest_alike guess ts ds x y (misnamed f a e) (misnamed g b h) = through x y (Names f) (Names g) e h (ap Names (one_told ds f g a b))
 rest_alike guess ts ds x y (misnamed f a e) (mistyped g n b h) = absurd (named_no_fault ds f n a)
-rest_alike guess ts ds x y (misnamed f a e) (unjudged q w n t b h) = absurd (named_no_fault ds f n a)
-rest_alike guess ts ds x y (misnamed f a e) (large n t j h) = absurd (named_no_fault ds f n a)
+rest_alike guess ts ds x y (misnamed f a e) (large n t h) = absurd (named_no_fault ds f n a)
 rest_alike guess ts ds x y (mistyped f m a e) (misnamed g b h) = absurd (named_no_fault ds g m b)
 rest_alike guess ts ds x y (mistyped f m a e) (mistyped g n b h) =
     through x y _ _ e h (ap (λ (z : t.Fault). Types (named ds).types z) (one_fault (named ds) f g a b))
-rest_alike guess ts ds x y (mistyped f m a e) (unjudged q w n t b h) = absurd (typed_no_fault (named ds) f t a)
-rest_alike guess ts ds x y (mistyped f m a e) (large n t j h) = absurd (typed_no_fault (named ds) f t a)
-rest_alike guess ts ds x y (unjudged p v m s a e) (misnamed g b h) = absurd (named_no_fault ds g m b)
-rest_alike guess ts ds x y (unjudged p v m s a e) (mistyped g n b h) = absurd (typed_no_fault (named ds) g s b)
-rest_alike guess ts ds x y (unjudged p v m s a e) (unjudged q w n t b h) =
-    through x y (Later p v) (Later q w) e h (later_alike p q v w (one_unjudged outside ts p q v w a b))
-rest_alike guess ts ds x y (unjudged p v m s a e) (large n t j h) = absurd (judged_not_unjudged outside ts p v j a)
-rest_alike guess ts ds x y (large m s i e) (misnamed g b h) = absurd (named_no_fault ds g m b)
-rest_alike guess ts ds x y (large m s i e) (mistyped g n b h) = absurd (typed_no_fault (named ds) g s b)
-rest_alike guess ts ds x y (large m s i e) (unjudged q w n t b h) = absurd (judged_not_unjudged outside ts q w i b)
-rest_alike guess ts ds x y (large m s i e) (large n t j h) = one_limit (limit_of (with_guesses guess (named ds))) x y e h
+rest_alike guess ts ds x y (mistyped f m a e) (large n t h) = absurd (typed_no_fault (named ds) f t a)
+rest_alike guess ts ds x y (large m s e) (misnamed g b h) = absurd (named_no_fault ds g m b)
+rest_alike guess ts ds x y (large m s e) (mistyped g n b h) = absurd (typed_no_fault (named ds) g s b)
+rest_alike guess ts ds x y (large m s e) (large n t h) = one_limit (limit_of (with_guesses guess (named ds))) x y e h
 
 alike : Known → (guess : Bool) (bytes : List ℕ) (x y : Refusal) → Why guess bytes x → Why guess bytes y → x ≡ y
 alike k guess bytes x y (long l e) (long m f) = e ∙ sym f

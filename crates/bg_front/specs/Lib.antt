@@ -1,4 +1,3 @@
-pub mod Later
 pub mod Limits
 pub mod Refusals
 pub mod Lines

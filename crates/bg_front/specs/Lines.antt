@@ -9,7 +9,7 @@ use Rattle.bg_names.specs.declared.error.FaultKind.TheVariants as kinds
 use Rattle.bg_kinds.specs.Faults as types
 use Rattle.bg_kinds.specs.Texts.{type_text}
 use Rattle.bg_front.specs.Limits.{most_bytes}
-use Rattle.bg_front.specs.Refusals.{Refusal, TooLong, Bytes, Syntax, Nesting, Names, Types, Later, Implementations, Candidates, Places, Bodies, Expanded}
+use Rattle.bg_front.specs.Refusals.{Refusal, TooLong, Bytes, Syntax, Nesting, Names, Types, Implementations, Candidates, Places, Bodies, Expanded}
 use Rattle.bg_places.specs.Counts.{most_expanded}
 
 -- line and column
@@ -67,7 +67,6 @@ line_of (Syntax p) = fault_line p (codes "syntax")
 line_of Nesting = limit_line (codes "nesting") 201
 line_of (Names f) = fault_line f.pos (name_words f.kind f.name)
 line_of (Types ds f) = fault_line (types.position_of f) (type_words ds f)
-line_of (Later p word) = fault_line p (codes "unsupported " ++ word)
 line_of (Implementations n) = limit_line (codes "implementations") n
 line_of (Candidates n) = limit_line (codes "candidates") n
 line_of (Places n) = limit_line (codes "places") n

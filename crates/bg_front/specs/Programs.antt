@@ -11,7 +11,6 @@ use Rattle.bg_meant.specs.Declared.{MeansProgram}
 use Rattle.bg_types.specs.Verdicts.{IsFault}
 use Rattle.bg_typed.specs.Rules.{KeepsTypes}
 use Rattle.bg_guess.specs.Guessed.{guessed}
-use Rattle.bg_front.specs.Later.{AreJudged, IsUnjudged}
 use Rattle.bg_front.specs.Limits.{most_bytes, most_implementations, most_candidates}
 use Rattle.bg_front.specs.Refusals as f
 use Rattle.bg_front.specs.Refusals.{refusal_of}
@@ -69,14 +68,13 @@ abbrev pub with_guesses : Bool → r.Program → r.Program
 with_guesses false p = p
 with_guesses true p = guessed p
 
--- the bytes spell a program that keeps the rules of types, and each of its tokens is judged; this is the program, with its guesses where
--- these are asked for, and it exceeds no limit
+-- the bytes spell a program that keeps the rules of types; this is the program, with its guesses where these are asked for, and it exceeds
+-- no limit
 pub record IsProgramOf (guess : Bool) (bytes : List ℕ) (program : r.Program) : Type 0 where
   pub tokens : List Tok
   pub written : r.Program
   pub spelled : IsMeaningOf bytes tokens written
   pub typed : KeepsTypes written
-  pub judged : AreJudged tokens
   pub is : program ≡ with_guesses guess written
   pub within : limit_of program ≡ None
 
@@ -84,17 +82,16 @@ pub record IsProgramOf (guess : Bool) (bytes : List ℕ) (program : r.Program) :
 abbrev pub IsProgramFrom : Bool → List ℕ → List Decl → r.Program → Type 0
 IsProgramFrom guess bytes decls program = (p : IsProgramOf guess bytes program) × (p.spelled.decls ≡ decls)
 
--- the bytes spell a program that is typed and judged, and exceeds this limit first, with its guesses where these are asked for
+-- the bytes spell a program that is typed, and exceeds this limit first, with its guesses where these are asked for
 abbrev pub ExceedsLimit : Bool → List ℕ → f.Refusal → Type 0
 ExceedsLimit guess bytes limit =
-    (ts : List Tok) × (p : r.Program) × IsMeaningOf bytes ts p × KeepsTypes p × AreJudged ts × (limit_of (with_guesses guess p) ≡ Some limit)
+    (ts : List Tok) × (p : r.Program) × IsMeaningOf bytes ts p × KeepsTypes p × (limit_of (with_guesses guess p) ≡ Some limit)
 
 -- why a text has no program; each reason stands only where none before it does, and limits alone look at guesses
 abbrev pub IsRefusedBy : Bool → List ℕ → f.Refusal → Type 0
 IsRefusedBy guess bytes f.TooLong = most_bytes < length bytes
 IsRefusedBy guess bytes (f.Names fault) = (length bytes ≤ most_bytes) × (ts : List Tok) × (ds : List Decl) × IsTreeOf bytes ts ds × IsToldFault ds fault
 IsRefusedBy guess bytes (f.Types ds fault) = (ts : List Tok) × (p : r.Program) × IsMeaningOf bytes ts p × IsFault p fault × (ds ≡ p.types)
-IsRefusedBy guess bytes (f.Later pos word) = (ts : List Tok) × (p : r.Program) × IsMeaningOf bytes ts p × KeepsTypes p × IsUnjudged ts pos word
 IsRefusedBy guess bytes (f.Implementations n) = ExceedsLimit guess bytes (f.Implementations n)
 IsRefusedBy guess bytes (f.Candidates n) = ExceedsLimit guess bytes (f.Candidates n)
 IsRefusedBy guess bytes (f.Places n) = ExceedsLimit guess bytes (f.Places n)

@@ -20,7 +20,6 @@ pub data Refusal : Type 0 where
   Nesting : Refusal
   Names : names.Fault → Refusal
   Types : List r.TypeName → types.Fault → Refusal
-  Later : Pos → List ℕ → Refusal
   Implementations : ℕ → Refusal
   Candidates : ℕ → Refusal
   Places : ℕ → Refusal
@@ -46,7 +45,6 @@ refusal_of (codes_.Syntax p) = Syntax p
 refusal_of codes_.Nesting = Nesting
 refusal_of (codes_.Names f) = Names (resolves.fault_of f)
 refusal_of (codes_.Types f) = Types (map type_name_of f.types.items) (answered f.fault)
-refusal_of (codes_.Later p word) = Later p word.now
 refusal_of (codes_.Implementations n) = Implementations n
 refusal_of (codes_.Candidates n) = Candidates n
 refusal_of (codes_.Places n) = Places n

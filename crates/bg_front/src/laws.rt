@@ -1,6 +1,5 @@
 //! What holds of all texts.
 ghost use Rattle.std.specs.Prelude.{◌≡◌, ℕ, Bool, List};
-ghost use Rattle.bg_base.specs.declared.pos.Pos as place;
 ghost use Rattle.bg_text.specs.Tokens.{Tok};
 ghost use Rattle.bg_text.specs.Trees.{Decl};
 ghost use Rattle.bg_ast.specs.Resolved.{Program};
@@ -8,17 +7,10 @@ ghost use Rattle.bg_ast.specs.Meaning.{meaning_of};
 ghost use Rattle.bg_sense.specs.Typed.{IsTyped};
 ghost use Rattle.bg_sense.specs.Recursion.{HasNoRecursion};
 ghost use Rattle.bg_sense.specs.Resolved.{IsResolved};
-ghost use Rattle.bg_front.specs.Later.{AreJudged, IsUnjudged};
 ghost use Rattle.bg_resolve.specs.Program.{named};
 ghost use Rattle.bg_front.specs.Programs.{IsProgramFrom, IsProgramOf, IsRefusedBy, with_guesses};
 ghost use Rattle.bg_front.specs.Refusals.{Refusal};
 ghost use Rattle.bg_front.specs.Trees.{IsTreeOf, HasNoTree};
-
-/// Tokens that aren't judged have one first, and none where all are judged.
-pub fn there_is_one_first_unjudged()
-    ensures one { (ts : List Tok) (p q : place.Pos) (w x : List ℕ) → IsUnjudged ts p w → IsUnjudged ts q x → (p ≡ q) × (w ≡ x) }
-    ensures none { (ts : List Tok) (p : place.Pos) (w : List ℕ) → AreJudged ts → IsUnjudged ts p w → ⊥ }
-{}
 
 /// A text has one tree, or it is refused for one reason, and never both.
 pub fn a_text_has_one_tree_or_one_refusal()

@@ -2,7 +2,6 @@
 #![tactic(auto)]
 
 mod faults;
-mod later;
 pub mod laws;
 mod limits;
 mod lines;
@@ -11,7 +10,6 @@ mod sizes;
 mod text;
 mod tree;
 
-pub use later::first_unjudged;
 pub use limits::{MOST_BYTES, MOST_CANDIDATES, MOST_IMPLEMENTATIONS};
 pub use refusal::{ReadError, Refusal};
 pub use text::{Written, read_program, read_text};

@@ -5,7 +5,7 @@ ghost use Rattle.bg_front.specs.Refusals.{refusal_of, is_limit};
 
 use crate::faults::{put_bytes, put_name, put_type};
 use crate::limits::MOST_BYTES;
-use crate::lines::{put_fault, put_limit, put_named};
+use crate::lines::{put_fault, put_limit};
 use bg_base::Pos;
 use bg_lex::Fault;
 use bg_places::MOST_EXPANDED;
@@ -28,8 +28,6 @@ pub enum Refusal<'a> {
     Names(NameFault),
     /// A rule of types is broken.
     Types(TypeRefusal),
-    /// The token at this position, with this word, isn't judged yet, or not in this declaration.
-    Later(Pos, &'a [u8]),
     /// There are so many implementations, more than `MOST_IMPLEMENTATIONS`.
     Implementations(usize),
     /// There are so many candidates, more than `MOST_CANDIDATES`.
@@ -79,7 +77,6 @@ impl<'a> Refusal<'a> {
             Refusal::Nesting => put_limit(out, b"nesting", 201),
             Refusal::Names(fault) => put_name(out, fault.kind, fault.pos, &fault.name),
             Refusal::Types(refusal) => put_type(out, &refusal.types, &refusal.fault),
-            Refusal::Later(pos, word) => put_named(out, *pos, b"unsupported ", *word),
             Refusal::Implementations(count) => put_limit(out, b"implementations", *count),
             Refusal::Candidates(count) => put_limit(out, b"candidates", *count),
             Refusal::Places(count) => put_limit(out, b"places", *count),

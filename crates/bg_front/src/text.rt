@@ -4,12 +4,10 @@ ghost use Rattle.bg_text.specs.Tokens.{views};
 ghost use Rattle.bg_text.specs.Views.{decls_of};
 ghost use Rattle.bg_ast.specs.Views.{program_of};
 ghost use Rattle.bg_typed.specs.Rules.{KeepsTypes};
-ghost use Rattle.bg_front.specs.Later.{AreJudged};
 ghost use Rattle.bg_front.specs.Limits.{most_bytes};
 ghost use Rattle.bg_front.specs.Programs.{IsMeaningFrom, IsProgramFrom, IsProgramOf, IsRefused};
 ghost use Rattle.bg_front.specs.Trees.{IsTreeOf};
 
-use crate::later::first_unjudged;
 use crate::limits::MOST_BYTES;
 use crate::refusal::{ReadError, Refusal};
 use crate::sizes::within_limits;
@@ -89,32 +87,11 @@ fn counted<'a>(
 ) -> Result<Typed, ReadError<'a>>
     requires meant { IsMeaningFrom bytes.now (views tokens.now) (decls_of decls.now) (program_of typed.program) }
     requires typed { KeepsTypes (program_of typed.program) }
-    requires judged { AreJudged (views tokens.now) }
     ensures program { IfOk result (λ t. IsProgramFrom guess bytes.now (decls_of decls.now) (program_of t.program)) }
     ensures refused { IfErr result (λ e. IsRefused guess bytes.now e) }
 {
     let program = within_limits(alloc, typed.program, guess)?;
     Ok(Typed { program })
-}
-
-/// The same, where each token is judged.
-fn judged<'a>(
-    alloc: Global,
-    bytes: &'a [u8],
-    tokens: &[Token<'a>],
-    decls: &[Decl],
-    typed: Typed,
-    guess: bool,
-) -> Result<Typed, ReadError<'a>>
-    requires meant { IsMeaningFrom bytes.now (views tokens.now) (decls_of decls.now) (program_of typed.program) }
-    requires typed { KeepsTypes (program_of typed.program) }
-    ensures program { IfOk result (λ t. IsProgramFrom guess bytes.now (decls_of decls.now) (program_of t.program)) }
-    ensures refused { IfErr result (λ e. IsRefused guess bytes.now e) }
-{
-    if let Some((pos, word)) = first_unjudged(tokens) {
-        return Err(ReadError::Refused(Refusal::Later(pos, word)));
-    }
-    counted(alloc, bytes, tokens, decls, typed, guess)
 }
 
 /// The tree of a text, and its program, with its guesses where these are asked for.
@@ -129,7 +106,7 @@ pub struct Written {
 /// # Errors
 /// `Refused` with the first of these that holds: there are too many bytes (`TooLong`); the bytes hold no tokens (`Bytes`);
 /// the tokens spell no program (`Syntax`) or open a 201st bracket (`Nesting`), whichever comes first; a rule of names
-/// (`Names`) or of types (`Types`) is broken; a token isn't judged yet (`Later`); there are too many implementations
+/// (`Names`) or of types (`Types`) is broken; there are too many implementations
 /// (`Implementations`) or candidates (`Candidates`), the guesses that are asked for among them and counted before they are
 /// made; an implementation has with them too many places (`Places`), a chain of functions too many bodies (`Bodies`), or the
 /// axioms together or an implementation, with bodies in the place of applications, too many expression nodes (`Expanded`).
@@ -141,7 +118,7 @@ pub fn read_text<'a>(alloc: Global, bytes: &'a [u8], guess: bool) -> Result<Writ
     let read = read(alloc, bytes)?;
     let program = meaning(alloc, bytes, &read.tokens, &read.tree.decls)?;
     let typed = typed(alloc, bytes, &read.tokens, &read.tree.decls, program)?;
-    let made = judged(alloc, bytes, &read.tokens, &read.tree.decls, typed, guess)?;
+    let made = counted(alloc, bytes, &read.tokens, &read.tree.decls, typed, guess)?;
     Ok(Written {
         tree: read.tree,
         typed: made,

@@ -1,7 +1,7 @@
 -- A program without its last candidates: the clauses that they guard at procedures and at loops are left out.
 use Rattle.std.specs.Prelude.{ℕ, Bool, map, filter, take}
 use Rattle.bg_ast.specs.Resolved as r
-use Rattle.bg_fits.specs.Scalars.{is_declared}
+use Rattle.bg_fits.specs.Valued.{is_declared}
 
 -- whether a clause has none of the candidates behind the first n
 abbrev pub is_own : ℕ → r.Clause → Bool

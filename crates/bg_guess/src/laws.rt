@@ -4,7 +4,7 @@ ghost use Rattle.bg_ast.specs.Resolved.{Program};
 ghost use Rattle.bg_ast.specs.Meaning.{meaning_of};
 ghost use Rattle.bg_sense.specs.Typed.{IsTyped};
 ghost use Rattle.bg_sense.specs.Resolved.{IsResolved};
-ghost use Rattle.bg_fits.specs.Scalars.{is_over_scalars};
+ghost use Rattle.bg_fits.specs.Valued.{is_over_values};
 ghost use Rattle.bg_sense.specs.Variables.{count_from};
 ghost use Rattle.bg_guess.specs.Guessed.{guess_count, guessed};
 ghost use Rattle.bg_guess.specs.Erased.{erased};
@@ -20,9 +20,9 @@ pub fn guesses_are_resolved()
     ensures { (p : Program) → IsResolved (meaning_of p) → IsResolved (meaning_of (guessed p)) }
 {}
 
-/// A resolved program over truth values, whole numbers and elements of user types stays one with its guesses.
-pub fn guesses_are_over_scalars()
-    ensures { (p : Program) → IsResolved (meaning_of p) → is_over_scalars true (meaning_of p) ≡ true → is_over_scalars true (meaning_of (guessed p)) ≡ true }
+/// A resolved program over values stays one with its guesses.
+pub fn guesses_are_over_values()
+    ensures { (p : Program) → IsResolved (meaning_of p) → is_over_values (meaning_of p) ≡ true → is_over_values (meaning_of (guessed p)) ≡ true }
 {}
 
 /// Without the candidates that it has behind its own, and their clauses, a resolved program with its guesses is what it was.

@@ -6,6 +6,7 @@ use denote.Struct.Tuple.{TupleAt}
 use denote.Struct.Field.{shr_ref_field, shr_slice_field, bool-field}
 use denote.Param.Send.{IsSync, IsSend, sendable}
 use Rattle.std.proofs.Crossing as std
+use Rattle.std.proofs.MapsCrossing as maps
 use Rattle.std.proofs.option.Option.TheSendSync as option
 use Rattle.std.proofs.vec.Vec.TheSendSync as vec
 use Rattle.std.specs.contracts.alloc.Global as heap
@@ -58,6 +59,19 @@ use Rattle.bg_incarnate.specs.contracts.blocks.PassiveCmd as passive_cmd
 use Rattle.bg_incarnate.specs.contracts.blocks.Edge as edge
 use Rattle.bg_incarnate.specs.contracts.blocks.PassiveBlock as passive_block
 use Rattle.bg_task.specs.contracts.prepared.Prepared as prepared
+use Rattle.bg_scalar.proofs.value.Value.TheLaws.TheKnot as knot_value
+use Rattle.bg_scalar.specs.contracts.value.Value as value
+use Rattle.bg_scalar.specs.contracts.table.Table as table
+use Rattle.bg_scalar.specs.contracts.choice.Choice as choice
+use Rattle.bg_cert.specs.contracts.cert.Cert as cert
+use Rattle.bg_tree.specs.contracts.outcome.Leaf as leaf
+use Rattle.bg_tree.specs.contracts.outcome.Why as why
+use Rattle.bg_model.specs.contracts.failure.Counterexample as counterexample
+use Rattle.bg_check.specs.contracts.verdict.Round as round
+use Rattle.bg_check.specs.contracts.verdict.Cause as cause
+use Rattle.bg_check.specs.contracts.verdict.Verdict as verdict
+use Rattle.bg_check.specs.contracts.verdict.Judged as judged
+use Rattle.bg_houdini.specs.contracts.reason.Reason as reason
 use Rattle.bg_houdini.specs.contracts.judging.Judging as judging
 
 pub ruleset parts = (pos.the_field_sync, pos.the_sync, cand.the_field_sync, cand.the_sync, name.the_field_sync, name.the_sync, placed.the_field_sync, placed.the_sync, option.the_sync, vec.the_sync, global.the_sync, std.crosses, sendable)
@@ -163,7 +177,7 @@ passive_block_sync : IsSync passive_block.the_row
 passive_block_sync = search (passive_cmd_sync, edge_sync, parts) depth 60 fits 20000
 
 pub prepared_sync : (a : NamedLft) → IsSync (prepared.the_row a)
-prepared_sync a = search (block_sync, term_sync, passive_block_sync, kind_sync, sort.the_sync, atoms_field, parts) depth 60 fits 20000
+prepared_sync a = search (block_sync, term_sync, passive_block_sync, kind_sync, sort.the_sync, atoms_field, maps.BTreeMap-sync, parts) depth 60 fits 20000
 
 pub judging_sync : (a : NamedLft) → IsSync (judging.the_row a)
 judging_sync a = search (resolved_sync, prepared_sync, place.the_sync, budget.the_field_sync, parts) depth 60 fits 20000
@@ -228,8 +242,48 @@ passive_block_send : IsSend passive_block.the_row
 passive_block_send = search (passive_cmd_send, edge_send, leaving) depth 60 fits 20000
 
 pub prepared_send : (a : NamedLft) → IsSend (prepared.the_row a)
-prepared_send a = search (block_send, term_send, passive_block_send, kind_send, sort.the_send, atoms_send, leaving) depth 60 fits 20000
+prepared_send a = search (block_send, term_send, passive_block_send, kind_send, sort.the_send, atoms_send, maps.BTreeMap-send, leaving) depth 60 fits 20000
 
 -- what the closure captures that prepares a piece
 pub preparing_sync : (name : List ℕ) (a b c : NamedLft) → IsSync (TupleAt name ((shr_ref_field a heap.the_row tt).row ∷ (shr_ref_field b resolved.the_row tt).row ∷ (shr_slice_field c (vec_row.the_row variable_row.the_row heap.the_row ghosts) tt).row ∷ []))
 preparing_sync name a b c = search (resolved_sync, variable.the_sync, parts) depth 60 fits 20000
+
+-- what a thread that judges has found may leave it
+value_send : IsSend value.the_row
+value_send = search (knot_value.crosses, leaving) depth 60 fits 20000
+
+value_field_send : IsSend (value.the_field).row
+value_field_send = search (knot_value.crosses, leaving) depth 60 fits 20000
+
+table_send : IsSend table.the_row
+table_send = search (value_send, value_field_send, maps.crosses, leaving) depth 60 fits 20000
+
+choice_send : IsSend choice.the_row
+choice_send = search (value_field_send, leaving) depth 60 fits 20000
+
+counterexample_send : IsSend (counterexample.the_field).row
+counterexample_send = search (table_send, value_send, kind_send, choice_send, leaving) depth 60 fits 20000
+
+cert_send : IsSend (cert.the_field).row
+cert_send = search (leaving) depth 60 fits 20000
+
+leaf_send : IsSend (leaf.the_field).row
+leaf_send = search (leaving) depth 60 fits 20000
+
+why_send : IsSend (why.the_field).row
+why_send = search (leaving) depth 60 fits 20000
+
+round_send : IsSend round.the_row
+round_send = search (leaf_send, leaving) depth 60 fits 20000
+
+cause_send : IsSend (cause.the_field).row
+cause_send = search (why_send, leaf_send, counterexample_send, leaving) depth 60 fits 20000
+
+verdict_send : IsSend (verdict.the_field).row
+verdict_send = search (cert_send, counterexample_send, round_send, cause_send, leaving) depth 60 fits 20000
+
+pub judged_send : IsSend judged.the_row
+judged_send = search (place.the_field_send, verdict_send, leaving) depth 60 fits 20000
+
+pub reason_send : IsSend reason.the_row
+reason_send = search (counterexample_send, round_send, cause_send, leaving) depth 60 fits 20000

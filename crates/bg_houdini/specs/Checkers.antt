@@ -8,7 +8,7 @@ use Rattle.bg_sense.specs.Typed.{IsTyped}
 use Rattle.bg_sense.specs.Resolved.{IsResolved}
 use Rattle.bg_core.specs.Inductive.{Candidates, Subset}
 use Rattle.bg_tree.specs.declared.outcome.Budget.{Budget}
-use Rattle.bg_fits.specs.Scalars.{is_over_scalars}
+use Rattle.bg_fits.specs.Valued.{is_over_values}
 use Rattle.bg_places.specs.Placed.{place_in}
 use Rattle.bg_places.specs.Views.{placed_in}
 use Rattle.bg_task.specs.declared.prepared.Prepared.{Prepared}
@@ -49,11 +49,11 @@ pub record Owes (budget : Budget) (p : Prog) : Type 0 where
   pub passing : (k : ℕ) (used set : Candidates) (proof : Proof) → TaskPasses p k used proof → Subset used set → TaskFails p k set → ⊥
   pub failing : (k : ℕ) (set : Candidates) (reason : Reason) → TaskFinds budget p k set false reason → TaskFails p k set
 
--- a typed program over scalars with numbers of its own, each implementation prepared, the tasks in order, and how
+-- a typed program over values with numbers of its own, each implementation prepared, the tasks in order, and how
 -- many candidates there are; with what is owed, which is so for each such program
 pub record IsJudging (j : Judging) : Type 0 where
   pub typed : IsTyped (meaning_in j)
-  pub scalars : is_over_scalars true (meaning_in j) ≡ true
+  pub scalars : is_over_values (meaning_in j) ≡ true
   pub resolved : IsResolved (meaning_in j)
   pub prepared : ArePrepared (program_in j) (length (program_in j).implementations) j.prepared.items
   pub tasks_are : map place_in (placed_in j.tasks.items) ≡ tasks_of (meaning_in j)

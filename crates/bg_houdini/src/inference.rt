@@ -4,7 +4,7 @@ ghost use Rattle.bg_ast.specs.Meaning.{meaning_of};
 ghost use Rattle.bg_ast.specs.Views.{program_of};
 ghost use Rattle.bg_sense.specs.Typed.{IsTyped};
 ghost use Rattle.bg_sense.specs.Resolved.{IsResolved};
-ghost use Rattle.bg_fits.specs.Scalars.{is_over_scalars};
+ghost use Rattle.bg_fits.specs.Valued.{is_over_values};
 ghost use Rattle.bg_houdini.specs.Outcomes.{IsTrueOutcome};
 
 use crate::Outcome;
@@ -13,7 +13,7 @@ use crate::ordinary::judge_all;
 use bg_ast::resolved::Resolved;
 use bg_blocks::callees_of;
 use bg_claims::Gate;
-use bg_faithful::laws::tables_meet_programs_over_scalars;
+use bg_faithful::laws::tables_meet_programs_over_values;
 use bg_tree::Budget;
 use std::alloc::{AllocError, Global};
 use std::thread::Threads;
@@ -35,12 +35,12 @@ pub fn infer<R: Threads + Sync, G: Gate>(
     gate: &G,
 ) -> Result<Outcome, AllocError>
     requires typed { IsTyped (meaning_of (program_of program.now)) }
-    requires scalars { is_over_scalars true (meaning_of (program_of program.now)) ≡ true }
+    requires scalars { is_over_values (meaning_of (program_of program.now)) ≡ true }
     requires resolved { IsResolved (meaning_of (program_of program.now)) }
     requires workers { (0 < workers) × (workers ≤ 16) }
     ensures { IfOk result (IsTrueOutcome budget (program_of program.now)) }
 {
-    tables_meet_programs_over_scalars();
+    tables_meet_programs_over_values();
     let callees = callees_of(alloc, program)?;
     let checker = checker_of(rt, alloc, program, &callees, budget, workers)?;
     let inferred = bg_rounds::infer(rt, alloc, &checker, gate, workers)?;

@@ -7,7 +7,7 @@ ghost use Rattle.bg_sense.specs.Resolved.{IsResolved};
 ghost use Rattle.bg_ast.specs.Execution.{Place};
 ghost use Rattle.bg_sense.specs.Places.{places};
 ghost use Rattle.bg_sense.specs.Claims.{Inductive, Greatest};
-ghost use Rattle.bg_fits.specs.Scalars.{is_over_scalars};
+ghost use Rattle.bg_fits.specs.Valued.{is_over_values};
 ghost use Rattle.bg_words.specs.Sets.{has};
 ghost use Rattle.bg_tree.specs.declared.outcome.Budget.{Budget};
 ghost use Rattle.bg_sound.specs.Told.{Why};
@@ -33,7 +33,7 @@ pub fn retained_places_have_certificates()
 
 /// The retained set of a true outcome is inductive: no place of a candidate in it fails under it.
 pub fn retained_is_inductive()
-    ensures { (budget : Budget) (p : Program) (o : Outcome) → IsTyped (meaning_of p) → is_over_scalars true (meaning_of p) ≡ true →
+    ensures { (budget : Budget) (p : Program) (o : Outcome) → IsTyped (meaning_of p) → is_over_values (meaning_of p) ≡ true →
         IsTrueOutcome budget p o → Inductive (meaning_of p) (has o.inferred.retained) }
 {
     proved_places_do_not_fail()
@@ -41,7 +41,7 @@ pub fn retained_is_inductive()
 
 /// Where no drop was unknown, it is the greatest inductive set of the program's candidates.
 pub fn retained_is_greatest()
-    ensures { (budget : Budget) (p : Program) (o : Outcome) → IsTyped (meaning_of p) → is_over_scalars true (meaning_of p) ≡ true → IsResolved (meaning_of p) →
+    ensures { (budget : Budget) (p : Program) (o : Outcome) → IsTyped (meaning_of p) → is_over_values (meaning_of p) ≡ true → IsResolved (meaning_of p) →
         IsTrueOutcome budget p o → NoneUnknown o.inferred → Greatest (meaning_of p) (has o.inferred.retained) }
 {
     proved_places_do_not_fail()
@@ -49,7 +49,7 @@ pub fn retained_is_greatest()
 
 /// Two true outcomes of one program without unknown drops retain the same set, whatever their budgets, workers and schedules.
 pub fn outcomes_agree()
-    ensures { (budget other : Budget) (p : Program) (o q : Outcome) → IsTyped (meaning_of p) → is_over_scalars true (meaning_of p) ≡ true → IsResolved (meaning_of p) →
+    ensures { (budget other : Budget) (p : Program) (o q : Outcome) → IsTyped (meaning_of p) → is_over_values (meaning_of p) ≡ true → IsResolved (meaning_of p) →
         IsTrueOutcome budget p o → IsTrueOutcome other p q → NoneUnknown o.inferred → NoneUnknown q.inferred → o.inferred.retained ≡ q.inferred.retained }
 {
     proved_places_do_not_fail()
@@ -57,7 +57,7 @@ pub fn outcomes_agree()
 
 /// What a report tells of a true outcome is true, whatever words it has for causes.
 pub fn true_outcomes_are_sound()
-    ensures { (budget : Budget) (p : Program) (o : Outcome) (words : ℕ → Cause → Why) → IsTyped (meaning_of p) → is_over_scalars true (meaning_of p) ≡ true → IsResolved (meaning_of p) →
+    ensures { (budget : Budget) (p : Program) (o : Outcome) (words : ℕ → Cause → Why) → IsTyped (meaning_of p) → is_over_values (meaning_of p) ≡ true → IsResolved (meaning_of p) →
         IsTrueOutcome budget p o → IsSound p (outcome_of words (meaning_of p) o) }
 {
     proved_places_do_not_fail();

@@ -5,7 +5,7 @@ ghost use Rattle.bg_ast.specs.Views.{program_of};
 ghost use Rattle.bg_sense.specs.Typed.{IsTyped};
 ghost use Rattle.bg_sense.specs.Resolved.{IsResolved};
 ghost use Rattle.bg_blocks.specs.Callees.{IsModified};
-ghost use Rattle.bg_fits.specs.Scalars.{is_over_scalars};
+ghost use Rattle.bg_fits.specs.Valued.{is_over_values};
 ghost use Rattle.bg_places.specs.Placed.{place_in};
 ghost use Rattle.bg_places.specs.Views.{placed_in};
 ghost use Rattle.bg_houdini.specs.Tasks.{has_candidate, tasks_of};
@@ -33,7 +33,7 @@ fn prepare_piece<'p>(
 ) -> Result<Vec<Prepared<'p>>, AllocError>
     requires modified { IsModified (program_of program.now) callees.now }
     requires typed { IsTyped (meaning_of (program_of program.now)) }
-    requires scalars { is_over_scalars true (meaning_of (program_of program.now)) ≡ true }
+    requires scalars { is_over_values (meaning_of (program_of program.now)) ≡ true }
     requires inside { first + count ≤ length program.now.implementations.items }
     ensures { IfOk result (λ made. IsPortion (program_of program.now) first count made.items) }
 {
@@ -55,7 +55,7 @@ fn prepare_all<'p, R: Threads + Sync>(
 ) -> Result<Vec<Prepared<'p>>, AllocError>
     requires modified { IsModified (program_of program.now) callees.now }
     requires typed { IsTyped (meaning_of (program_of program.now)) }
-    requires scalars { is_over_scalars true (meaning_of (program_of program.now)) ≡ true }
+    requires scalars { is_over_values (meaning_of (program_of program.now)) ≡ true }
     requires workers { 0 < workers }
     ensures { IfOk result (λ made. ArePrepared (program_of program.now) (length (program_of program.now).implementations) made.items) }
 {
@@ -69,7 +69,7 @@ fn prepare_all<'p, R: Threads + Sync>(
         &|first, piece|
             requires modified { IsModified (program_of program.now) callees.now }
             requires typed { IsTyped (meaning_of (program_of program.now)) }
-            requires scalars { is_over_scalars true (meaning_of (program_of program.now)) ≡ true }
+            requires scalars { is_over_values (meaning_of (program_of program.now)) ≡ true }
             requires inside { first + length piece.now ≤ length program.now.implementations.items }
             ensures { IfOk result (λ made. IsPortion (program_of program.entry.now) first (length piece.entry.now) made.items) }
         { prepare_piece(alloc, program, callees, first, piece.len()) },
@@ -108,7 +108,7 @@ fn listed(alloc: Global, program: &Resolved) -> Result<Vec<Place>, AllocError>
     with_candidate(alloc, &all)
 }
 
-/// The checker of a typed program over scalars with numbers of its own, where these are what its procedures modify.
+/// The checker of a typed program over values with numbers of its own, where these are what its procedures modify.
 /// Its implementations are prepared by at most so many workers.
 ///
 /// Only want of memory is an error; 2^32 places with a candidate count as such, and so do 2^32 incarnations or atoms of an implementation.
@@ -122,7 +122,7 @@ pub fn checker_of<'p, R: Threads + Sync>(
 ) -> Result<Judging<'p>, AllocError>
     requires modified { IsModified (program_of program.now) callees.now }
     requires typed { IsTyped (meaning_of (program_of program.now)) }
-    requires scalars { is_over_scalars true (meaning_of (program_of program.now)) ≡ true }
+    requires scalars { is_over_values (meaning_of (program_of program.now)) ≡ true }
     requires resolved { IsResolved (meaning_of (program_of program.now)) }
     requires workers { 0 < workers }
     ensures stands { IfOk result IsJudging }

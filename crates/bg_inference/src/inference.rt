@@ -14,7 +14,7 @@ use bg_ast::resolved::{Function, Resolved};
 use bg_check::{Judged, Verdict};
 use bg_claims::Gate;
 use bg_opened::laws::{
-    axioms_have_a_program, opened_programs_are_over_scalars, written_programs_are_opened,
+    axioms_have_a_program, opened_programs_are_over_values, written_programs_are_opened,
 };
 use bg_opening::laws::written_axiom_programs_are_those_of_the_meaning;
 use bg_opening::{axiom_program, open_program};
@@ -47,7 +47,7 @@ fn judge_axioms<R: Threads + Sync, G: Gate>(
     ensures { IfOk result (λ v. (set : ℕ → Bool) × IsRight budget (axiom_program most_bodies (meaning_of (program_of program.now))) set axiom_place v) }
 {
     axioms_have_a_program();
-    opened_programs_are_over_scalars();
+    opened_programs_are_over_values();
     placed_are_places();
     written_axiom_programs_are_those_of_the_meaning();
     let axioms = axiom_program(alloc, DEPTH, program)?;
@@ -88,7 +88,7 @@ pub fn infer<R: Threads + Sync, G: Gate>(
     requires workers { (0 < workers) × (workers ≤ 16) }
     ensures { IfOk result (IsTrueOutcome budget (program_of program)) }
 {
-    opened_programs_are_over_scalars();
+    opened_programs_are_over_values();
     written_programs_are_opened();
     let axioms = judge_axioms(rt, alloc, &program, budget, gate)?;
     let globals = program.globals.len();

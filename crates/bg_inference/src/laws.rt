@@ -14,7 +14,7 @@ ghost use Rattle.bg_inference.specs.Told.{outcome_of};
 
 use bg_carried::laws::{axioms_are_told, reports_of_opened_programs_are_true};
 use bg_cert::laws::accepted_where_used;
-use bg_opened::laws::{axioms_have_a_program, opened_programs_are_over_scalars};
+use bg_opened::laws::{axioms_have_a_program, opened_programs_are_over_values};
 use bg_task::laws::proved_places_do_not_fail;
 
 /// What a report tells of a true outcome is true, whatever words it has for causes.
@@ -23,7 +23,7 @@ pub fn true_outcomes_are_sound()
         IsTrueOutcome budget p o → IsSound p (outcome_of words (meaning_of p) o) }
 {
     axioms_have_a_program();
-    opened_programs_are_over_scalars();
+    opened_programs_are_over_values();
     axioms_are_told();
     reports_of_opened_programs_are_true();
     accepted_where_used();

@@ -1,9 +1,3 @@
-pub mod Marks
-pub mod Exprs
-pub mod Groups
-pub mod Clauses
-pub mod Stmts
-pub mod Decls
+pub mod Types
 pub mod Programs
-pub mod Guesses
 pub mod Judging

@@ -1,4 +1,4 @@
-//! That what the reader lets through can be opened: laws that tie tokens to what is judged.
+//! That what the reader lets through can be opened.
 #![tactic(auto)]
 
 pub mod laws;

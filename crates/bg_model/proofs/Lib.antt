@@ -10,3 +10,4 @@ pub mod Sharing
 pub mod Going
 pub mod Visits
 pub mod Found
+pub mod Fitting

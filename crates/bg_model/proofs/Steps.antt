@@ -12,13 +12,13 @@ use Rattle.bg_formed.specs.declared.blocks.FormCmd as code
 use Rattle.bg_formed.specs.Formed.{FormCmd, Asks, Takes}
 use Rattle.bg_formed.specs.Wells.{is_met}
 use Rattle.bg_formed.specs.Views.{form_cmd_of, form_cmds_of}
-use Rattle.bg_scalar.specs.declared.scalar.Scalar.{Scalar}
-use Rattle.bg_scalar.specs.declared.choice.Choice.{Choice}
-use Rattle.bg_scalar.specs.Values.{val_of}
-use Rattle.bg_scalar.specs.Choices.{choice_of}
+use Rattle.bg_scalar.specs.declared.value.Value.{Value}
+use Rattle.bg_scalar.specs.Values.{value_of}
 use Rattle.bg_model.specs.declared.walk.Went.{Went}
 use Rattle.bg_model.specs.declared.walk.Went.TheVariants as went
+use Rattle.bg_model.specs.declared.pick.Pick.{Pick}
 use Rattle.bg_model.specs.Fronts.{chosen_from}
+use Rattle.bg_model.specs.Picks.{choice_by}
 use Rattle.bg_model.specs.Over.{walk_over}
 use Rattle.bg_model.specs.Views.{walked_of}
 
@@ -57,13 +57,13 @@ chosen_first vs j (suc k) h =
     ap (λ n. e.Chosen (value_at vs j) ∷ chosen_from vs n k) a
     ∙ ap (λ n. e.Chosen (value_at vs j) ∷ chosen_from vs (j + 1) n) b
 
-pub chosen_more : (vs : List Val) (made made' : List Choice) (c : Choice) (j j' left : ℕ) (whole : List e.Choice) → made' ≡ made ++ c ∷ [] → choice_of c ≡ e.Chosen (value_at vs j) → j' ≡ j + 1 → 0 < left → map choice_of made ++ chosen_from vs j left ≡ whole → map choice_of made' ++ chosen_from vs j' (left - 1) ≡ whole
+pub chosen_more : (vs : List Val) (made made' : List Pick) (c : Pick) (j j' left : ℕ) (whole : List e.Choice) → made' ≡ made ++ c ∷ [] → choice_by vs c ≡ e.Chosen (value_at vs j) → j' ≡ j + 1 → 0 < left → map (choice_by vs) made ++ chosen_from vs j left ≡ whole → map (choice_by vs) made' ++ chosen_from vs j' (left - 1) ≡ whole
 chosen_more vs made made' c j j' left whole more is next h known =
-    ap (λ l. map choice_of l ++ chosen_from vs j' (left - 1)) more
-    ∙ (ap (λ n. map choice_of (made ++ c ∷ []) ++ chosen_from vs n (left - 1)) next
-    ∙ (map_push choice_of made c (chosen_from vs (j + 1) (left - 1))
-    ∙ (ap (λ x. map choice_of made ++ x ∷ chosen_from vs (j + 1) (left - 1)) is
-    ∙ (ap (λ l. map choice_of made ++ l) (sym (chosen_first vs j left h)) ∙ known))))
+    ap (λ l. map (choice_by vs) l ++ chosen_from vs j' (left - 1)) more
+    ∙ (ap (λ n. map (choice_by vs) (made ++ c ∷ []) ++ chosen_from vs n (left - 1)) next
+    ∙ (map_push (choice_by vs) made c (chosen_from vs (j + 1) (left - 1))
+    ∙ (ap (λ x. map (choice_by vs) made ++ x ∷ chosen_from vs (j + 1) (left - 1)) is
+    ∙ (ap (λ l. map (choice_by vs) made ++ l) (sym (chosen_first vs j left h)) ∙ known))))
 
 count_first : (vs : List Val) (j left : ℕ) → 0 < left → map (value_at vs) (count_from j left) ≡ value_at vs j ∷ map (value_at vs) (count_from (j + 1) (left - 1))
 count_first vs j zero h = absurd (let bad : ⊥ = omega (arith, h) in bad)
@@ -73,10 +73,10 @@ count_first vs j (suc k) h =
     ap (λ n. value_at vs j ∷ map (value_at vs) (count_from n k)) a
     ∙ ap (λ n. value_at vs j ∷ map (value_at vs) (count_from (j + 1) n)) b
 
-pub values_more : (vs : List Val) (made made' : List Scalar) (x : Scalar) (j j' left : ℕ) (whole : List Val) → made' ≡ made ++ x ∷ [] → val_of x ≡ value_at vs j → j' ≡ j + 1 → 0 < left → map val_of made ++ map (value_at vs) (count_from j left) ≡ whole → map val_of made' ++ map (value_at vs) (count_from j' (left - 1)) ≡ whole
+pub values_more : (vs : List Val) (made made' : List Value) (x : Value) (j j' left : ℕ) (whole : List Val) → made' ≡ made ++ x ∷ [] → value_of x ≡ value_at vs j → j' ≡ j + 1 → 0 < left → map value_of made ++ map (value_at vs) (count_from j left) ≡ whole → map value_of made' ++ map (value_at vs) (count_from j' (left - 1)) ≡ whole
 values_more vs made made' x j j' left whole more is next h known =
-    ap (λ l. map val_of l ++ map (value_at vs) (count_from j' (left - 1))) more
-    ∙ (ap (λ n. map val_of (made ++ x ∷ []) ++ map (value_at vs) (count_from n (left - 1))) next
-    ∙ (map_push val_of made x (map (value_at vs) (count_from (j + 1) (left - 1)))
-    ∙ (ap (λ y. map val_of made ++ y ∷ map (value_at vs) (count_from (j + 1) (left - 1))) is
-    ∙ (ap (λ l. map val_of made ++ l) (sym (count_first vs j left h)) ∙ known))))
+    ap (λ l. map value_of l ++ map (value_at vs) (count_from j' (left - 1))) more
+    ∙ (ap (λ n. map value_of (made ++ x ∷ []) ++ map (value_at vs) (count_from n (left - 1))) next
+    ∙ (map_push value_of made x (map (value_at vs) (count_from (j + 1) (left - 1)))
+    ∙ (ap (λ y. map value_of made ++ y ∷ map (value_at vs) (count_from (j + 1) (left - 1))) is
+    ∙ (ap (λ l. map value_of made ++ l) (sym (count_first vs j left h)) ∙ known))))

@@ -8,9 +8,9 @@ use Rattle.bg_passive.specs.Passive.{Walked}
 use Rattle.bg_model.specs.declared.turn.Turn.{Turn}
 use Rattle.bg_incarnate.proofs.Passing.{drop_item}
 use Rattle.bg_formed.specs.Formed.{FormCmd, FormBlock}
-use Rattle.bg_scalar.specs.Choices.{choice_of}
 use Rattle.bg_model.specs.declared.front.Front.{Front}
 use Rattle.bg_model.specs.Turns.{front_of, choices_on, turn_choices, taken}
+use Rattle.bg_model.specs.Picks.{choice_by}
 use Rattle.bg_model.specs.Views.{made_by}
 
 pub no_more : {A : Type 0} (xs : List A) (i : ℕ) → slice_get xs i ≡ None → drop i xs ≡ []
@@ -85,29 +85,29 @@ module _ (walked : List FormCmd → Walked) (vs : List Val) where
       ∙ ap (λ l. taken walked vs (b ∷ bs) (f q ∷ map f (drop (i + 1) qs)) (n ∷ drop (i + 1) ns) l 0) (one_more ts i t h))
 
   -- one turn of the loop over blocks
-  module _ {A : Type 0} {B : Type 0} (f : A → FormBlock) (g : B → Block) (xs : List B) (qs : List A) (ns : List ℕ) (ts : List Turn) (i : ℕ) (x : B) (low : i < length xs) (at : x ≡ get_or xs i x) (was : Front) (skip : ℕ) (whole : List Choice) (known : made_by was (taken walked vs (map g (drop i xs)) (map f (drop i qs)) (drop i ns) (drop i ts) skip) ≡ whole) where
-    first_one : made_by was (taken walked vs (g x ∷ map g (drop (i + 1) xs)) (map f (drop i qs)) (drop i ns) (drop i ts) skip) ≡ whole
+  module _ {A : Type 0} {B : Type 0} (f : A → FormBlock) (g : B → Block) (xs : List B) (qs : List A) (ns : List ℕ) (ts : List Turn) (i : ℕ) (x : B) (low : i < length xs) (at : x ≡ get_or xs i x) (was : Front) (skip : ℕ) (whole : List Choice) (known : made_by vs was (taken walked vs (map g (drop i xs)) (map f (drop i qs)) (drop i ns) (drop i ts) skip) ≡ whole) where
+    first_one : made_by vs was (taken walked vs (g x ∷ map g (drop (i + 1) xs)) (map f (drop i qs)) (drop i ns) (drop i ts) skip) ≡ whole
     first_one =
-        ap (λ l. made_by was (taken walked vs (map g l) (map f (drop i qs)) (drop i ns) (drop i ts) skip)) (sym (drop_item xs i x low at)) ∙ known
+        ap (λ l. made_by vs was (taken walked vs (map g l) (map f (drop i qs)) (drop i ns) (drop i ts) skip)) (sym (drop_item xs i x low at)) ∙ known
 
-    pub steps_over : 0 < skip → made_by was (taken walked vs (map g (drop (i + 1) xs)) (map f (drop (i + 1) qs)) (drop (i + 1) ns) (drop (i + 1) ts) (skip - 1)) ≡ whole
+    pub steps_over : 0 < skip → made_by vs was (taken walked vs (map g (drop (i + 1) xs)) (map f (drop (i + 1) qs)) (drop (i + 1) ns) (drop (i + 1) ts) (skip - 1)) ≡ whole
     steps_over h =
-        ap (made_by was) (sym (passed_over f (g x) (map g (drop (i + 1) xs)) qs ns ts i skip h)) ∙ first_one
+        ap (made_by vs was) (sym (passed_over f (g x) (map g (drop (i + 1) xs)) qs ns ts i skip h)) ∙ first_one
 
-    module _ (now : Front) (to : Option ℕ) (here_now : skip ≡ 0) (step : (bs : List Block) → made_by was (taken walked vs (g x ∷ bs) (map f (drop i qs)) (drop i ns) (drop i ts) 0) ≡ made_by now (choices_on to (taken walked vs bs (map f (drop (i + 1) qs)) (drop (i + 1) ns) (drop (i + 1) ts)))) where
-      stepped : made_by now (choices_on to (taken walked vs (map g (drop (i + 1) xs)) (map f (drop (i + 1) qs)) (drop (i + 1) ns) (drop (i + 1) ts))) ≡ whole
+    module _ (now : Front) (to : Option ℕ) (here_now : skip ≡ 0) (step : (bs : List Block) → made_by vs was (taken walked vs (g x ∷ bs) (map f (drop i qs)) (drop i ns) (drop i ts) 0) ≡ made_by vs now (choices_on to (taken walked vs bs (map f (drop (i + 1) qs)) (drop (i + 1) ns) (drop (i + 1) ts)))) where
+      stepped : made_by vs now (choices_on to (taken walked vs (map g (drop (i + 1) xs)) (map f (drop (i + 1) qs)) (drop (i + 1) ns) (drop (i + 1) ts))) ≡ whole
       stepped =
           sym (step (map g (drop (i + 1) xs)))
-          ∙ (ap (λ k. made_by was (taken walked vs (g x ∷ map g (drop (i + 1) xs)) (map f (drop i qs)) (drop i ns) (drop i ts) k)) (sym here_now) ∙ first_one)
+          ∙ (ap (λ k. made_by vs was (taken walked vs (g x ∷ map g (drop (i + 1) xs)) (map f (drop i qs)) (drop i ns) (drop i ts) k)) (sym here_now) ∙ first_one)
 
-      pub steps_on : (k : ℕ) → to ≡ Some k → made_by now (taken walked vs (map g (drop (i + 1) xs)) (map f (drop (i + 1) qs)) (drop (i + 1) ns) (drop (i + 1) ts) k) ≡ whole
+      pub steps_on : (k : ℕ) → to ≡ Some k → made_by vs now (taken walked vs (map g (drop (i + 1) xs)) (map f (drop (i + 1) qs)) (drop (i + 1) ns) (drop (i + 1) ts) k) ≡ whole
       steps_on k e =
-          ap (λ o. made_by now (choices_on o (taken walked vs (map g (drop (i + 1) xs)) (map f (drop (i + 1) qs)) (drop (i + 1) ns) (drop (i + 1) ts)))) (sym e) ∙ stepped
+          ap (λ o. made_by vs now (choices_on o (taken walked vs (map g (drop (i + 1) xs)) (map f (drop (i + 1) qs)) (drop (i + 1) ns) (drop (i + 1) ts)))) (sym e) ∙ stepped
 
-      pub steps_end : to ≡ None → map choice_of now.made.items ≡ whole
+      pub steps_end : to ≡ None → map (choice_by vs) now.made.items ≡ whole
       steps_end e =
-          sym (append-nil (map choice_of now.made.items))
-          ∙ (ap (λ o. made_by now (choices_on o (taken walked vs (map g (drop (i + 1) xs)) (map f (drop (i + 1) qs)) (drop (i + 1) ns) (drop (i + 1) ts)))) (sym e) ∙ stepped)
+          sym (append-nil (map (choice_by vs) now.made.items))
+          ∙ (ap (λ o. made_by vs now (choices_on o (taken walked vs (map g (drop (i + 1) xs)) (map f (drop (i + 1) qs)) (drop (i + 1) ns) (drop (i + 1) ts)))) (sym e) ∙ stepped)
 
 pub got : {A : Type 0} (xs : List A) (k : ℕ) (d : A) → k < length xs → d ≡ get_or xs k d → slice_get xs k ≡ Some d
 got [] k d h e = absurd (omega arith)

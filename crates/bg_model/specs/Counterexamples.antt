@@ -17,6 +17,8 @@ use Rattle.bg_formed.specs.Said.{SaidBlocks}
 use Rattle.bg_formed.specs.Used.{refused}
 use Rattle.bg_scalar.specs.Views.{tables_in, vals_in}
 use Rattle.bg_scalar.specs.Choices.{choice_of, state_of}
+use Rattle.bg_kinds.specs.Views.{ref_in}
+use Rattle.bg_sound.specs.Chosen.{choices_are_of}
 use Rattle.bg_model.specs.declared.failure.Counterexample.{Counterexample}
 use Rattle.bg_model.specs.Over.{walk_over}
 use Rattle.bg_model.specs.Turns.{turns, taken}
@@ -44,6 +46,11 @@ pub record IsCounterexample (p : Prog) (bs : List Block) (frame : ℕ) (ns : Lis
   pub starts : (k : ℕ) (m : Impl) (q : Proc) (s : State) (others : List Ty) (arrivals : List Arrival) → SetUp p bs frame ns vs k m q s others arrivals → s ≡ state_of (vals_in cex.globals.items) (vals_in cex.frame.items)
   pub choices : map choice_of cex.choices.items ≡ taken (walk_over set t w) vs bs forms ns (turns (walk_over set t w) forms) 0
   pub fails : (i : Interp) (k : ℕ) (m : Impl) (q : Proc) (s : State) (others : List Ty) (arrivals : List Arrival) → SetUp p bs frame ns vs k m q s others arrivals → SaidBlocks w (passive_scope p i vs) (passives arrivals bs) forms → refused t forms ≡ None → induction_run p set i k s (map choice_of cex.choices.items) ≡ Failed t
+
+-- its choices are of the types that stand beside them
+abbrev pub AreTyped : Option Counterexample → Type 0
+AreTyped None = Unit {0}
+AreTyped (Some cex) = choices_are_of (map ref_in cex.kinds.items) (map choice_of cex.choices.items) ≡ true
 
 -- a counterexample is given exactly where the equations deny the entry block
 abbrev pub IsTold : Bool → Option Counterexample → (Counterexample → Type 0) → Type 0

@@ -1,4 +1,5 @@
 pub mod Fronts
+pub mod Picks
 pub mod Turns
 pub mod Over
 pub mod Views

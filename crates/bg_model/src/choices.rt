@@ -1,22 +1,23 @@
 //! The choices along a walk that fails.
 ghost use Rattle.std.specs.Prelude.{◌≡◌, ◌+◌, ◌∷◌, ◌++◌, ℕ, List, map, drop, IfOk};
+ghost use Rattle.bg_ast.specs.Values.{Val};
 ghost use Rattle.bg_ast.specs.Execution as e;
 ghost use Rattle.bg_ast.specs.Resolved.{Program};
 ghost use Rattle.bg_flow.specs.Blocks as f;
 ghost use Rattle.bg_blocks.specs.Views.{block_of, cmd_of, exit_of};
 ghost use Rattle.bg_model.specs.Behind.{stretch_of};
-ghost use Rattle.bg_scalar.specs.Choices.{choice_of};
+ghost use Rattle.bg_model.specs.Picks.{choice_by};
 ghost use Rattle.bg_model.specs.Turns.{front_of, turn_choices, choices_on, taken};
-ghost use Rattle.bg_model.specs.Views.{walk_in, values_in, made_by};
+ghost use Rattle.bg_model.specs.Views.{walk_in, made_by};
 
 use crate::commands::commands;
 use crate::exit::exit;
 use crate::front::Front;
+use crate::pick::Pick;
 use crate::stretch::Stretch;
 use crate::trial::Trial;
 use crate::turn::Turn;
 use bg_blocks::{Block, Exit};
-use bg_scalar::Choice;
 use std::alloc::AllocError;
 use std::collections::VecDeque;
 
@@ -29,8 +30,8 @@ pub struct Course<'a> {
 }
 
 /// Adds the choice at the end of a block by its turn, and gives the block behind it that the walk goes to; none where it ends here.
-fn turned(made: &mut Vec<Choice>, turn: Turn, x: &Exit<'_>) -> Result<Option<usize>, AllocError>
-    ensures { IfOk result (λ to. (behind : ℕ → List e.Choice) → map choice_of made.old.items ++ turn_choices turn (exit_of x.now) behind ≡ map choice_of made.new.items ++ choices_on to behind) }
+fn turned(made: &mut Vec<Pick>, turn: Turn, x: &Exit<'_>) -> Result<Option<usize>, AllocError>
+    ensures { IfOk result (λ to. (vs : List Val) (behind : ℕ → List e.Choice) → map (choice_by vs) made.old.items ++ turn_choices turn (exit_of x.now) behind ≡ map (choice_by vs) made.new.items ++ choices_on to behind) }
 {
     match turn {
         Turn::Well => Ok(None),
@@ -51,7 +52,7 @@ fn block<'a>(
     first: u32,
     turn: Turn,
 ) -> Result<Option<usize>, AllocError>
-    ensures { IfOk result (λ to. (p : Program) (behind : ℕ → List e.Choice) → made_by front.old (front_of (walk_in trial.entry) (values_in trial.entry) (map (cmd_of p) b.now.cmds.items) (stretch_of forms.entry).cmds first (turn_choices turn (exit_of b.now.exit) behind)) ≡ made_by front.new (choices_on to behind)) }
+    ensures { IfOk result (λ to. (vs : List Val) (p : Program) (behind : ℕ → List e.Choice) → made_by vs front.old (front_of (walk_in trial.entry) vs (map (cmd_of p) b.now.cmds.items) (stretch_of forms.entry).cmds first (turn_choices turn (exit_of b.now.exit) behind)) ≡ made_by vs front.new (choices_on to behind)) }
 {
     front.left = forms.cmds;
     front.next = first as usize;
@@ -71,7 +72,7 @@ fn visit<'a>(
     course: Course<'a>,
     i: usize,
 ) -> Result<Option<usize>, AllocError>
-    ensures { IfOk result (λ to. (p : Program) (bs : List f.Block) → made_by front.old (taken (walk_in trial.entry) (values_in trial.entry) (block_of p b.now ∷ bs) (map stretch_of (drop i course.entry.forms.now)) (drop i course.entry.firsts.now) (drop i course.entry.turns.now.items) 0) ≡ made_by front.new (choices_on to (taken (walk_in trial.entry) (values_in trial.entry) bs (map stretch_of (drop (i + 1) course.entry.forms.now)) (drop (i + 1) course.entry.firsts.now) (drop (i + 1) course.entry.turns.now.items)))) }
+    ensures { IfOk result (λ to. (vs : List Val) (p : Program) (bs : List f.Block) → made_by vs front.old (taken (walk_in trial.entry) vs (block_of p b.now ∷ bs) (map stretch_of (drop i course.entry.forms.now)) (drop i course.entry.firsts.now) (drop i course.entry.turns.now.items) 0) ≡ made_by vs front.new (choices_on to (taken (walk_in trial.entry) vs bs (map stretch_of (drop (i + 1) course.entry.forms.now)) (drop (i + 1) course.entry.firsts.now) (drop (i + 1) course.entry.turns.now.items)))) }
 {
     let Some(q) = course.forms.get(i) else {
         return Ok(None);
@@ -91,8 +92,8 @@ pub fn choices(
     trial: Trial<'_>,
     blocks: &[Block<'_>],
     course: Course<'_>,
-) -> Result<Vec<Choice>, AllocError>
-    ensures { IfOk result (λ made. (p : Program) → map choice_of made.items ≡ taken (walk_in trial.entry) (values_in trial.entry) (map (block_of p) blocks.now) (map stretch_of course.entry.forms.now) course.entry.firsts.now course.entry.turns.now.items 0) }
+) -> Result<Vec<Pick>, AllocError>
+    ensures { IfOk result (λ made. (vs : List Val) (p : Program) → map (choice_by vs) made.items ≡ taken (walk_in trial.entry) vs (map (block_of p) blocks.now) (map stretch_of course.entry.forms.now) course.entry.firsts.now course.entry.turns.now.items 0) }
 {
     let mut front = Front {
         made: Vec::new(trial.alloc),

@@ -1,5 +1,6 @@
 //! The choices of commands.
 ghost use Rattle.std.specs.Prelude.{◌≡◌, ◌∷◌, List, map, IfOk};
+ghost use Rattle.bg_ast.specs.Values.{Val};
 ghost use Rattle.bg_ast.specs.Execution as e;
 ghost use Rattle.bg_ast.specs.Resolved.{Program};
 ghost use Rattle.bg_flow.specs.Core as core;
@@ -16,7 +17,7 @@ use std::alloc::AllocError;
 
 /// Adds the choices of a command, and tells whether the walk goes on behind it.
 fn command(trial: Trial<'_>, front: &mut Front<'_>, k: &Cmd<'_>) -> Result<bool, AllocError>
-    ensures { IfOk result (λ goes. (p : Program) (ks : List core.Cmd) (rest : List e.Choice) → made_by front.old (next_by trial.entry (cmd_of p k.now ∷ ks) front.old rest) ≡ made_by front.new (if_goes goes (next_by trial.entry ks front.new rest))) }
+    ensures { IfOk result (λ goes. (vs : List Val) (p : Program) (ks : List core.Cmd) (rest : List e.Choice) → made_by vs front.old (next_by vs trial.entry (cmd_of p k.now ∷ ks) front.old rest) ≡ made_by vs front.new (if_goes goes (next_by vs trial.entry ks front.new rest))) }
 {
     let s = share_of(k)?;
     let width = s.cmds.min(front.left.len());
@@ -26,7 +27,7 @@ fn command(trial: Trial<'_>, front: &mut Front<'_>, k: &Cmd<'_>) -> Result<bool,
         Went::Hit => return Ok(false),
     }
     let first = add(front.next, s.skips)?;
-    choose(&mut front.made, trial.values, first, s.chooses)?;
+    choose(&mut front.made, first, s.chooses)?;
     front.next = add(first, s.chooses)?;
     front.left = &front.left[width..];
     Ok(true)
@@ -34,7 +35,7 @@ fn command(trial: Trial<'_>, front: &mut Front<'_>, k: &Cmd<'_>) -> Result<bool,
 
 /// Adds the choices of commands up to the one at which the walk ends, and tells whether it goes on behind all of them.
 pub fn commands(trial: Trial<'_>, front: &mut Front<'_>, ks: &[Cmd<'_>]) -> Result<bool, AllocError>
-    ensures { IfOk result (λ goes. (p : Program) (rest : List e.Choice) → made_by front.old (next_by trial.entry (map (cmd_of p) ks.now) front.old rest) ≡ made_by front.new (if_goes goes rest)) }
+    ensures { IfOk result (λ goes. (vs : List Val) (p : Program) (rest : List e.Choice) → made_by vs front.old (next_by vs trial.entry (map (cmd_of p) ks.now) front.old rest) ≡ made_by vs front.new (if_goes goes rest)) }
 {
     for k in ks {
         if !command(trial, front, k)? {

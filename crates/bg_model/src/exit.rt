@@ -1,23 +1,24 @@
 //! Where blocks lead, and what is chosen there.
-ghost use Rattle.std.specs.Prelude.{◌≡◌, [], ◌∷◌, ◌++◌, map, slice_get, IfOk, OnOk};
+ghost use Rattle.std.specs.Prelude.{◌≡◌, [], ◌∷◌, ◌++◌, List, map, slice_get, IfOk, OnOk};
+ghost use Rattle.bg_ast.specs.Values.{Val};
 ghost use Rattle.bg_ast.specs.Execution as e;
 ghost use Rattle.bg_flow.specs.Blocks.{Leap};
 ghost use Rattle.bg_passive.specs.Incarnations.{targets_of};
 ghost use Rattle.bg_passive.specs.ReadBack.{exit_choices};
 ghost use Rattle.bg_blocks.specs.Views.{exit_of};
-ghost use Rattle.bg_scalar.specs.Choices.{choice_of};
+ghost use Rattle.bg_model.specs.Picks.{choice_by};
 
+use crate::pick::Pick;
 use bg_ast::resolved::Guard;
 use bg_blocks::Exit;
-use bg_scalar::Choice;
 use std::alloc::AllocError;
 
 /// The number of a branch; 2^32 of them count as want of memory.
-fn branch(j: usize) -> Result<Choice, AllocError>
-    ensures { IfOk result (λ c. choice_of c ≡ e.Branch j) }
+fn branch(j: usize) -> Result<Pick, AllocError>
+    ensures { IfOk result (λ made. (vs : List Val) → choice_by vs made ≡ e.Branch j) }
 {
     match u32::try_from(j) {
-        Ok(k) => Ok(Choice::Branch(k)),
+        Ok(k) => Ok(Pick::Branch(k)),
         Err(_) => Err(AllocError),
     }
 }
@@ -34,10 +35,9 @@ fn side(on: usize, off: usize, j: usize) -> Option<usize>
 }
 
 /// Adds the branch of a jump, where it names several blocks, and gives the one that is taken.
-
-fn leap(made: &mut Vec<Choice>, ks: &[usize], j: usize) -> Result<Option<usize>, AllocError>
+fn leap(made: &mut Vec<Pick>, ks: &[usize], j: usize) -> Result<Option<usize>, AllocError>
     ensures to { IfOk result (λ to. to ≡ slice_get (targets_of (Leap ks.now)) j) }
-    ensures made { OnOk result (map choice_of made.new.items ≡ map choice_of made.old.items ++ exit_choices (Leap ks.now) j) }
+    ensures made { OnOk result ((vs : List Val) → map (choice_by vs) made.new.items ≡ map (choice_by vs) made.old.items ++ exit_choices (Leap ks.now) j) }
 {
     match ks.split_first() {
         None => Ok(if j == 0 { Some(0) } else { None }),
@@ -52,9 +52,9 @@ fn leap(made: &mut Vec<Choice>, ks: &[usize], j: usize) -> Result<Option<usize>,
 }
 
 /// Adds the branch, where the exit has a choice, and gives the block that it leads to by its edge of this number.
-pub fn exit(made: &mut Vec<Choice>, x: &Exit<'_>, j: usize) -> Result<Option<usize>, AllocError>
+pub fn exit(made: &mut Vec<Pick>, x: &Exit<'_>, j: usize) -> Result<Option<usize>, AllocError>
     ensures to { IfOk result (λ to. to ≡ slice_get (targets_of (exit_of x.now)) j) }
-    ensures made { OnOk result (map choice_of made.new.items ≡ map choice_of made.old.items ++ exit_choices (exit_of x.now) j) }
+    ensures made { OnOk result ((vs : List Val) → map (choice_by vs) made.new.items ≡ map (choice_by vs) made.old.items ++ exit_choices (exit_of x.now) j) }
 {
     match x {
         Exit::Leap(ks) => leap(made, ks, j),

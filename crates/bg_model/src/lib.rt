@@ -8,6 +8,8 @@ mod exit;
 mod failure;
 mod find;
 mod front;
+mod pick;
+mod picked;
 mod share;
 mod stretch;
 mod trial;

@@ -20,7 +20,7 @@ use Rattle.bg_sense.specs.Run.{context, start, run, run_of, run_body, induction_
 use Rattle.bg_sense.specs.Calls.{by_specification}
 use Rattle.bg_sense.specs.Claims.{frame_with, frame_of, Fails}
 use Rattle.bg_sense.proofs.Bools.{and_left, and_right, both, bool_cases}
-use Rattle.bg_fits.specs.Scalars.{is_scalar_type, st_passes, clause_passes, decls_pass, fun_passes, proc_passes, impl_passes}
+use Rattle.bg_fits.specs.Valued.{is_value_type, st_passes, clause_passes, decls_pass, fun_passes, proc_passes, impl_passes}
 use Rattle.bg_opened.proofs.Plain.{is_plain, is_over_plain}
 use Rattle.bg_opened.proofs.Tables.{Agree, bodiless_tables, are_tables_for, tables_agree}
 use Rattle.bg_opened.specs.Exprs.{opened}
@@ -172,16 +172,16 @@ module _ (depth : ℕ) (p : Prog) (test : is_over_plain p.functions (opened_prog
   its = opened_program depth p
 
   abbrev Globals : Bool
-  Globals = decls_pass (is_scalar_type true) (is_plain p.functions) its.globals
+  Globals = decls_pass is_value_type (is_plain p.functions) its.globals
 
   abbrev Funs : Bool
-  Funs = list_all (fun_passes (is_scalar_type true)) its.functions
+  Funs = list_all (fun_passes is_value_type) its.functions
 
   abbrev Procs : Bool
-  Procs = list_all (proc_passes p.candidates (is_scalar_type true) (is_plain p.functions)) its.procedures
+  Procs = list_all (proc_passes p.candidates is_value_type (is_plain p.functions)) its.procedures
 
   abbrev Impls : Bool
-  Impls = list_all (impl_passes p.candidates (is_scalar_type true) (is_plain p.functions)) its.implementations
+  Impls = list_all (impl_passes p.candidates is_value_type (is_plain p.functions)) its.implementations
 
   pub globals_pass : Globals ≡ true
   globals_pass = and_left Globals (Funs && (Procs && Impls)) test
@@ -218,14 +218,14 @@ module _ (depth : ℕ) (p : Prog) (i j : Interp) (agree : Agree p.functions i j)
 
   globals_fair : Each (FairDecl g b F cs) p.globals
   globals_fair =
-      fair_decls depth p cs [] p.globals (each_all (λ d. All (IsFormula (sig_in p [])) d.wheres) p.globals typed.globals) (list_all_left (Rattle.bg_fits.specs.Scalars.decl_passes (is_scalar_type true) (is_plain F)) (map (opened_decl g b) p.globals) (map global_for p.constants) (globals_pass depth p test))
+      fair_decls depth p cs [] p.globals (each_all (λ d. All (IsFormula (sig_in p [])) d.wheres) p.globals typed.globals) (list_all_left (Rattle.bg_fits.specs.Valued.decl_passes is_value_type (is_plain F)) (map (opened_decl g b) p.globals) (map global_for p.constants) (globals_pass depth p test))
 
   procs_fair : (k : ℕ) (q : Proc) → procedure_of p k ≡ Some q → FairProc g b F cs p o q
   procs_fair k q e =
       let t : IsTypedProc p q = at_all (IsTypedProc p) p.procedures k q typed.procedures e in
-      let s = list_all_at (proc_passes n (is_scalar_type true) (is_plain F)) o.procedures k (opened_proc g b q) (procs_pass depth p test) (its_procedure depth p cs k ∙ ap (option_map (opened_proc g b)) e) in
-      let params_pass = decls_pass (is_scalar_type true) (is_plain F) (map (opened_decl g b) q.params) in
-      let results_pass = decls_pass (is_scalar_type true) (is_plain F) (map (opened_decl g b) q.results) in
+      let s = list_all_at (proc_passes n is_value_type (is_plain F)) o.procedures k (opened_proc g b q) (procs_pass depth p test) (its_procedure depth p cs k ∙ ap (option_map (opened_proc g b)) e) in
+      let params_pass = decls_pass is_value_type (is_plain F) (map (opened_decl g b) q.params) in
+      let results_pass = decls_pass is_value_type (is_plain F) (map (opened_decl g b) q.results) in
       let requires_pass = list_all (clause_passes n (is_plain F)) (map (opened_clause g b) q.requires_) in
       let ensures_pass = list_all (clause_passes n (is_plain F)) (map (opened_clause g b) q.ensures_) in
       let s1 = and_right params_pass (results_pass && (requires_pass && ensures_pass)) s in
@@ -265,12 +265,12 @@ module _ (depth : ℕ) (p : Prog) (i j : Interp) (agree : Agree p.functions i j)
     its_own : its_type.procedure ≡ q
     its_own = let e = sym its_type.is_there ∙ iq in cc
 
-    its_pass : impl_passes n (is_scalar_type true) (is_plain F) (opened_impl g b (claims p) m) ≡ true
+    its_pass : impl_passes n is_value_type (is_plain F) (opened_impl g b (claims p) m) ≡ true
     its_pass =
-        list_all_at (impl_passes n (is_scalar_type true) (is_plain F)) o.implementations k (opened_impl g b (claims p) m) (impls_pass depth p test) (its_implementation k m im)
+        list_all_at (impl_passes n is_value_type (is_plain F)) o.implementations k (opened_impl g b (claims p) m) (impls_pass depth p test) (its_implementation k m im)
 
     abbrev Locals : Bool
-    Locals = decls_pass (is_scalar_type true) (is_plain F) (map (opened_decl g b) m.locals)
+    Locals = decls_pass is_value_type (is_plain F) (map (opened_decl g b) m.locals)
 
     abbrev Whole : St
     Whole = supposing (map (opened g b) (claims p)) (opened_st g b m.body)

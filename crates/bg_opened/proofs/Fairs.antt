@@ -16,7 +16,7 @@ use Rattle.bg_sense.specs.Resolved.{IsResolved}
 use Rattle.bg_sense.proofs.Bools.{and_left, and_right, both, bool_cases}
 use Rattle.bg_sense.proofs.Members.{In, member}
 use Rattle.bg_sense.proofs.Modified.{as_listed}
-use Rattle.bg_fits.specs.Scalars.{is_scalar_type, exs_pass, clause_passes, guard_passes, st_passes, decl_passes, decls_pass, is_declared}
+use Rattle.bg_fits.specs.Valued.{is_value_type, exs_pass, clause_passes, guard_passes, st_passes, decl_passes, decls_pass, is_declared}
 use Rattle.bg_opened.proofs.Plain.{is_plain}
 use Rattle.bg_opened.proofs.Tables.{Agree, same_functions}
 use Rattle.bg_opened.specs.Exprs.{opened, all_opened}
@@ -169,11 +169,11 @@ module _ (depth : ℕ) (p : Prog) (cs : List Val) where
       fair_clauses n ks h.1 (and_right (clause_passes n (is_plain F) (opened_clause g b k)) (list_all (clause_passes n (is_plain F)) (map (opened_clause g b) ks)) s),
     )
 
-    pub fair_decls : (es : List Decl) → Each (λ d. All (IsFormula (sig_in p ds)) d.wheres) es → decls_pass (is_scalar_type true) (is_plain F) (map (opened_decl g b) es) ≡ true → Each (FairDecl g b F cs) es
+    pub fair_decls : (es : List Decl) → Each (λ d. All (IsFormula (sig_in p ds)) d.wheres) es → decls_pass is_value_type (is_plain F) (map (opened_decl g b) es) ≡ true → Each (FairDecl g b F cs) es
     fair_decls [] h s = tt
     fair_decls (d ∷ es) h s = (
-      fair_list d.wheres (each_all (IsFormula (sig_in p ds)) d.wheres h.0) (and_right (is_scalar_type true d.ty) (list_all (is_plain F) (map O d.wheres)) (and_left (decl_passes (is_scalar_type true) (is_plain F) (opened_decl g b d)) (decls_pass (is_scalar_type true) (is_plain F) (map (opened_decl g b) es)) s)),
-      fair_decls es h.1 (and_right (decl_passes (is_scalar_type true) (is_plain F) (opened_decl g b d)) (decls_pass (is_scalar_type true) (is_plain F) (map (opened_decl g b) es)) s),
+      fair_list d.wheres (each_all (IsFormula (sig_in p ds)) d.wheres h.0) (and_right (is_value_type d.ty) (list_all (is_plain F) (map O d.wheres)) (and_left (decl_passes is_value_type (is_plain F) (opened_decl g b d)) (decls_pass is_value_type (is_plain F) (map (opened_decl g b) es)) s)),
+      fair_decls es h.1 (and_right (decl_passes is_value_type (is_plain F) (opened_decl g b d)) (decls_pass is_value_type (is_plain F) (map (opened_decl g b) es)) s),
     )
 
     fair_guard : (e : Guard) → IsGuard (sig_in p ds) e → guard_passes (is_plain F) (opened_guard g b e) ≡ true → FairGuard g b F cs e

@@ -1,4 +1,4 @@
--- Expressions in which no function is applied that has a body, and programs of these: they are over truth values, whole numbers and elements.
+-- Expressions in which no function is applied that has a body, and programs of these: they are over values.
 use Rattle.std.proofs.Common.{◌≡◌, ℕ, Bool, true, false, List, [], ◌∷◌, refl}
 use Rattle.std.specs.Prelude.{◌&&◌, not}
 use Rattle.std.specs.List.{list_all}
@@ -6,11 +6,11 @@ use Rattle.bg_ast.specs.Values.{Ty}
 use Rattle.bg_ast.specs.Syntax.{Ex, Number, Fact, Constant, Read, Not, Negative, Binary, Apply, Select, Update, Old, Exs, NoMore, More, Clause, Guard, Star, Test, St, Skip, Then, Label, Assert, Assume, Havoc, Assign, Invoke, If, While, Break, Goto, Return, Decl, Fun, Proc, Impl, Prog}
 use Rattle.bg_sense.specs.Tables.{has_body}
 use Rattle.bg_sense.proofs.Bools.{and_left, and_right, both}
-use Rattle.bg_fits.specs.Scalars.{is_empty, is_declared, exs_pass, clause_passes, guard_passes, st_passes, decl_passes, decls_pass, fun_passes, proc_passes, impl_passes, passes, is_scalar_type, is_scalar, are_scalar, is_over_scalars}
+use Rattle.bg_fits.specs.Valued.{is_empty, is_declared, exs_pass, clause_passes, guard_passes, st_passes, decl_passes, decls_pass, fun_passes, proc_passes, impl_passes, passes, is_value_type, any_ex, is_over_values}
 use Rattle.bg_opened.specs.Exprs.{raw_bodies}
 
 abbrev mutual
-  -- truth values, numbers, variables, `old`, operators, and applications of functions that have no body
+  -- no constant, and applications of functions that have no body alone
   pub is_plain : List Fun → Ex → Bool
   is_plain fs (Number z) = true
   is_plain fs (Fact b) = true
@@ -20,7 +20,9 @@ abbrev mutual
   is_plain fs (Binary o a b) = is_plain fs a && is_plain fs b
   is_plain fs (Old e) = is_plain fs e
   is_plain fs (Apply f es) = not (has_body (raw_bodies fs f)) && are_plain fs es
-  is_plain fs _ = false
+  is_plain fs (Select m es) = is_plain fs m && are_plain fs es
+  is_plain fs (Update m es e) = is_plain fs m && (are_plain fs es && is_plain fs e)
+  is_plain fs (Constant k) = false
 
   pub are_plain : List Fun → Exs → Bool
   are_plain fs NoMore = true
@@ -28,33 +30,13 @@ abbrev mutual
 
 -- a program in which no function is applied that has a body among these
 abbrev pub is_over_plain : List Fun → Prog → Bool
-is_over_plain fs p = passes (is_scalar_type true) (is_plain fs) p
+is_over_plain fs p = passes is_value_type (is_plain fs) p
 
 -- a list of which each is plain
 pub as_are : (fs : List Fun) (es : Exs) → exs_pass (is_plain fs) es ≡ true → are_plain fs es ≡ true
 as_are fs NoMore h = refl
 as_are fs (More e es) h =
     both (is_plain fs e) (are_plain fs es) (and_left (is_plain fs e) (exs_pass (is_plain fs) es) h) (as_are fs es (and_right (is_plain fs e) (exs_pass (is_plain fs) es) h))
-
-mutual
-  plain_scalar : (fs : List Fun) (e : Ex) → is_plain fs e ≡ true → is_scalar true e ≡ true
-  plain_scalar fs (Number z) h = refl
-  plain_scalar fs (Fact b) h = refl
-  plain_scalar fs (Constant k) h = absurd (let bad : ⊥ = cc in bad)
-  plain_scalar fs (Read x) h = refl
-  plain_scalar fs (Not e) h = plain_scalar fs e h
-  plain_scalar fs (Negative e) h = plain_scalar fs e h
-  plain_scalar fs (Binary o a b) h =
-      both (is_scalar true a) (is_scalar true b) (plain_scalar fs a (and_left (is_plain fs a) (is_plain fs b) h)) (plain_scalar fs b (and_right (is_plain fs a) (is_plain fs b) h))
-  plain_scalar fs (Apply f es) h = all_plain_scalar fs es (and_right (not (has_body (raw_bodies fs f))) (are_plain fs es) h)
-  plain_scalar fs (Select m es) h = absurd (let bad : ⊥ = cc in bad)
-  plain_scalar fs (Update m es e) h = absurd (let bad : ⊥ = cc in bad)
-  plain_scalar fs (Old e) h = plain_scalar fs e h
-
-  all_plain_scalar : (fs : List Fun) (es : Exs) → are_plain fs es ≡ true → are_scalar true es ≡ true
-  all_plain_scalar fs NoMore h = refl
-  all_plain_scalar fs (More e es) h =
-      both (is_scalar true e) (are_scalar true es) (plain_scalar fs e (and_left (is_plain fs e) (are_plain fs es) h)) (all_plain_scalar fs es (and_right (is_plain fs e) (are_plain fs es) h))
 
 all_more : {A : Type 0} (f g : A → Bool) → ((x : A) → f x ≡ true → g x ≡ true) → (xs : List A) → list_all f xs ≡ true → list_all g xs ≡ true
 all_more f g k [] h = refl
@@ -143,5 +125,5 @@ module _ (ty : Ty → Bool) (f g : Ex → Bool) (more : (e : Ex) → f e ≡ tru
       (both (is_empty p.axioms) (procs' && impls') (and_left (is_empty p.axioms) (procs && impls) three)
       (both procs' impls' (all_more (proc_passes n ty f) (proc_passes n ty g) (proc_more n) p.procedures (and_left procs impls four)) (all_more (impl_passes n ty f) (impl_passes n ty g) (impl_more n) p.implementations (and_right procs impls four))))))
 
-pub over_plain : (fs : List Fun) (p : Prog) → is_over_plain fs p ≡ true → is_over_scalars true p ≡ true
-over_plain fs p h = program_more (is_scalar_type true) (is_plain fs) (is_scalar true) (plain_scalar fs) p h
+pub over_plain : (fs : List Fun) (p : Prog) → is_over_plain fs p ≡ true → is_over_values p ≡ true
+over_plain fs p h = program_more is_value_type (is_plain fs) any_ex (λ e k. refl) p h

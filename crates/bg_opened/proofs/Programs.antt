@@ -11,7 +11,7 @@ use Rattle.bg_sense.specs.Typed.{IsLinear, HasNoOld, IsFormula, IsGuard, Around,
 use Rattle.bg_sense.specs.Recursion.{HasNoRecursion}
 use Rattle.bg_sense.specs.Resolved.{IsResolved}
 use Rattle.bg_sense.proofs.Bools.{and_left, and_right}
-use Rattle.bg_fits.specs.Scalars.{is_scalar_type, exs_pass, clause_passes, guard_passes, st_passes, decl_passes, decls_pass, proc_passes, impl_passes, is_declared}
+use Rattle.bg_fits.specs.Valued.{is_value_type, exs_pass, clause_passes, guard_passes, st_passes, decl_passes, decls_pass, proc_passes, impl_passes, is_declared}
 use Rattle.bg_opened.proofs.Plain.{is_plain, is_over_plain}
 use Rattle.bg_opened.proofs.Tables.{no_body}
 use Rattle.bg_opened.specs.Exprs.{opened, all_opened, bodies_to}
@@ -173,13 +173,13 @@ module _ (depth : ℕ) (p : Prog) (typed : IsTyped p) (res : IsResolved p) (none
   )
 
   abbrev Decls : List Decl → Bool
-  Decls es = decls_pass (is_scalar_type true) (is_plain F) (map OD es)
+  Decls es = decls_pass is_value_type (is_plain F) (map OD es)
 
   decls_typed : (ds es : List Decl) → Each (λ d. All (IsFormula (sig_in p ds)) d.wheres) es → Decls es ≡ true → Each (λ d. All (IsFormula (sig_in o (map OD ds))) d.wheres) (map OD es)
   decls_typed ds [] h s = tt
   decls_typed ds (d ∷ es) h s = (
-    all_each (IsFormula (sig_in o (map OD ds))) (map O d.wheres) (list_typed ds d.wheres (each_all (IsFormula (sig_in p ds)) d.wheres h.0) (and_right (is_scalar_type true d.ty) (list_all (is_plain F) (map O d.wheres)) (and_left (decl_passes (is_scalar_type true) (is_plain F) (OD d)) (Decls es) s))),
-    decls_typed ds es h.1 (and_right (decl_passes (is_scalar_type true) (is_plain F) (OD d)) (Decls es) s),
+    all_each (IsFormula (sig_in o (map OD ds))) (map O d.wheres) (list_typed ds d.wheres (each_all (IsFormula (sig_in p ds)) d.wheres h.0) (and_right (is_value_type d.ty) (list_all (is_plain F) (map O d.wheres)) (and_left (decl_passes is_value_type (is_plain F) (OD d)) (Decls es) s))),
+    decls_typed ds es h.1 (and_right (decl_passes is_value_type (is_plain F) (OD d)) (Decls es) s),
   )
 
   guard_typed : (ds : List Decl) (e : Guard) → IsGuard (sig_in p ds) e → guard_passes (is_plain F) (opened_guard g b e) ≡ true → IsGuard (sig_in o (map OD ds)) (opened_guard g b e)
@@ -304,7 +304,7 @@ module _ (depth : ℕ) (p : Prog) (typed : IsTyped p) (res : IsResolved p) (none
   proc_typed : (k : ℕ) (q : Proc) → procedure_of p k ≡ Some q → IsTypedProc o (opened_proc g b q)
   proc_typed k q e =
       let t = at_all (IsTypedProc p) p.procedures k q typed.procedures e in
-      let s = list_all_at (proc_passes n (is_scalar_type true) (is_plain F)) o.procedures k (opened_proc g b q) (procs_pass depth p test) (its_procedure depth p [] k ∙ ap (option_map (opened_proc g b)) e) in
+      let s = list_all_at (proc_passes n is_value_type (is_plain F)) o.procedures k (opened_proc g b q) (procs_pass depth p test) (its_procedure depth p [] k ∙ ap (option_map (opened_proc g b)) e) in
       let s1 = and_right (Decls q.params) (Decls q.results && (Clauses q.requires_ && Clauses q.ensures_)) s in
       let s2 = and_right (Decls q.results) (Clauses q.requires_ && Clauses q.ensures_) s1 in
       let joined = map_append OD q.params q.results in
@@ -321,7 +321,7 @@ module _ (depth : ℕ) (p : Prog) (typed : IsTyped p) (res : IsResolved p) (none
       let q = t.procedure in
       let ds = q.params ++ (q.results ++ m.locals) in
       let whole = supposing (map O (claims p)) (opened_st g b m.body) in
-      let s = list_all_at (impl_passes n (is_scalar_type true) (is_plain F)) o.implementations k (opened_impl g b (claims p) m) (impls_pass depth p test) (at_mapped (opened_impl g b (claims p)) p.implementations k ∙ ap (option_map (opened_impl g b (claims p))) e) in
+      let s = list_all_at (impl_passes n is_value_type (is_plain F)) o.implementations k (opened_impl g b (claims p) m) (impls_pass depth p test) (at_mapped (opened_impl g b (claims p)) p.implementations k ∙ ap (option_map (opened_impl g b (claims p))) e) in
       let parts = supposing_passes n (is_plain F) (map O (claims p)) (opened_st g b m.body) (and_right (Decls m.locals) (st_passes n (is_plain F) whole) s) in
       let same = sym (frame_opened g b q m) in
       record {
@@ -345,7 +345,7 @@ module _ (depth : ℕ) (p : Prog) (typed : IsTyped p) (res : IsResolved p) (none
   pub program_typed : IsTyped o
   program_typed =
       record {
-        globals = all_each (λ d. All (IsFormula (sig_in o [])) d.wheres) o.globals (each_append (λ d. All (IsFormula (sig_in o [])) d.wheres) (map OD p.globals) (map global_for p.constants) (decls_typed [] p.globals (each_all (λ d. All (IsFormula (sig_in p [])) d.wheres) p.globals typed.globals) (list_all_left (decl_passes (is_scalar_type true) (is_plain F)) (map OD p.globals) (map global_for p.constants) (globals_pass depth p test))) (constants_plain p.constants));
+        globals = all_each (λ d. All (IsFormula (sig_in o [])) d.wheres) o.globals (each_append (λ d. All (IsFormula (sig_in o [])) d.wheres) (map OD p.globals) (map global_for p.constants) (decls_typed [] p.globals (each_all (λ d. All (IsFormula (sig_in p [])) d.wheres) p.globals typed.globals) (list_all_left (decl_passes is_value_type (is_plain F)) (map OD p.globals) (map global_for p.constants) (globals_pass depth p test))) (constants_plain p.constants));
         axioms = λ k d l. absurd (omega arith);
         bodies = λ f fn e q s. absurd (no_body F f fn e q s);
         plain_bodies = λ f fn e q s. absurd (no_body F f fn e q s);

@@ -1,6 +1,6 @@
 -- Opened expressions are typed, and each product in them has a constant side.
 use Rattle.std.proofs.Common.{◌≡◌, ℕ, zero, suc, ◌+◌, true, List, [], ◌∷◌, ◌++◌, length, map, Option, Some, None, refl, sym, ap, ◌∙◌, subst, inl, inr, ⊎_elim}
-use Rattle.std.specs.Prelude.{not, slice_get, option_map}
+use Rattle.std.specs.Prelude.{◌&&◌, not, slice_get, option_map}
 use Rattle.bg_ast.specs.Values.{Ty, IntTy, BoolTy, MapTy}
 use Rattle.bg_ast.specs.Syntax.{Op, And, Or, Implies, Iff, Equal, Unequal, Less, AtMost, Greater, AtLeast, Plus, Minus, Times, Global, Local, Ex, Exs, Number, Fact, Constant, Read, Not, Negative, Binary, Apply, Select, Update, Old, NoMore, More, Fun}
 use Rattle.bg_sense.specs.Tables.{has_body}
@@ -165,8 +165,13 @@ module _ (cs : List Ty) (fs : List Fun) (gts r : List Ty) where
       h.2,
       all_plain_typed es h.0.params (and_right (not (has_body (raw_bodies fs f))) (are_plain fs es) s) h.3,
     )
-    plain_typed (Select m es) t s h = absurd (let bad : ⊥ = cc in bad)
-    plain_typed (Update m es e) t s h = absurd (let bad : ⊥ = cc in bad)
+    plain_typed (Select m es) t s h =
+        (h.0, plain_typed m (MapTy h.0 t) (and_left (is_plain fs m) (are_plain fs es) s) h.1, all_plain_typed es (map key_ty h.0) (and_right (is_plain fs m) (are_plain fs es) s) h.2)
+    plain_typed (Update m es e) t s h =
+        let rest = and_right (is_plain fs m) (are_plain fs es && is_plain fs e) s in (
+          h.0,
+          (h.1.0, h.1.1, plain_typed m (MapTy h.0 h.1.0) (and_left (is_plain fs m) (are_plain fs es && is_plain fs e) s) h.1.2, all_plain_typed es (map key_ty h.0) (and_left (are_plain fs es) (is_plain fs e) rest) h.1.3, plain_typed e h.1.0 (and_right (are_plain fs es) (is_plain fs e) rest) h.1.4),
+        )
     plain_typed (Old e) t s h = plain_typed e t s h
 
     all_plain_typed : (es : Exs) (ts : List Ty) → are_plain fs es ≡ true → HaveTypes es Whole ts → HaveTypes es Bodiless ts

@@ -1,4 +1,4 @@
--- What is claimed of constants holds exactly where the unique ones differ and the axioms are true; the claims are typed and judged.
+-- What is claimed of constants holds exactly where the unique ones differ and the axioms are true; the claims are typed.
 use Rattle.std.proofs.Common.{◌≡◌, ℕ, suc, ◌+◌, Bool, true, false, List, [], ◌∷◌, ◌++◌, length, map, Some, refl, sym, ap, ◌∙◌, subst, arith}
 use Rattle.std.specs.Prelude.{◌&&◌, ◌||◌, not, if◌then◌else◌, slice_get, All}
 use Rattle.std.specs.List.{list_all}
@@ -12,7 +12,6 @@ use Rattle.bg_sense.specs.Typing.{Sig, sig_in}
 use Rattle.bg_sense.specs.Typed.{HasNoOld, IsFormula}
 use Rattle.bg_kinds.proofs.Sameness.{types_same}
 use Rattle.bg_opened.specs.Unique.{uniques, pairs_with, pairs, unique_pairs, apart, claims}
-use Rattle.bg_opened.specs.Judged.{is_judged_ex}
 use Rattle.bg_opened.proofs.Runs.{Each}
 use Rattle.bg_opened.proofs.Resolves.{map_append, each_all}
 use Rattle.bg_opened.proofs.Fairs.{each_append}
@@ -136,12 +135,3 @@ module _ (p : Prog) where
   claims_typed typed =
       let unique = uniques_typed 0 p.constants (λ j. let same : 0 + j ≡ j = omega arith in ap (slice_get (const_types p.constants)) same) in
       each_append Good (map apart (unique_pairs p.constants)) p.axioms (pairs_good (uniques 0 p.constants) unique) (each_all Good p.axioms typed)
-
--- ---- claims are judged
-
-apart_judged : (qs : List (ℕ × ℕ)) (es : List Ex) → list_all is_judged_ex es ≡ true → list_all is_judged_ex (map apart qs ++ es) ≡ true
-apart_judged [] es h = h
-apart_judged (q ∷ qs) es h = apart_judged qs es h
-
-pub claims_judged : (p : Prog) → list_all is_judged_ex p.axioms ≡ true → list_all is_judged_ex (claims p) ≡ true
-claims_judged p h = apart_judged (unique_pairs p.constants) p.axioms h

@@ -15,10 +15,10 @@ use Rattle.bg_sense.specs.Places.{places}
 use Rattle.bg_sense.specs.Claims.{IsState, Safe, Fails, Inductive, Greatest}
 use Rattle.bg_sense.proofs.TypedPrograms.{typed_safe}
 use Rattle.bg_sense.proofs.Bools.{both}
-use Rattle.bg_fits.specs.Scalars.{is_over_scalars}
+use Rattle.bg_fits.specs.Valued.{is_over_values}
 use Rattle.bg_opened.specs.Programs.{opened_program}
 use Rattle.bg_opened.specs.Moments.{tables_of, with_constants, interp_in, without_constants}
-use Rattle.bg_opened.specs.Judged.{is_judged_ex, const_judged, fun_judged, is_judged}
+use Rattle.bg_opened.specs.Judged.{const_judged, fun_judged, is_judged}
 use Rattle.bg_opened.specs.Openable.{IsOpenable}
 use Rattle.bg_opened.specs.Axioms.{bare, claims_false, of_axioms, axiom_program, axiom_place, no_state}
 use Rattle.bg_opened.proofs.Plain.{is_over_plain, over_plain as plain_is_scalar}
@@ -28,7 +28,7 @@ use Rattle.bg_opened.proofs.Fairs.{types_length}
 use Rattle.bg_opened.proofs.Uniques.{claims_hold}
 use Rattle.bg_opened.proofs.Claims.{are_of_length, runs_alike, opened_fails, program_fails, program_runs}
 use Rattle.bg_opened.proofs.Programs.{program_typed}
-use Rattle.bg_opened.proofs.Scalars.{over_plain, constants_judged, functions_judged, axioms_judged}
+use Rattle.bg_opened.proofs.Scalars.{over_plain, constants_judged, functions_judged}
 
 module _ (depth : ℕ) (p : Prog) (h : IsOpenable depth p) where
   abbrev o : Prog
@@ -37,7 +37,7 @@ module _ (depth : ℕ) (p : Prog) (h : IsOpenable depth p) where
   plain : is_over_plain p.functions o ≡ true
   plain = over_plain depth p h.typed h.chains h.judged
 
-  pub scalars : is_over_scalars true o ≡ true
+  pub scalars : is_over_values o ≡ true
   scalars = plain_is_scalar p.functions o plain
 
   pub typed : IsTyped o
@@ -141,7 +141,7 @@ module _ (depth : ℕ) (p : Prog) (h : IsOpenable depth p) where
 
   q_judged : is_judged q ≡ true
   q_judged =
-      both (list_all const_judged p.constants) (list_all fun_judged p.functions && (list_all is_judged_ex p.axioms && true)) (constants_judged p h.judged) (both (list_all fun_judged p.functions) (list_all is_judged_ex p.axioms && true) (functions_judged p h.judged) (both (list_all is_judged_ex p.axioms) true (axioms_judged p h.judged) refl))
+      both (list_all const_judged p.constants) (list_all fun_judged p.functions && true) (constants_judged p h.judged) (both (list_all fun_judged p.functions) true (functions_judged p h.judged) refl)
 
   pub q_openable : IsOpenable depth q
   q_openable =

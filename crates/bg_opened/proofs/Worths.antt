@@ -1,6 +1,6 @@
 -- What opened expressions are worth.
 use Rattle.std.proofs.Common.{◌≡◌, ◌<◌, ℕ, zero, suc, ◌+◌, Bool, true, List, [], ◌∷◌, ◌++◌, length, map, Option, Some, None, refl, sym, ap, ◌∙◌, subst, arith}
-use Rattle.std.specs.Prelude.{slice_get, not, neg_ℤ}
+use Rattle.std.specs.Prelude.{◌&&◌, slice_get, not, neg_ℤ}
 use Rattle.bg_ast.specs.Values.{Val, Num, Truth, Ty, IntTy, BoolTy, select, update, number_of, truth_of}
 use Rattle.bg_ast.specs.Syntax.{Op, And, Or, Implies, Iff, Equal, Unequal, Less, AtMost, Greater, AtLeast, Plus, Minus, Times, Global, Local, Ex, Exs, Number, Fact, Constant, Read, Not, Negative, Binary, Apply, Select, Update, Old, NoMore, More, Fun, Prog}
 use Rattle.bg_ast.specs.Execution.{Interp}
@@ -288,8 +288,14 @@ module _ (funs : List Fun) (fs hs : ℕ → List Val → Val) (same : (f : ℕ) 
     plain_worth (Apply f es) r ys h =
         ap (fs f) (all_plain_worth es r ys (and_right (has_none f) (are_plain funs es) h))
         ∙ same f (evs es (B r ys)) (and_left (has_none f) (are_plain funs es) h)
-    plain_worth (Select m es) r ys h = absurd (let bad : ⊥ = cc in bad)
-    plain_worth (Update m es e) r ys h = absurd (let bad : ⊥ = cc in bad)
+    plain_worth (Select m es) r ys h =
+        ap (λ v. select v (map number_of (evs es (A r ys)))) (plain_worth m r ys (and_left (is_plain funs m) (are_plain funs es) h))
+        ∙ ap (λ vs. select (ev m (B r ys)) (map number_of vs)) (all_plain_worth es r ys (and_right (is_plain funs m) (are_plain funs es) h))
+    plain_worth (Update m es e) r ys h =
+        let rest = and_right (is_plain funs m) (are_plain funs es && is_plain funs e) h in
+        ap (λ v. update v (map number_of (evs es (A r ys))) (ev e (A r ys))) (plain_worth m r ys (and_left (is_plain funs m) (are_plain funs es && is_plain funs e) h))
+        ∙ ap (λ vs. update (ev m (B r ys)) (map number_of vs) (ev e (A r ys))) (all_plain_worth es r ys (and_left (are_plain funs es) (is_plain funs e) rest))
+        ∙ ap (update (ev m (B r ys)) (map number_of (evs es (B r ys)))) (plain_worth e r ys (and_right (are_plain funs es) (is_plain funs e) rest))
     plain_worth (Old e) r ys h = plain_worth e r bs h
 
     all_plain_worth : (es : Exs) (r ys : List Val) → are_plain funs es ≡ true → evs es (A r ys) ≡ evs es (B r ys)

@@ -10,7 +10,7 @@ ghost use Rattle.bg_sense.specs.Run.{induction_run};
 ghost use Rattle.bg_sense.specs.Clauses.{is_kept};
 ghost use Rattle.bg_sense.specs.Places.{places};
 ghost use Rattle.bg_sense.specs.Claims.{Meets, IsState, Safe, Fails, Inductive, Greatest};
-ghost use Rattle.bg_fits.specs.Scalars.{is_over_scalars};
+ghost use Rattle.bg_fits.specs.Valued.{is_over_values};
 ghost use Rattle.bg_opened.specs.Exprs.{opened, bodies_to, raw_bodies};
 ghost use Rattle.bg_opened.specs.Programs.{opened_program};
 ghost use Rattle.bg_opened.specs.Written as w;
@@ -25,9 +25,9 @@ pub fn opened_programs_have_the_same_places()
     ensures { (depth : ℕ) (p : Prog) → places (opened_program depth p) ≡ places p }
 {}
 
-/// An opened program is over truth values, whole numbers, elements of user types and functions on them without a body, typed, and its names are resolved.
-pub fn opened_programs_are_over_scalars()
-    ensures scalars { (depth : ℕ) (p : Prog) → IsOpenable depth p → is_over_scalars true (opened_program depth p) ≡ true }
+/// An opened program has no constants, no axioms and no bodies of functions, each of its maps has an index, it is typed, and its names are resolved.
+pub fn opened_programs_are_over_values()
+    ensures scalars { (depth : ℕ) (p : Prog) → IsOpenable depth p → is_over_values (opened_program depth p) ≡ true }
     ensures typed { (depth : ℕ) (p : Prog) → IsOpenable depth p → IsTyped (opened_program depth p) }
     ensures resolved { (depth : ℕ) (p : Prog) → IsOpenable depth p → IsResolved (opened_program depth p) }
 {}

@@ -7,4 +7,5 @@ pub mod There
 pub mod Statements
 pub mod Bodies
 pub mod UniqueSteps
+pub mod NextSteps
 pub mod OpenedWhole

@@ -3,3 +3,4 @@ pub mod Desks
 pub mod Applied
 pub mod Axioms
 pub mod Constants
+pub mod Nexts

@@ -8,6 +8,7 @@ mod copies;
 mod declared;
 mod exprs;
 pub mod laws;
+mod nexts;
 mod nodes;
 mod passes;
 mod puts;
@@ -17,5 +18,6 @@ mod uniques;
 mod whole;
 
 pub use axioms::axiom_program;
+pub use nexts::{next_of, nexts_of};
 pub use uniques::{Unique, uniques_of};
 pub use whole::open_program;

@@ -1,13 +1,15 @@
 //! Unique constants, and that they differ.
-ghost use Rattle.std.specs.Prelude.{◌≡◌, ℕ, suc, ◌++◌, ◌∷◌, [], if◌then◌else◌, map, IfOk, OnOk};
+ghost use Rattle.std.specs.Prelude.{◌≡◌, ◌<◌, ◌+◌, ℕ, suc, ◌++◌, ◌∷◌, [], if◌then◌else◌, length, get_or, drop, map, IfOk, OnOk};
 ghost use Rattle.bg_ast.specs.Meaning.{named_of, type_in};
 ghost use Rattle.bg_ast.specs.Views as v;
 ghost use Rattle.bg_kinds.specs.Views.{ref_in};
 ghost use Rattle.bg_opened.specs.Unique.{uniques, pair_of, pairs_with, pairs, unique_pairs};
 ghost use Rattle.bg_opened.specs.Written as w;
 ghost use Rattle.bg_opening.specs.Constants.{constants_in, unique_of};
+ghost use Rattle.bg_opening.specs.Nexts.{code_of, AreNexts};
 
 use crate::axioms::NOWHERE;
+use crate::nexts::{next_of, nexts_of};
 use bg_ast::resolved::{Constant, Expr, Link, TypeName};
 use bg_fits::written_kind;
 use bg_kinds::{ValueType, is_same_type};
@@ -98,27 +100,41 @@ fn push_pair(
     Ok(())
 }
 
-/// Adds that a constant is different from each of these that is of the same type.
+/// Adds that a constant is different from each behind it that is of the same type. Time is linear in the number of those whose types
+/// have the same code.
 fn push_apart(
     alloc: Global,
     out: &mut Vec<Expr>,
     first: &Unique,
-    others: &[Unique],
+    told: &[Unique],
+    nexts: &[usize],
+    place: usize,
 ) -> Result<(), AllocError>
-    ensures { OnOk result (map v.ex_of out.new.items ≡ map v.ex_of out.old.items ++ map w.apart (pairs_with first.now.number (ref_in first.now.kind) (map unique_of others.now))) }
+    requires nexts { AreNexts (map code_of told.now) nexts.now }
+    requires place { place < length told.now }
+    requires first { first.now ≡ get_or told.now place first.now }
+    ensures { OnOk result (map v.ex_of out.new.items ≡ map v.ex_of out.old.items ++ map w.apart (pairs_with first.now.number (ref_in first.now.kind) (map unique_of (drop (place + 1) told.now)))) }
 {
-    for other in others {
-        push_pair(alloc, out, first, other)?;
+    let mut at = next_of(nexts, place);
+    while at < told.len() {
+        push_pair(alloc, out, first, &told[at])?;
+        at = next_of(nexts, at);
     }
     Ok(())
 }
 
 /// Adds that each is different from each later one of the same type.
-fn push_pairs(alloc: Global, out: &mut Vec<Expr>, told: &[Unique]) -> Result<(), AllocError>
+fn push_pairs(
+    alloc: Global,
+    out: &mut Vec<Expr>,
+    told: &[Unique],
+    nexts: &[usize],
+) -> Result<(), AllocError>
+    requires { AreNexts (map code_of told.now) nexts.now }
     ensures { OnOk result (map v.ex_of out.new.items ≡ map v.ex_of out.old.items ++ map w.apart (pairs (map unique_of told.now))) }
 {
     for place in 0..told.len() {
-        push_apart(alloc, out, &told[place], &told[place + 1..])?;
+        push_apart(alloc, out, &told[place], told, nexts, place)?;
     }
     Ok(())
 }
@@ -132,8 +148,9 @@ pub fn told_apart(
     ensures { IfOk result (λ made. map v.ex_of made.items ≡ map w.apart (unique_pairs (constants_in types.now constants.now))) }
 {
     let told = uniques_of(alloc, types, constants)?;
+    let nexts = nexts_of(alloc, &told)?;
     let mut made = Vec::new(alloc);
-    push_pairs(alloc, &mut made, &told)?;
+    push_pairs(alloc, &mut made, &told, &nexts)?;
     Ok(made)
 }
 

@@ -1,4 +1,4 @@
--- Leaves whose terms are applications of functions.
+-- Leaves: the values behind their scalars.
 use Rattle.std.specs.Prelude.{◌≡◌, ℕ, pos, true, List, Some, slice_get}
 use Rattle.bg_ast.specs.Values.{Val, Num, Ty, truth_of}
 use Rattle.bg_ast.specs.Syntax.{Fun}
@@ -6,16 +6,11 @@ use Rattle.bg_sense.specs.Eval.{value_at, ev, default_result}
 use Rattle.bg_terms.specs.Terms.{Head, Applies, Term, over}
 use Rattle.bg_terms.specs.Built.{built}
 use Rattle.bg_terms.specs.Instances.{Congruent, instance_ex}
-use Rattle.bg_terms.specs.Tables.{is_application}
 
 -- behind these scalars of incarnations and terms of these types stand these values
 abbrev pub AreBuilt : ℕ → List Term → List Ty → (s w : List Val) → Type 0
 AreBuilt n ts tys s w =
     (j : ℕ) (t : Ty) → slice_get tys j ≡ Some t → value_at w j ≡ built s n ts t (value_at s j)
-
--- each term is an application
-abbrev pub AreApplications : List Term → Type 0
-AreApplications ts = (a : ℕ) (t : Term) → slice_get ts a ≡ Some t → is_application t.head ≡ true
 
 -- no congruence of the terms is false
 abbrev pub AreCongruent : List Val → ℕ → List Term → Type 0

@@ -14,3 +14,6 @@ pub mod Replays
 pub mod More
 pub mod First
 pub mod Bases
+pub mod Levels
+pub mod Truths
+pub mod Entries

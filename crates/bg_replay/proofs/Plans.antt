@@ -33,7 +33,7 @@ so_over ends.Blocked n g = refl
 so_over (ends.Failed x) n g = refl
 so_over ends.BadChoice n g = refl
 so_over (ends.OutOfRange o) n g = refl
-so_over ends.NoScalars n g = refl
+so_over ends.NoValues n g = refl
 
 then_fine : (a : WorthOf) → then_said (or_stops Blocked a) Fine ≡ or_stops Blocked a
 then_fine (Is (Truth true)) = refl

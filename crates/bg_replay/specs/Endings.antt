@@ -76,7 +76,7 @@ pub record IsOver (p : r.Program) (im : r.Impl) (q : r.Proc) (bs : List Block) (
   pub frame : are_of (types_of (frame_in p im q)) fs ≡ true
 
 -- the ending is that of the blocks' run; where it is an answer, it is that of their execution under each interpretation in which
--- functions mean these tables; and of typed blocks without constants it is never `NoScalars`
+-- functions mean these tables; and of typed blocks without constants it is never `NoValues`
 pub record IsReplay (p : r.Program) (bs : List Block) (set : List Bool) (number : ℕ) (im : r.Impl) (q : r.Proc) (ts : List Table) (gs fs : List Val) (choices : List Choice) (ending : Ending) : Type 0 where
   pub ran : said_by ending ≡ runs (around_in p im q set ts gs) 0 (map (block_of p) bs) (moment_in gs fs choices)
   pub right : (i : Interp) → MeanTables (functions_of (m.meaning_of p) i) ts → IsRight ending (blocks_run (context Cut (m.meaning_of p) (set_of set) i number (m.impl_of (m.named_of p.types) im) (m.proc_of (m.named_of p.types) q) (state_of gs fs)) (map (block_of p) bs) (start (state_of gs fs) choices 0))

@@ -8,3 +8,4 @@ pub mod Operations
 pub mod Kept
 pub mod Endings
 pub mod Over
+pub mod Levels

@@ -5,10 +5,9 @@ use Rattle.bg_kinds.specs.Views.{ref_in}
 use Rattle.bg_places.specs.Views.{spot_of}
 use Rattle.bg_sense.specs.Flow.{Ended, Blocked, Failed, BadChoice}
 use Rattle.bg_ast.specs.Values.{Val}
-use Rattle.bg_scalar.specs.Values.{val_of}
 use Rattle.bg_scalar.specs.Choices.{choice_of}
 use Rattle.bg_scalar.specs.Views.{tables_in, vals_in}
-use Rattle.bg_scalar.specs.declared.scalar.Scalar.{Scalar}
+use Rattle.bg_scalar.specs.declared.value.Value.{Value}
 use Rattle.bg_replay.specs.Moments.{Moment, Around}
 use Rattle.bg_replay.specs.Said.{Said, Fine, Stops, Leaves, Unsaid}
 use Rattle.bg_replay.specs.Ways.{Way, On, Off, Beyond, Nowhere}
@@ -45,7 +44,7 @@ said_by ending.Blocked = Stops Blocked
 said_by (ending.Failed s) = Stops (Failed (spot_of s))
 said_by ending.BadChoice = Stops BadChoice
 said_by (ending.OutOfRange o) = Leaves o
-said_by ending.NoScalars = Unsaid
+said_by ending.NoValues = Unsaid
 
 abbrev pub said_of : Step → Said
 said_of step.Goes = Fine
@@ -61,10 +60,6 @@ abbrev pub way_of : code_way.Way → Moment → Way
 way_of (way.To k) m = On k m
 way_of (way.Over e) m = off_way (said_by e)
 
-abbrev pub value_in : Option Scalar → Option Val
-value_in None = None
-value_in (Some x) = Some (val_of x)
-
-abbrev pub items_of : Option (Vec Scalar Global) → Option (List Val)
+abbrev pub items_of : Option (Vec Value Global) → Option (List Val)
 items_of None = None
 items_of (Some xs) = Some (vals_in xs.items)

@@ -16,13 +16,13 @@ ghost use Rattle.bg_replay.specs.Views.{moment_of, around_of, said_of};
 use crate::clauses::{check, suppose};
 use crate::ending::{Ending, Step};
 use crate::moment::{Around, Moment, forget, put_taken, rest_of, seen};
-use crate::values::{append, chosen, copied};
+use crate::values::{append, chosen};
 use bg_ast::resolved::{Call, Procedure, Variable};
 use bg_blocks::Kept;
 use bg_fits::push_kinds;
 use bg_kinds::ValueType;
 use bg_places::Group;
-use bg_scalar::{Scalar, Scalars, Sight, worths};
+use bg_scalar::{ListWorth, Sight, Value, copies, worths};
 use std::alloc::AllocError;
 
 /// A call, the procedure that is called, the globals that it modifies, and the types of its results.
@@ -40,8 +40,8 @@ fn give_back(
     around: Around<'_>,
     moment: &mut Moment<'_>,
     callee: Callee<'_>,
-    was: &[Scalar],
-    args: Vec<Scalar>,
+    was: &[Value],
+    args: Vec<Value>,
 ) -> Result<Step, AllocError>
     ensures { IfOk result (λ step. on_said (said_of step) (moment_of moment.new) ≡ given_back (chosen (map ref_in callee.entry.results.now) (moment_of moment.old).choices) (around_of around.entry) (vals_in was.now) (vals_in args.items) (sayings each_one (clauses_in callee.entry.procedure.now.ensures_.items)) (map m.variable_of (map placed_of callee.entry.call.now.takes.items)) (moment_of moment.old)) }
 {
@@ -50,7 +50,7 @@ fn give_back(
         return Ok(Step::Over(Ending::BadChoice));
     };
     moment.left = rest_of(moment.left, values.len());
-    append(&mut frame, &values)?;
+    append(around.alloc, &mut frame, &values)?;
     let sight = Sight {
         tables: around.tables,
         globals: &moment.globals,
@@ -60,7 +60,7 @@ fn give_back(
     match suppose(around, sight, Kept::Each, &callee.procedure.ensures_)? {
         Step::Over(e) => Ok(Step::Over(e)),
         Step::Goes => {
-            put_taken(moment, &callee.call.takes, &values);
+            put_taken(around.alloc, moment, &callee.call.takes, &values)?;
             Ok(Step::Goes)
         }
     }
@@ -72,7 +72,7 @@ fn call_with(
     around: Around<'_>,
     moment: &mut Moment<'_>,
     callee: Callee<'_>,
-    args: Vec<Scalar>,
+    args: Vec<Value>,
 ) -> Result<Step, AllocError>
     ensures { IfOk result (λ step. on_said (said_of step) (moment_of moment.new) ≡ called_with (Are (vals_in args.items)) (around_of around.entry) (demands (AtCall callee.entry.call.now.site) (clauses_in callee.entry.procedure.now.requires_.items)) (map var_of callee.entry.modifies.now) (map ref_in callee.entry.results.now) (sayings each_one (clauses_in callee.entry.procedure.now.ensures_.items)) (map m.variable_of (map placed_of callee.entry.call.now.takes.items)) (moment_of moment.old)) }
 {
@@ -87,8 +87,8 @@ fn call_with(
         Step::Over(e) => return Ok(Step::Over(e)),
         Step::Goes => {}
     }
-    let was = copied(around.alloc, &moment.globals)?;
-    match forget(around, moment, callee.modifies) {
+    let was = copies(around.alloc, &moment.globals)?;
+    match forget(around, moment, callee.modifies)? {
         Step::Over(e) => return Ok(Step::Over(e)),
         Step::Goes => {}
     }
@@ -113,9 +113,9 @@ pub fn call(
         &mut results,
     )?;
     match worths(around.alloc, seen(around, moment), &k.args)? {
-        Scalars::Leave(o) => Ok(Step::Over(Ending::OutOfRange(o))),
-        Scalars::NoScalars => Ok(Step::Over(Ending::NoScalars)),
-        Scalars::Are(args) => {
+        ListWorth::Leave(o) => Ok(Step::Over(Ending::OutOfRange(o))),
+        ListWorth::NoValues => Ok(Step::Over(Ending::NoValues)),
+        ListWorth::Are(args) => {
             let callee = Callee {
                 call: k,
                 procedure: q,

@@ -18,7 +18,7 @@ use bg_ast::resolved::Clause;
 use bg_base::CandId;
 use bg_blocks::Kept;
 use bg_places::{Group, spot_at};
-use bg_scalar::{Scalar, Sight, Worth, worth};
+use bg_scalar::{Sight, Worth, truth, worth};
 use std::alloc::AllocError;
 
 /// Whether a clause with this candidate is there.
@@ -32,30 +32,34 @@ fn is_kept(set: &[bool], candidate: Option<CandId>) -> bool
 }
 
 /// What is checked is true, or the run fails there.
-fn ensured(group: Group, clause: u32, value: Worth) -> Step
-    ensures { said_of result ≡ or_stops (Failed (spot_in group clause)) (worth_in value) }
+#[tactic(auto, using(crate::proofs::Truths::said_forms))]
+fn ensured(group: Group, clause: u32, value: Worth<'_>) -> Step
+    ensures { said_of result ≡ or_stops (Failed (spot_in group clause)) (worth_in value.entry) }
 {
     match value {
         Worth::Leaves(o) => Step::Over(Ending::OutOfRange(o)),
-        Worth::NoScalar => Step::Over(Ending::NoScalars),
-        Worth::Is(Scalar::Number(_)) => Step::Over(Ending::NoScalars),
-        Worth::Is(Scalar::Element(_, _)) => Step::Over(Ending::NoScalars),
-        Worth::Is(Scalar::Truth(true)) => Step::Goes,
-        Worth::Is(Scalar::Truth(false)) => Step::Over(Ending::Failed(spot_at(group, clause))),
+        Worth::NoValue => Step::Over(Ending::NoValues),
+        Worth::Is(x) => match truth(&x) {
+            None => Step::Over(Ending::NoValues),
+            Some(true) => Step::Goes,
+            Some(false) => Step::Over(Ending::Failed(spot_at(group, clause))),
+        },
     }
 }
 
 /// What is assumed is true, or the run is blocked.
-pub fn assumed(value: Worth) -> Step
-    ensures { said_of result ≡ or_stops Blocked (worth_in value) }
+#[tactic(auto, using(crate::proofs::Truths::said_forms))]
+pub fn assumed(value: Worth<'_>) -> Step
+    ensures { said_of result ≡ or_stops Blocked (worth_in value.entry) }
 {
     match value {
         Worth::Leaves(o) => Step::Over(Ending::OutOfRange(o)),
-        Worth::NoScalar => Step::Over(Ending::NoScalars),
-        Worth::Is(Scalar::Number(_)) => Step::Over(Ending::NoScalars),
-        Worth::Is(Scalar::Element(_, _)) => Step::Over(Ending::NoScalars),
-        Worth::Is(Scalar::Truth(true)) => Step::Goes,
-        Worth::Is(Scalar::Truth(false)) => Step::Over(Ending::Blocked),
+        Worth::NoValue => Step::Over(Ending::NoValues),
+        Worth::Is(x) => match truth(&x) {
+            None => Step::Over(Ending::NoValues),
+            Some(true) => Step::Goes,
+            Some(false) => Step::Over(Ending::Blocked),
+        },
     }
 }
 

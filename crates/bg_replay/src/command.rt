@@ -17,7 +17,7 @@ use crate::moment::{Around, Moment, forget, put_targets, seen};
 use crate::values::values_for;
 use bg_ast::resolved::{Expr, Target};
 use bg_blocks::Cmd;
-use bg_scalar::{Scalars, worth};
+use bg_scalar::{ListWorth, worth};
 use std::alloc::AllocError;
 
 /// An assignment: all right sides are read before any variable changes.
@@ -30,10 +30,10 @@ fn assign(
     ensures { IfOk result (λ step. on_said (said_of step) (moment_of moment.new) ≡ assigned (worths (m.values_of (map target_of targets.now) (exs_in es.now)) (seen_at (around_of around.entry) (moment_of moment.old))) (map target_variable (map target_of targets.now)) (moment_of moment.old)) }
 {
     match values_for(around.alloc, seen(around, moment), targets, es)? {
-        Scalars::Leave(o) => Ok(Step::Over(Ending::OutOfRange(o))),
-        Scalars::NoScalars => Ok(Step::Over(Ending::NoScalars)),
-        Scalars::Are(made) => {
-            put_targets(moment, targets, &made);
+        ListWorth::Leave(o) => Ok(Step::Over(Ending::OutOfRange(o))),
+        ListWorth::NoValues => Ok(Step::Over(Ending::NoValues)),
+        ListWorth::Are(made) => {
+            put_targets(around.alloc, moment, targets, &made)?;
             Ok(Step::Goes)
         }
     }
@@ -48,7 +48,7 @@ fn command(around: Around<'_>, moment: &mut Moment<'_>, k: &Cmd<'_>) -> Result<S
         Cmd::Check(group, ks) => check(around, seen(around, moment), *group, ks),
         Cmd::Suppose(which, ks) => suppose(around, seen(around, moment), *which, ks),
         Cmd::Assume(e) => Ok(assumed(worth(around.alloc, seen(around, moment), e)?)),
-        Cmd::Forget(xs) => Ok(forget(around, moment, xs)),
+        Cmd::Forget(xs) => forget(around, moment, xs),
         Cmd::Put(targets, es) => assign(around, moment, targets, es),
         Cmd::Perform(k, q, xs) => call(around, moment, k, q, xs),
         Cmd::Finish => Ok(Step::Over(Ending::Ended)),

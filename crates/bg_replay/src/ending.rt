@@ -3,7 +3,7 @@ use bg_base::OutOfRange;
 use bg_places::Spot;
 
 /// How a run ends: well, blocked by an assumption, at a check that fails, without the choice that it needs, at the first operation that
-/// leaves 128 bits, or at something that is no scalar or has another type than it should.
+/// leaves 128 bits, or at something that has another type than it should.
 #[derive(Clone, Copy, PartialEq, Eq)]
 pub enum Ending {
     Ended,
@@ -11,7 +11,7 @@ pub enum Ending {
     Failed(Spot),
     BadChoice,
     OutOfRange(OutOfRange),
-    NoScalars,
+    NoValues,
 }
 
 /// How a part of a run leaves off: the run goes on, or it is over.

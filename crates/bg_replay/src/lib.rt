@@ -1,4 +1,4 @@
-//! The replay of a counterexample: the run of an implementation's blocks over scalars.
+//! The replay of a counterexample: the run of an implementation's blocks over values, exactly.
 #![tactic(auto)]
 
 mod call;
@@ -14,4 +14,5 @@ mod whole;
 
 pub use bg_scalar::Choice;
 pub use ending::Ending;
+pub use holds::is_of;
 pub use whole::{Code, Start, replay};

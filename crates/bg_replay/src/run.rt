@@ -15,7 +15,7 @@ use crate::ending::{Ending, Step, Way};
 use crate::moment::{Around, Moment, rest_of, seen, take_branch};
 use bg_ast::resolved::Guard;
 use bg_blocks::{Block, Exit};
-use bg_scalar::{Scalar, Worth, worth};
+use bg_scalar::{Worth, truth, worth};
 use std::alloc::AllocError;
 
 /// The branch that is chosen next, of these.
@@ -32,16 +32,18 @@ fn branch(moment: &mut Moment<'_>, ks: &[usize]) -> Way
 }
 
 /// What is tested decides between two ways.
-fn tested(value: Worth, on: usize, off: usize) -> Way
-    ensures { (m : spec.Moment) → way_of result m ≡ test_to (worth_in value) on off m }
+#[tactic(auto, using(crate::proofs::Truths::way_forms))]
+fn tested(value: Worth<'_>, on: usize, off: usize) -> Way
+    ensures { (m : spec.Moment) → way_of result m ≡ test_to (worth_in value.entry) on off m }
 {
     match value {
         Worth::Leaves(o) => Way::Over(Ending::OutOfRange(o)),
-        Worth::NoScalar => Way::Over(Ending::NoScalars),
-        Worth::Is(Scalar::Number(_)) => Way::Over(Ending::NoScalars),
-        Worth::Is(Scalar::Element(_, _)) => Way::Over(Ending::NoScalars),
-        Worth::Is(Scalar::Truth(true)) => Way::To(on),
-        Worth::Is(Scalar::Truth(false)) => Way::To(off),
+        Worth::NoValue => Way::Over(Ending::NoValues),
+        Worth::Is(x) => match truth(&x) {
+            None => Way::Over(Ending::NoValues),
+            Some(true) => Way::To(on),
+            Some(false) => Way::To(off),
+        },
     }
 }
 

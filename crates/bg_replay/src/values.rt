@@ -8,62 +8,98 @@ ghost use Rattle.bg_kinds.specs.Views.{ref_in};
 ghost use Rattle.bg_scalar.specs.Worths as spec;
 ghost use Rattle.bg_scalar.specs.Lists.{worths, listed};
 ghost use Rattle.bg_scalar.specs.Choices.{choice_of};
-ghost use Rattle.bg_scalar.specs.Views.{seen_of, worth_in};
+ghost use Rattle.bg_scalar.specs.Views.{seen_of, vals_in, worth_in};
 ghost use Rattle.bg_replay.specs.Acts.{chosen};
+ghost use Rattle.bg_replay.specs.Levels.{level_of, levels, put_back};
 ghost use Rattle.bg_replay.specs.Views.{items_of};
 
-use crate::holds::value_of;
+use crate::holds::typed_value;
 use bg_ast::resolved::{Expr, Target};
 use bg_kinds::ValueType;
-use bg_scalar::{Choice, Scalar, Scalars, Sight, Worth, read, updated, worth, worths};
+use bg_scalar::{
+    Choice, Found, ListWorth, Sight, Value, Worth, as_worth, copy, inside, owned, read, updated,
+    worth, worths,
+};
 use std::alloc::{AllocError, Global};
 
-/// The value that is assigned to a target: of `m[i] := e`, what is wrong with m, with i or with e, or else that m is no map.
-fn value_for(
-    alloc: Global,
-    sight: Sight<'_>,
-    target: &Target,
-    e: &Expr,
-) -> Result<Worth, AllocError>
-    ensures { IfOk result (λ x. worth_in x ≡ spec.worth (m.written (Read (target_of target.now).placed.variable) (target_of target.now).brackets (m.ex_of (view.ex_of e.now))) (seen_of sight.entry)) }
-{
-    match target.brackets.split_first() {
-        None => worth(alloc, sight, e),
-        Some((first, more)) => {
-            let map = read(sight, target.placed.variable);
-            let index = worths(alloc, sight, &first.indices)?;
-            if more.is_empty() {
-                let new = worth(alloc, sight, e)?;
-                Ok(updated(map, index, new))
-            } else {
-                Ok(updated(map, index, Worth::NoScalar))
-            }
-        }
-    }
+/// A bracket of a target: the map before it, and its index.
+#[derive(Drop)]
+struct Level<'a> {
+    map: Found<'a>,
+    index: ListWorth,
 }
 
-/// The values that are assigned, one for each target, if they are scalars.
+/// The brackets of a target, from the first, with the map before each.
+fn levels<'a>(
+    alloc: Global,
+    sight: Sight<'a>,
+    target: &Target,
+) -> Result<Vec<Level<'a>>, AllocError>
+    ensures { IfOk result (λ made. map level_of made.items ≡ levels (spec.worth (Read (target_of target.now).placed.variable) (seen_of sight.entry)) (target_of target.now).brackets (seen_of sight.entry)) }
+{
+    let mut made = Vec::new(alloc);
+    let mut map = read(sight, target.placed.variable);
+    for b in &target.brackets {
+        let index = worths(alloc, sight, &b.indices)?;
+        let inner = inside(alloc, map, &index)?;
+        made.push(Level { map, index })?;
+        map = inner;
+    }
+    Ok(made)
+}
+
+/// The value of the first map, where the innermost has this new value at its index.
+fn put_back<'a>(
+    alloc: Global,
+    levels: Vec<Level<'a>>,
+    new: Worth<'a>,
+) -> Result<Worth<'a>, AllocError>
+    ensures { IfOk result (λ x. worth_in x ≡ put_back (map level_of levels.entry.items) (worth_in new.entry)) }
+{
+    let mut levels = levels;
+    let mut new = new;
+    while let Some(level) = levels.pop() {
+        new = updated(alloc, as_worth(level.map), &level.index, new)?;
+    }
+    Ok(new)
+}
+
+/// The value that is assigned to a target: of `m[i] := e`, what is wrong with m, with i or with e, or else m with e at i.
+fn value_for<'a>(
+    alloc: Global,
+    sight: Sight<'a>,
+    target: &Target,
+    e: &Expr,
+) -> Result<Worth<'a>, AllocError>
+    ensures { IfOk result (λ x. worth_in x ≡ spec.worth (m.written (Read (target_of target.now).placed.variable) (target_of target.now).brackets (m.ex_of (view.ex_of e.now))) (seen_of sight.entry)) }
+{
+    let levels = levels(alloc, sight, target)?;
+    let new = worth(alloc, sight, e)?;
+    put_back(alloc, levels, new)
+}
+
+/// The values that are assigned, one for each target, if they have values.
 #[tactic(auto, using(crate::proofs::Written::value_forms))]
 pub fn values_for(
     alloc: Global,
     sight: Sight<'_>,
     targets: &[Target],
     es: &[Expr],
-) -> Result<Scalars, AllocError>
+) -> Result<ListWorth, AllocError>
     ensures { IfOk result (λ made. listed made ≡ worths (m.values_of (map target_of targets.now) (exs_in es.now)) (seen_of sight.entry)) }
 {
     let mut made = Vec::new(alloc);
     for (i, target) in targets.iter().enumerate() {
         if i >= es.len() {
-            return Ok(Scalars::Are(made));
+            return Ok(ListWorth::Are(made));
         }
         match value_for(alloc, sight, target, &es[i])? {
-            Worth::Leaves(o) => return Ok(Scalars::Leave(o)),
-            Worth::NoScalar => return Ok(Scalars::NoScalars),
-            Worth::Is(x) => made.push(x)?,
+            Worth::Leaves(o) => return Ok(ListWorth::Leave(o)),
+            Worth::NoValue => return Ok(ListWorth::NoValues),
+            Worth::Is(x) => made.push(owned(alloc, x)?)?,
         }
     }
-    Ok(Scalars::Are(made))
+    Ok(ListWorth::Are(made))
 }
 
 /// A value that is chosen next, for each of these types.
@@ -72,7 +108,7 @@ pub fn chosen(
     alloc: Global,
     choices: &[Choice],
     kinds: &[ValueType],
-) -> Result<Option<Vec<Scalar>>, AllocError>
+) -> Result<Option<Vec<Value>>, AllocError>
     ensures { IfOk result (λ made. items_of made ≡ chosen (map ref_in kinds.now) (map choice_of choices.now)) }
 {
     let mut made = Vec::new(alloc);
@@ -80,10 +116,10 @@ pub fn chosen(
     for t in kinds {
         match left.split_first() {
             None => return Ok(None),
-            Some((first, rest)) => match value_of(t.as_ref(), *first) {
+            Some((first, rest)) => match typed_value(t.as_ref(), first) {
                 None => return Ok(None),
                 Some(x) => {
-                    made.push(x)?;
+                    made.push(copy(alloc, x)?)?;
                     left = rest;
                 }
             },
@@ -92,21 +128,13 @@ pub fn chosen(
     Ok(Some(made))
 }
 
-/// Adds values.
-pub fn append(values: &mut Vec<Scalar>, more: &[Scalar]) -> Result<(), AllocError>
-    ensures { OnOk result (values.new.items ≡ values.old.items ++ more.now) }
+/// Adds copies of values.
+#[tactic(auto, using(crate::proofs::Puts::values_join))]
+pub fn append(alloc: Global, values: &mut Vec<Value>, more: &[Value]) -> Result<(), AllocError>
+    ensures { OnOk result (vals_in values.new.items ≡ vals_in values.old.items ++ vals_in more.now) }
 {
     for x in more {
-        values.push(*x)?;
+        values.push(copy(alloc, x)?)?;
     }
     Ok(())
-}
-
-/// The same values.
-pub fn copied(alloc: Global, values: &[Scalar]) -> Result<Vec<Scalar>, AllocError>
-    ensures { IfOk result (λ made. made.items ≡ values.now) }
-{
-    let mut made = Vec::new(alloc);
-    append(&mut made, values)?;
-    Ok(made)
 }

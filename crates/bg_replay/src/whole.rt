@@ -12,12 +12,11 @@ ghost use Rattle.bg_replay.specs.Endings.{IsReplay, frame_in};
 use crate::ending::Ending;
 use crate::moment::{Around, Moment};
 use crate::run::run;
-use crate::values::copied;
 use bg_ast::resolved::{Implementation, Procedure, Resolved};
 use bg_blocks::Block;
 use bg_fits::push_kinds;
 use bg_kinds::ValueType;
-use bg_scalar::{Choice, Scalar, Table};
+use bg_scalar::{Choice, Table, Value, copies};
 use std::alloc::{AllocError, Global};
 
 /// What is run: blocks of an implementation of the program, where these candidates are there.
@@ -33,8 +32,8 @@ pub struct Code<'a> {
 #[derive(Clone, Copy)]
 pub struct Start<'a> {
     pub tables: &'a [Table],
-    pub globals: &'a [Scalar],
-    pub frame: &'a [Scalar],
+    pub globals: &'a [Value],
+    pub frame: &'a [Value],
     pub choices: &'a [Choice],
 }
 
@@ -76,8 +75,8 @@ fn replay_body(
 {
     let of_globals = global_kinds(alloc, code.program)?;
     let of_frame = frame_kinds(alloc, code.program, m, q)?;
-    let first = copied(alloc, start.globals)?;
-    let locals = copied(alloc, start.frame)?;
+    let first = copies(alloc, start.globals)?;
+    let locals = copies(alloc, start.frame)?;
     let around = Around {
         alloc,
         program: code.program,
@@ -98,7 +97,7 @@ fn replay_body(
 /// The run of this code, which is of the implementation with this number, from this start: with the blocks that `bg_blocks` makes of
 /// the implementation its induction run where functions mean these tables, by `laws::replays_are_induction_runs`, unless an operation
 /// leaves 128 bits on the way.
-/// `NoScalars` is the ending of a run that meets what is no scalar, and of one where the implementation or its procedure isn't there.
+/// `NoValues` is the ending of a run that meets something of another type than it should be, and of one where the implementation or its procedure isn't there.
 ///
 /// Only want of memory is an error.
 pub fn replay(
@@ -110,10 +109,10 @@ pub fn replay(
     ensures { IfOk result (λ ending. (m : r.Impl) (q : r.Proc) → slice_get (program_of code.entry.program.now).implementations implementation ≡ Some m → slice_get (program_of code.entry.program.now).procedures m.procedure ≡ Some q → IsReplay (program_of code.entry.program.now) code.entry.blocks.now code.entry.set.now implementation m q (tables_in start.entry.tables.now) (vals_in start.entry.globals.now) (vals_in start.entry.frame.now) (map choice_of start.entry.choices.now) ending) }
 {
     let Some(m) = code.program.implementations.get(implementation) else {
-        return Ok(Ending::NoScalars);
+        return Ok(Ending::NoValues);
     };
     let Some(q) = code.program.procedures.get(m.procedure as usize) else {
-        return Ok(Ending::NoScalars);
+        return Ok(Ending::NoValues);
     };
     replay_body(alloc, code, m, q, start)
 }

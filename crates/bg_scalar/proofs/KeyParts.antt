@@ -3,14 +3,12 @@ use Rattle.std.proofs.Common.{◌≡◌, ◌≢◌, ℕ, zero, suc, ℤ, ◌+◌
 use Rattle.std.specs.Prelude.{nat_lt}
 use Rattle.std.proofs.lemmas.Bool.Decides.{nat_tests}
 use Rattle.bg_ast.specs.Values.{keys_eq, keys_lt}
-use Rattle.bg_scalar.specs.declared.scalar.Scalar.{Scalar}
-use Rattle.bg_scalar.specs.Maps.{key_of}
 
 and_false : (a b : Bool) → b ≡ false → (a && b) ≡ false
 and_false true b h = h
 and_false false b h = refl
 
-pub keys_differ : (a b : List Scalar) → length a ≢ length b → keys_eq (key_of a) (key_of b) ≡ false
+pub keys_differ : (a b : List ℤ) → length a ≢ length b → keys_eq a b ≡ false
 keys_differ [] [] h = absurd (h refl)
 keys_differ [] (l ∷ ls) h = refl
 keys_differ (k ∷ ks) [] h = refl
@@ -37,17 +35,17 @@ nothing_below : (ks : List ℤ) → keys_lt ks [] ≡ false
 nothing_below [] = refl
 nothing_below (k ∷ ks) = refl
 
-empty_before : (b : List Scalar) (i : ℕ) → nat_lt i (length b) ≡ keys_lt [] (key_of (drop i b))
+empty_before : (b : List ℤ) (i : ℕ) → nat_lt i (length b) ≡ keys_lt [] (drop i b)
 empty_before [] zero = refl
 empty_before [] (suc i) = lt_no (suc i) 0 (omega arith)
 empty_before (y ∷ ys) zero = lt_yes zero (suc (length ys)) (omega arith)
 empty_before (y ∷ ys) (suc i) = step i (length ys) ∙ empty_before ys i
 
-pub ends : (a b : List Scalar) (i : ℕ) → (i < length a → i < length b → ⊥) → nat_lt i (length b) ≡ keys_lt (key_of (drop i a)) (key_of (drop i b))
+pub ends : (a b : List ℤ) (i : ℕ) → (i < length a → i < length b → ⊥) → nat_lt i (length b) ≡ keys_lt (drop i a) (drop i b)
 ends [] b zero f = empty_before b zero
 ends [] b (suc i) f = empty_before b (suc i)
 ends (x ∷ xs) [] zero f = refl
 ends (x ∷ xs) (y ∷ ys) zero f = absurd (f (omega arith) (omega arith))
-ends (x ∷ xs) [] (suc i) f = lt_no (suc i) 0 (omega arith) ∙ sym (nothing_below (key_of (drop i xs)))
+ends (x ∷ xs) [] (suc i) f = lt_no (suc i) 0 (omega arith) ∙ sym (nothing_below (drop i xs))
 ends (x ∷ xs) (y ∷ ys) (suc i) f =
     step i (length ys) ∙ ends xs ys i (λ l m. f (omega (arith, l)) (omega (arith, m)))

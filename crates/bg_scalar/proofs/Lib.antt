@@ -3,10 +3,14 @@ pub mod KeyParts
 pub mod Places
 pub mod Copied
 pub mod Same
-pub mod NoMaps
+pub mod Operands
+pub mod Keyed
+pub mod Kept
 pub mod Chains
 pub mod Tabled
-pub mod Found
+pub mod Ordered
+pub mod LookedUp
 pub mod Agreeing
 pub mod Listing
 pub mod Typing
+pub mod Below

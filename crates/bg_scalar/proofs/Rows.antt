@@ -5,11 +5,12 @@ use Rattle.bg_ast.specs.Values.{Val, Default, Entry}
 use Rattle.bg_scalar.specs.declared.value.Value.{Value, Row_of-Entry, end_of-Entry, more_of-Entry, items-the_row-Entry, items_hidden-the_row-Entry-0}
 use Rattle.bg_scalar.specs.declared.value.Value.TheVariants as value
 use Rattle.bg_scalar.specs.declared.value.Entry as kept
-use Rattle.bg_scalar.specs.Maps.{key_of, value_of, entered, entry_in, with_entries, map_of}
+use Rattle.bg_scalar.specs.Values.{value_of, entered}
+use Rattle.bg_scalar.specs.Maps.{entry_in, with_entries, map_of}
 
 entries_row : (n : _) (row : Row_of-Entry n) (m : Val) → entered row m ≡ with_entries (map entry_in (items-the_row-Entry n row)) m
 entries_row n end_of-Entry m = refl
-entries_row n (more_of-Entry k v es) m = ap (Entry (key_of k.items) (value_of v)) (entries_row _ es m)
+entries_row n (more_of-Entry k v es) m = ap (Entry k.items (value_of v)) (entries_row _ es m)
 
 abbrev entries_in : Value → (n : Count) × Row_of-Entry n
 entries_in (value.Map' shape row p d) = (_, row)

@@ -3,11 +3,11 @@ use Rattle.std.proofs.Common.{◌≡◌, ◌≢◌, suc, Bool, true, false, ◌&
 use Rattle.bg_ast.specs.Values.{Val, Default, Entry, val_eq}
 use Rattle.bg_scalar.specs.declared.scalar.Scalar.{Scalar}
 use Rattle.bg_scalar.specs.declared.scalar.Scalar.TheVariants.{Truth, Number, Element}
-use Rattle.bg_scalar.specs.Values.{val_of}
+use Rattle.bg_scalar.specs.Values.{val_of, value_of}
 use Rattle.bg_scalar.specs.declared.value.Value.{Value}
 use Rattle.bg_scalar.specs.declared.value.Value.TheVariants as value
 use Rattle.bg_scalar.specs.declared.value.Entry as kept
-use Rattle.bg_scalar.specs.Maps.{Item, value_of, entry_in, with_entries, entries_eq}
+use Rattle.bg_scalar.specs.Maps.{Item, entry_in, with_entries, entries_eq}
 use Rattle.bg_scalar.proofs.Rows.{value_of-Map}
 use Rattle.bg_scalar.proofs.Places.{maps_same}
 

@@ -1,9 +1,10 @@
 pub mod Worths
+pub mod Values
+pub mod Maps
+pub mod Indices
+pub mod Views
+pub mod Lists
 pub mod Signs
 pub mod Along
-pub mod Values
-pub mod Lists
 pub mod Typed
 pub mod Choices
-pub mod Views
-pub mod Maps

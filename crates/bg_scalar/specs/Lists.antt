@@ -1,10 +1,10 @@
 -- What lists of expressions are worth, from left to right.
-use Rattle.std.specs.Prelude.{List, ◌++◌, map}
+use Rattle.std.specs.Prelude.{List, ◌++◌}
 use Rattle.bg_ast.specs.Values.{Val}
 pub use Rattle.bg_scalar.specs.Worths.{Listed, Are, Leave, NoValues, more, cons, worths}
-use Rattle.bg_scalar.specs.Values.{val_of}
-use Rattle.bg_scalar.specs.declared.scalar.Scalars as code
-use Rattle.bg_scalar.specs.declared.scalar.Scalars.TheVariants as are
+use Rattle.bg_scalar.specs.Views.{vals_in}
+use Rattle.bg_scalar.specs.declared.held.ListWorth as code
+use Rattle.bg_scalar.specs.declared.held.ListWorth.TheVariants as are
 
 -- these in front
 abbrev pub onto : List Val → Listed → Listed
@@ -12,7 +12,7 @@ onto xs (Are ys) = Are (xs ++ ys)
 onto xs (Leave o) = Leave o
 onto xs NoValues = NoValues
 
-abbrev pub listed : code.Scalars → Listed
-listed (are.Are xs) = Are (map val_of xs.items)
+abbrev pub listed : code.ListWorth → Listed
+listed (are.Are xs) = Are (vals_in xs.items)
 listed (are.Leave o) = Leave o
-listed are.NoScalars = NoValues
+listed are.NoValues = NoValues

@@ -1,36 +1,16 @@
--- How the code's values are read.
+-- The entries of maps, in their order.
 use Rattle.std.specs.Prelude.{ℕ, zero, suc, ℤ, Bool, true, false, ◌&&◌, if◌then◌else◌, List, [], ◌∷◌, ◌++◌, take, drop, map, Option, Some, None}
 use Rattle.std.specs.List.{insert}
-use Rattle.bg_ast.specs.Values.{Val, Default, Entry, number_of, keys_eq, keys_lt, val_eq}
-use Rattle.bg_scalar.specs.declared.scalar.Scalar.{Scalar}
-use Rattle.bg_scalar.specs.Values.{val_of}
-use Rattle.bg_scalar.specs.declared.value.Value.{Value, Row_of-Entry, end_of-Entry, more_of-Entry}
-use Rattle.bg_scalar.specs.declared.value.Value.TheVariants as value
+use Rattle.bg_ast.specs.Values.{Val, Default, Entry, keys_eq, keys_lt, val_eq}
+use Rattle.bg_scalar.specs.Values.{value_of}
 use Rattle.bg_scalar.specs.declared.value.Entry as kept
-
--- the number that stands for a scalar at an index
-abbrev pub part_of : Scalar → ℤ
-part_of s = number_of (val_of s)
-
-abbrev pub key_of : List Scalar → List ℤ
-key_of ss = map part_of ss
-
-abbrev mutual
-  pub value_of : Value → Val
-  value_of (value.Plain s) = val_of s
-  value_of (value.Map' shape es p d) = entered es (Default (value_of d))
-
-  -- entries in front of a map
-  pub entered : {n : _} → Row_of-Entry n → Val → Val
-  entered end_of-Entry m = m
-  entered (more_of-Entry k v es) m = Entry (key_of k.items) (value_of v) (entered es m)
 
 -- an entry as a key and a value
 abbrev pub Item : Type 0
 Item = List ℤ × Val
 
 abbrev pub entry_in : kept.Entry → Item
-entry_in e = (key_of e.key.items, value_of e.value)
+entry_in e = (e.key.items, value_of e.value)
 
 abbrev pub with_entries : List Item → Val → Val
 with_entries [] m = m
@@ -47,7 +27,7 @@ entries_eq (e ∷ es) [] = false
 entries_eq (e ∷ es) (f ∷ fs) = keys_eq e.0 f.0 && (val_eq e.1 f.1 && entries_eq es fs)
 
 abbrev pub key_in : kept.Entry → List ℤ
-key_in e = key_of e.key.items
+key_in e = e.key.items
 
 -- the place of the first key that doesn't stand before this one
 abbrev pub place_in : List (List ℤ) → List ℤ → ℕ

@@ -1,9 +1,9 @@
 //! Choices.
-use crate::scalar::Scalar;
+use crate::value::Value;
 
 /// What a run is given where it has a choice: the number of a branch, or a value.
-#[derive(Clone, Copy, PartialEq, Eq, Debug)]
+#[derive(Drop)]
 pub enum Choice {
     Branch(u32),
-    Chosen(Scalar),
+    Chosen(Value),
 }

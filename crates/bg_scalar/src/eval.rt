@@ -1,21 +1,24 @@
 //! The evaluation of expressions, from left to right.
-ghost use Rattle.std.specs.Prelude.{◌≡◌, map, slice_get, None, IfOk};
+ghost use Rattle.std.specs.Prelude.{◌≡◌, map, slice_get, None, Some, IfOk};
 ghost use Rattle.bg_ast.specs.Meaning as m;
 ghost use Rattle.bg_ast.specs.Views as view;
 ghost use Rattle.bg_ast.specs.Meaning.{exs_of};
 ghost use Rattle.bg_ast.specs.Views.{link_view, bracket_view, var_of, exs_in};
 ghost use Rattle.bg_sense.specs.Eval.{look_up};
 ghost use Rattle.bg_scalar.specs.Worths as spec;
-ghost use Rattle.bg_scalar.specs.Worths.{Is, read_in, and_then_all, worth, worths};
+ghost use Rattle.bg_scalar.specs.Worths.{Is, known, read_in, and_then_all, worth, worths};
 ghost use Rattle.bg_scalar.specs.Signs.{signed};
 ghost use Rattle.bg_scalar.specs.Along as way;
 ghost use Rattle.bg_scalar.specs.Along.{under, along, bracketed, behind};
 ghost use Rattle.bg_scalar.specs.Lists.{listed};
-ghost use Rattle.bg_scalar.specs.Views.{seen_of, tables_in, worth_in, premise_in, known_in};
+ghost use Rattle.bg_scalar.specs.Views.{seen_of, tables_in, vals_in, found_in, worth_in, premise_in};
 
-use crate::joined::{joined, prefixed};
-use crate::scalar::{Scalar, Scalars, Worth};
+use crate::brackets::{selected, updated};
+use crate::held::{Found, ListWorth, Worth, as_worth, owned};
+use crate::joined::{joined, plain, prefixed};
+use crate::scalar::Scalar;
 use crate::table::{Table, told};
+use crate::value::Value;
 use bg_ast::resolved::{Bracket, Expr, Link, Variable};
 use bg_text::{InfixSign, TreePrefix};
 use std::alloc::{AllocError, Global};
@@ -24,33 +27,34 @@ use std::alloc::{AllocError, Global};
 #[derive(Clone, Copy)]
 pub struct Sight<'a> {
     pub tables: &'a [Table],
-    pub globals: &'a [Scalar],
-    pub before: &'a [Scalar],
-    pub frame: &'a [Scalar],
+    pub globals: &'a [Value],
+    pub before: &'a [Value],
+    pub frame: &'a [Value],
 }
 
-fn known(x: Option<Scalar>) -> Worth
-    ensures { worth_in result ≡ known_in x }
+/// The value at a place, if there is one.
+#[tactic(auto, using(crate::proofs::Kept::nowhere))]
+fn known<'a>(values: &'a [Value], place: u32) -> Found<'a>
+    ensures { found_in result ≡ known (slice_get (vals_in values.now) place) }
 {
-    match x {
-        None => Worth::NoScalar,
-        Some(x) => Worth::Is(x),
+    match values.get(place as usize) {
+        None => Found::NoValue,
+        Some(x) => Found::Is(x),
     }
 }
 
 /// The value of a variable.
-#[tactic(auto, using(crate::proofs::NoMaps::known_at))]
-pub fn read(sight: Sight<'_>, x: Variable) -> Worth
-    ensures { worth_in result ≡ read_in (seen_of sight.entry) (var_of x) }
+pub fn read<'a>(sight: Sight<'a>, x: Variable) -> Found<'a>
+    ensures { found_in result ≡ read_in (seen_of sight.entry) (var_of x) }
 {
     match x {
-        Variable::Global(k) => known(sight.globals.get(k as usize).copied()),
-        Variable::Local(k) => known(sight.frame.get(k as usize).copied()),
+        Variable::Global(k) => known(sight.globals, k),
+        Variable::Local(k) => known(sight.frame, k),
     }
 }
 
 /// What is seen at entry.
-fn entry(sight: Sight<'_>) -> Sight<'_>
+fn entry<'a>(sight: Sight<'a>) -> Sight<'a>
     ensures { seen_of result ≡ spec.at_entry (seen_of sight.entry) }
 {
     Sight {
@@ -63,8 +67,8 @@ fn entry(sight: Sight<'_>) -> Sight<'_>
 
 /// A row of prefix signs, of which the last is the innermost.
 #[tactic(auto, using(crate::proofs::Chains::innermost))]
-fn signed(signs: &[TreePrefix], value: Worth) -> Worth
-    ensures { worth_in result ≡ signed signs.now (worth_in value) }
+fn signed<'a>(signs: &[TreePrefix], value: Worth<'a>) -> Worth<'a>
+    ensures { worth_in result ≡ signed signs.now (worth_in value.entry) }
 {
     let mut value = value;
     let mut left = signs;
@@ -75,85 +79,61 @@ fn signed(signs: &[TreePrefix], value: Worth) -> Worth
     value
 }
 
-/// What an index behind a value comes to: what is wrong with the value, or with the index, or else that a scalar is no map.
-#[tactic(auto, using(crate::proofs::NoMaps::nothing_chosen))]
-fn selected(value: Worth, index: Scalars) -> Worth
-    ensures { worth_in result ≡ spec.selected (worth_in value) (listed index) }
-{
-    match value {
-        Worth::Leaves(o) => Worth::Leaves(o),
-        Worth::NoScalar => Worth::NoScalar,
-        Worth::Is(_) => match index {
-            Scalars::Leave(o) => Worth::Leaves(o),
-            Scalars::NoScalars => Worth::NoScalar,
-            Scalars::Are(_) => Worth::NoScalar,
-        },
-    }
+/// A chain up to an operand: what stands before `==>` is a premise of all that follows; and the operand that is at hand.
+#[derive(Drop)]
+struct Along<'a> {
+    premise: Option<Worth<'a>>,
+    operand: Worth<'a>,
 }
 
-/// What a new value at an index comes to: what is wrong with the value before, with the index, or with the new value, or else that a
-/// scalar is no map.
-#[tactic(auto, using(crate::proofs::NoMaps::nothing_written))]
-pub fn updated(value: Worth, index: Scalars, new: Worth) -> Worth
-    ensures { worth_in result ≡ spec.updated (worth_in value) (listed index) (worth_in new) }
-{
-    match value {
-        Worth::Leaves(o) => Worth::Leaves(o),
-        Worth::NoScalar => Worth::NoScalar,
-        Worth::Is(_) => match index {
-            Scalars::Leave(o) => Worth::Leaves(o),
-            Scalars::NoScalars => Worth::NoScalar,
-            Scalars::Are(_) => match new {
-                Worth::Leaves(o) => Worth::Leaves(o),
-                Worth::NoScalar => Worth::NoScalar,
-                Worth::Is(_) => Worth::NoScalar,
-            },
-        },
-    }
-}
-
-/// `==>` groups to the right: what stands before it is a premise of all that follows.
-fn premise_after(sign: InfixSign, premise: Option<Worth>, a: Worth) -> Option<Worth>
-    ensures { premise_in result ≡ way.premise_after sign (premise_in premise) (worth_in a) }
-{
-    if matches!(sign, InfixSign::Implies) {
-        match premise {
-            None => Some(a),
-            Some(p) => Some(joined(InfixSign::And, p, a)),
-        }
-    } else {
-        premise
-    }
-}
-
-/// The operand that is at hand behind a sign.
-fn operand_after(sign: InfixSign, a: Worth, b: Worth) -> Worth
-    ensures { worth_in result ≡ way.operand_after sign (worth_in a) (worth_in b) }
-{
-    if matches!(sign, InfixSign::Implies) {
-        b
-    } else {
-        joined(sign, a, b)
-    }
-}
-
-fn under(premise: Option<Worth>, a: Worth) -> Worth
-    ensures { worth_in result ≡ under (premise_in premise) (worth_in a) }
+/// One more premise.
+fn and_premise<'a>(premise: Option<Worth<'a>>, a: Worth<'a>) -> Worth<'a>
+    ensures { premise_in (Some result) ≡ way.and_premise (premise_in premise.entry) (worth_in a.entry) }
 {
     match premise {
         None => a,
-        Some(p) => joined(InfixSign::Implies, p, a),
+        Some(p) => joined(InfixSign::And, p, a),
     }
 }
 
-/// What a function's table says for these arguments, if they are scalars.
-fn applied(tables: &[Table], function: u32, args: Scalars) -> Worth
+/// The chain with one more sign and operand.
+fn with_link<'a>(held: Along<'a>, sign: InfixSign, next: Worth<'a>) -> Along<'a>
+    ensures premise { premise_in result.premise ≡ way.premise_after sign (premise_in held.entry.premise) (worth_in held.entry.operand) }
+    ensures operand { worth_in result.operand ≡ way.operand_after sign (worth_in held.entry.operand) (worth_in next.entry) }
+{
+    let Along { premise, operand } = held;
+    if matches!(sign, InfixSign::Implies) {
+        Along {
+            premise: Some(and_premise(premise, operand)),
+            operand: next,
+        }
+    } else {
+        Along {
+            premise,
+            operand: joined(sign, operand, next),
+        }
+    }
+}
+
+/// The value of a chain.
+fn under<'a>(held: Along<'a>) -> Worth<'a>
+    ensures { worth_in result ≡ under (premise_in held.entry.premise) (worth_in held.entry.operand) }
+{
+    let Along { premise, operand } = held;
+    match premise {
+        None => operand,
+        Some(p) => joined(InfixSign::Implies, p, operand),
+    }
+}
+
+/// What a function's table says for these arguments, if they have values.
+fn applied<'a>(tables: &'a [Table], function: u32, args: ListWorth) -> Worth<'a>
     ensures { worth_in result ≡ and_then_all (listed args) (λ xs. Is (look_up (slice_get (tables_in tables.now) function) xs)) }
 {
     match args {
-        Scalars::Leave(o) => Worth::Leaves(o),
-        Scalars::NoScalars => Worth::NoScalar,
-        Scalars::Are(xs) => Worth::Is(told(tables, function, &xs)),
+        ListWorth::Leave(o) => Worth::Leaves(o),
+        ListWorth::NoValues => Worth::NoValue,
+        ListWorth::Are(xs) => Worth::Is(told(tables, function, &xs)),
     }
 }
 
@@ -162,13 +142,13 @@ fn applied(tables: &[Table], function: u32, args: Scalars) -> Worth
 ///
 /// Only want of memory is an error.
 #[cycle(worth)]
-pub fn worth(alloc: Global, sight: Sight<'_>, e: &Expr) -> Result<Worth, AllocError>
+pub fn worth<'a>(alloc: Global, sight: Sight<'a>, e: &Expr) -> Result<Worth<'a>, AllocError>
     ensures { IfOk result (λ x. worth_in x ≡ worth (m.ex_of (view.ex_of e.now)) (seen_of sight.entry)) }
 {
     match e {
-        Expr::Number(_, z) => Ok(Worth::Is(Scalar::Number(*z))),
-        Expr::Truth(_, b) => Ok(Worth::Is(Scalar::Truth(*b))),
-        Expr::Read(_, x) => Ok(read(sight, *x)),
+        Expr::Number(_, z) => Ok(plain(Scalar::Number(*z))),
+        Expr::Truth(_, b) => Ok(plain(Scalar::Truth(*b))),
+        Expr::Read(_, x) => Ok(as_worth(read(sight, *x))),
         Expr::Parens(_, e) => worth(alloc, sight, e),
         Expr::Prefix(signs, e) => {
             let value = worth(alloc, sight, e)?;
@@ -179,7 +159,7 @@ pub fn worth(alloc: Global, sight: Sight<'_>, e: &Expr) -> Result<Worth, AllocEr
             chain(alloc, sight, first, links)
         }
         Expr::Old(_, e) => worth(alloc, entry(sight), e),
-        Expr::Constant(_, _) => Ok(Worth::NoScalar),
+        Expr::Constant(_, _) => Ok(Worth::NoValue),
         Expr::Apply(_, f, args) => {
             let values = worths(alloc, sight, args)?;
             Ok(applied(sight.tables, *f, values))
@@ -193,28 +173,34 @@ pub fn worth(alloc: Global, sight: Sight<'_>, e: &Expr) -> Result<Worth, AllocEr
 
 /// The value of a chain behind its first operand.
 #[cycle(worth)]
-fn chain(alloc: Global, sight: Sight<'_>, first: Worth, links: &[Link]) -> Result<Worth, AllocError>
-    ensures { IfOk result (λ x. worth_in x ≡ along None (worth_in first) (map link_view links.now) (seen_of sight.entry)) }
+fn chain<'a>(
+    alloc: Global,
+    sight: Sight<'a>,
+    first: Worth<'a>,
+    links: &[Link],
+) -> Result<Worth<'a>, AllocError>
+    ensures { IfOk result (λ x. worth_in x ≡ along None (worth_in first.entry) (map link_view links.now) (seen_of sight.entry)) }
 {
-    let mut premise = None;
-    let mut operand = first;
+    let mut held = Along {
+        premise: None,
+        operand: first,
+    };
     for link in links {
         let next = worth(alloc, sight, &link.operand)?;
-        premise = premise_after(link.sign, premise, operand);
-        operand = operand_after(link.sign, operand, next);
+        held = with_link(held, link.sign, next);
     }
-    Ok(under(premise, operand))
+    Ok(under(held))
 }
 
 /// The value behind a row of brackets.
 #[cycle(worth)]
-fn behind(
+fn behind<'a>(
     alloc: Global,
-    sight: Sight<'_>,
+    sight: Sight<'a>,
     brackets: &[Bracket],
-    first: Worth,
-) -> Result<Worth, AllocError>
-    ensures { IfOk result (λ x. worth_in x ≡ behind (worth_in first) (map bracket_view brackets.now) (seen_of sight.entry)) }
+    first: Worth<'a>,
+) -> Result<Worth<'a>, AllocError>
+    ensures { IfOk result (λ x. worth_in x ≡ behind (worth_in first.entry) (map bracket_view brackets.now) (seen_of sight.entry)) }
 {
     let mut value = first;
     for b in brackets {
@@ -225,23 +211,23 @@ fn behind(
 
 /// The value behind a bracket: the index comes first, then the new value.
 #[cycle(worth)]
-fn bracketed(
+fn bracketed<'a>(
     alloc: Global,
-    sight: Sight<'_>,
+    sight: Sight<'a>,
     bracket: &Bracket,
-    value: Worth,
-) -> Result<Worth, AllocError>
-    ensures { IfOk result (λ x. worth_in x ≡ bracketed (worth_in value) (bracket_view bracket.now).1 (bracket_view bracket.now).2 (seen_of sight.entry)) }
+    value: Worth<'a>,
+) -> Result<Worth<'a>, AllocError>
+    ensures { IfOk result (λ x. worth_in x ≡ bracketed (worth_in value.entry) (bracket_view bracket.now).1 (bracket_view bracket.now).2 (seen_of sight.entry)) }
 {
     match bracket {
         Bracket::Select(_, es) => {
             let index = worths(alloc, sight, es)?;
-            Ok(selected(value, index))
+            selected(alloc, value, &index)
         }
         Bracket::Update(_, es, e) => {
             let index = worths(alloc, sight, es)?;
             let new = worth(alloc, sight, e)?;
-            Ok(updated(value, index, new))
+            updated(alloc, value, &index, new)
         }
     }
 }
@@ -251,17 +237,17 @@ fn bracketed(
 /// Only want of memory is an error.
 #[cycle(worth)]
 #[tactic(auto, using(crate::proofs::Listing::list_forms))]
-pub fn worths(alloc: Global, sight: Sight<'_>, es: &[Expr]) -> Result<Scalars, AllocError>
+pub fn worths(alloc: Global, sight: Sight<'_>, es: &[Expr]) -> Result<ListWorth, AllocError>
     ensures { IfOk result (λ made. listed made ≡ worths (exs_of (exs_in es.now)) (seen_of sight.entry)) }
 {
     let mut made = Vec::new(alloc);
     for e in es {
         let value = worth(alloc, sight, e)?;
         match value {
-            Worth::Leaves(o) => return Ok(Scalars::Leave(o)),
-            Worth::NoScalar => return Ok(Scalars::NoScalars),
-            Worth::Is(x) => made.push(x)?,
+            Worth::Leaves(o) => return Ok(ListWorth::Leave(o)),
+            Worth::NoValue => return Ok(ListWorth::NoValues),
+            Worth::Is(x) => made.push(owned(alloc, x)?)?,
         }
     }
-    Ok(Scalars::Are(made))
+    Ok(ListWorth::Are(made))
 }

@@ -1,34 +1,42 @@
-//! Signs between scalars, and before them.
+//! Signs between values, and before them.
 ghost use Rattle.std.specs.Prelude.{◌≡◌};
-ghost use Rattle.std.specs.Ordering.{int_eq};
 ghost use Rattle.bg_scalar.specs.Worths as spec;
 ghost use Rattle.bg_scalar.specs.Worths.{exact, is_truth, is_number, on_truths, on_numbers, by_equality, operate, takes};
-ghost use Rattle.bg_scalar.specs.Values.{val_of};
+ghost use Rattle.bg_scalar.specs.Values.{val_of, value_of};
 ghost use Rattle.bg_scalar.specs.Views.{worth_in};
 ghost use Rattle.bg_scalar.specs.Signs.{op_of, between, prefix_on, prefixed};
 
-use crate::scalar::{Scalar, Worth};
+use crate::held::{Lent, Worth, shown};
+use crate::scalar::Scalar;
+use crate::value::{Value, is_same};
 use bg_base::{OutOfRange, add, mul, neg, sub};
 use bg_text::{InfixSign, PrefixSign};
 
-fn truth(b: bool) -> Worth
+/// A scalar that was made.
+pub fn plain<'a>(s: Scalar) -> Worth<'a>
+    ensures { worth_in result ≡ spec.Is (val_of s) }
+{
+    Worth::Is(Lent::Made(Value::Plain(s)))
+}
+
+fn truth<'a>(b: bool) -> Worth<'a>
     ensures { worth_in result ≡ spec.truth b }
 {
-    Worth::Is(Scalar::Truth(b))
+    plain(Scalar::Truth(b))
 }
 
 /// The result of an operation, or that it leaves the range.
-fn exact(made: Result<i128, OutOfRange>) -> Worth
+fn exact<'a>(made: Result<i128, OutOfRange>) -> Worth<'a>
     ensures { worth_in result ≡ exact made }
 {
     match made {
-        Ok(z) => Worth::Is(Scalar::Number(z)),
+        Ok(z) => plain(Scalar::Number(z)),
         Err(o) => Worth::Leaves(o),
     }
 }
 
 /// The operator of a sign between truth values.
-fn on_truths(sign: InfixSign, a: bool, b: bool) -> Worth
+fn on_truths<'a>(sign: InfixSign, a: bool, b: bool) -> Worth<'a>
     ensures { worth_in result ≡ on_truths (op_of sign) a b }
 {
     match sign {
@@ -39,26 +47,26 @@ fn on_truths(sign: InfixSign, a: bool, b: bool) -> Worth
         InfixSign::Or => truth(a || b),
         InfixSign::Equal => truth(a == b),
         InfixSign::Unequal => truth(a != b),
-        InfixSign::Less => Worth::NoScalar,
-        InfixSign::AtMost => Worth::NoScalar,
-        InfixSign::Greater => Worth::NoScalar,
-        InfixSign::AtLeast => Worth::NoScalar,
-        InfixSign::Plus => Worth::NoScalar,
-        InfixSign::Minus => Worth::NoScalar,
-        InfixSign::Times => Worth::NoScalar,
+        InfixSign::Less => Worth::NoValue,
+        InfixSign::AtMost => Worth::NoValue,
+        InfixSign::Greater => Worth::NoValue,
+        InfixSign::AtLeast => Worth::NoValue,
+        InfixSign::Plus => Worth::NoValue,
+        InfixSign::Minus => Worth::NoValue,
+        InfixSign::Times => Worth::NoValue,
     }
 }
 
 /// The operator of a sign between whole numbers.
-fn on_numbers(sign: InfixSign, x: i128, y: i128) -> Worth
+fn on_numbers<'a>(sign: InfixSign, x: i128, y: i128) -> Worth<'a>
     ensures { worth_in result ≡ on_numbers (op_of sign) x y }
 {
     match sign {
-        InfixSign::Iff => Worth::NoScalar,
-        InfixSign::Implies => Worth::NoScalar,
-        InfixSign::Explies => Worth::NoScalar,
-        InfixSign::And => Worth::NoScalar,
-        InfixSign::Or => Worth::NoScalar,
+        InfixSign::Iff => Worth::NoValue,
+        InfixSign::Implies => Worth::NoValue,
+        InfixSign::Explies => Worth::NoValue,
+        InfixSign::And => Worth::NoValue,
+        InfixSign::Or => Worth::NoValue,
         InfixSign::Equal => truth(x == y),
         InfixSign::Unequal => truth(x != y),
         InfixSign::Less => truth(x < y),
@@ -71,79 +79,100 @@ fn on_numbers(sign: InfixSign, x: i128, y: i128) -> Worth
     }
 }
 
-/// The operator of a sign between elements of one type.
-fn on_elements(sign: InfixSign, x: i128, y: i128) -> Worth
-    ensures { worth_in result ≡ by_equality (op_of sign) (int_eq x y) }
+/// The operator of a sign between values that are the same or not.
+fn by_equality<'a>(sign: InfixSign, same: bool) -> Worth<'a>
+    ensures { worth_in result ≡ by_equality (op_of sign) same }
 {
     match sign {
-        InfixSign::Iff => Worth::NoScalar,
-        InfixSign::Implies => Worth::NoScalar,
-        InfixSign::Explies => Worth::NoScalar,
-        InfixSign::And => Worth::NoScalar,
-        InfixSign::Or => Worth::NoScalar,
-        InfixSign::Equal => truth(x == y),
-        InfixSign::Unequal => truth(x != y),
-        InfixSign::Less => Worth::NoScalar,
-        InfixSign::AtMost => Worth::NoScalar,
-        InfixSign::Greater => Worth::NoScalar,
-        InfixSign::AtLeast => Worth::NoScalar,
-        InfixSign::Plus => Worth::NoScalar,
-        InfixSign::Minus => Worth::NoScalar,
-        InfixSign::Times => Worth::NoScalar,
+        InfixSign::Iff => Worth::NoValue,
+        InfixSign::Implies => Worth::NoValue,
+        InfixSign::Explies => Worth::NoValue,
+        InfixSign::And => Worth::NoValue,
+        InfixSign::Or => Worth::NoValue,
+        InfixSign::Equal => truth(same),
+        InfixSign::Unequal => truth(!same),
+        InfixSign::Less => Worth::NoValue,
+        InfixSign::AtMost => Worth::NoValue,
+        InfixSign::Greater => Worth::NoValue,
+        InfixSign::AtLeast => Worth::NoValue,
+        InfixSign::Plus => Worth::NoValue,
+        InfixSign::Minus => Worth::NoValue,
+        InfixSign::Times => Worth::NoValue,
     }
 }
 
-fn operate(sign: InfixSign, a: Scalar, b: Scalar) -> Worth
+fn on_scalars<'a>(sign: InfixSign, a: Scalar, b: Scalar) -> Worth<'a>
     ensures { worth_in result ≡ operate (op_of sign) (val_of a) (val_of b) }
 {
     match a {
         Scalar::Truth(a) => match b {
             Scalar::Truth(b) => on_truths(sign, a, b),
-            Scalar::Number(_) => Worth::NoScalar,
-            Scalar::Element(_, _) => Worth::NoScalar,
+            Scalar::Number(_) => Worth::NoValue,
+            Scalar::Element(_, _) => Worth::NoValue,
         },
         Scalar::Number(x) => match b {
-            Scalar::Truth(_) => Worth::NoScalar,
+            Scalar::Truth(_) => Worth::NoValue,
             Scalar::Number(y) => on_numbers(sign, x, y),
-            Scalar::Element(_, _) => Worth::NoScalar,
+            Scalar::Element(_, _) => Worth::NoValue,
         },
         Scalar::Element(t, x) => match b {
-            Scalar::Truth(_) => Worth::NoScalar,
-            Scalar::Number(_) => Worth::NoScalar,
+            Scalar::Truth(_) => Worth::NoValue,
+            Scalar::Number(_) => Worth::NoValue,
             Scalar::Element(u, y) => {
                 if t == u {
-                    on_elements(sign, x, y)
+                    by_equality(sign, x == y)
                 } else {
-                    Worth::NoScalar
+                    Worth::NoValue
                 }
             }
         },
     }
 }
 
-fn is_truth(a: Scalar) -> bool
-    ensures { result ≡ is_truth (val_of a) }
+/// The operator of a sign between two values: maps are the same where they agree everywhere.
+#[tactic(auto, using(crate::proofs::Operands::operand_forms))]
+fn operate<'a>(sign: InfixSign, a: &Value, b: &Value) -> Worth<'a>
+    ensures { worth_in result ≡ operate (op_of sign) (value_of a.now) (value_of b.now) }
 {
     match a {
-        Scalar::Truth(_) => true,
-        Scalar::Number(_) => false,
-        Scalar::Element(_, _) => false,
+        Value::Plain(x) => match b {
+            Value::Plain(y) => on_scalars(sign, *x, *y),
+            Value::Map(_, _) => Worth::NoValue,
+        },
+        Value::Map(_, _) => match b {
+            Value::Plain(_) => Worth::NoValue,
+            Value::Map(_, _) => by_equality(sign, is_same(a, b)),
+        },
     }
 }
 
-fn is_number(a: Scalar) -> bool
-    ensures { result ≡ is_number (val_of a) }
+#[tactic(auto, using(crate::proofs::Operands::map_is_no_truth))]
+fn is_truth(a: &Value) -> bool
+    ensures { result ≡ is_truth (value_of a.now) }
 {
     match a {
-        Scalar::Truth(_) => false,
-        Scalar::Number(_) => true,
-        Scalar::Element(_, _) => false,
+        Value::Plain(Scalar::Truth(_)) => true,
+        Value::Plain(Scalar::Number(_)) => false,
+        Value::Plain(Scalar::Element(_, _)) => false,
+        Value::Map(_, _) => false,
+    }
+}
+
+#[tactic(auto, using(crate::proofs::Operands::map_is_no_number))]
+fn is_number(a: &Value) -> bool
+    ensures { result ≡ is_number (value_of a.now) }
+{
+    match a {
+        Value::Plain(Scalar::Truth(_)) => false,
+        Value::Plain(Scalar::Number(_)) => true,
+        Value::Plain(Scalar::Element(_, _)) => false,
+        Value::Map(_, _) => false,
     }
 }
 
 /// Whether the operator of a sign may stand behind this operand.
-fn takes(sign: InfixSign, a: Scalar) -> bool
-    ensures { result ≡ takes (op_of sign) (val_of a) }
+fn takes(sign: InfixSign, a: &Value) -> bool
+    ensures { result ≡ takes (op_of sign) (value_of a.now) }
 {
     match sign {
         InfixSign::Iff => is_truth(a),
@@ -164,20 +193,20 @@ fn takes(sign: InfixSign, a: Scalar) -> bool
 }
 
 /// The value of a sign's operator between two operands; what is wrong with the left one comes first.
-fn operated(sign: InfixSign, a: Worth, b: Worth) -> Worth
-    ensures { worth_in result ≡ spec.joined (op_of sign) (worth_in a) (worth_in b) }
+fn operated<'a>(sign: InfixSign, a: Worth<'a>, b: Worth<'a>) -> Worth<'a>
+    ensures { worth_in result ≡ spec.joined (op_of sign) (worth_in a.entry) (worth_in b.entry) }
 {
     match a {
         Worth::Leaves(o) => Worth::Leaves(o),
-        Worth::NoScalar => Worth::NoScalar,
+        Worth::NoValue => Worth::NoValue,
         Worth::Is(x) => {
-            if !takes(sign, x) {
-                return Worth::NoScalar;
+            if !takes(sign, shown(&x)) {
+                return Worth::NoValue;
             }
             match b {
                 Worth::Leaves(o) => Worth::Leaves(o),
-                Worth::NoScalar => Worth::NoScalar,
-                Worth::Is(y) => operate(sign, x, y),
+                Worth::NoValue => Worth::NoValue,
+                Worth::Is(y) => operate(sign, shown(&x), shown(&y)),
             }
         }
     }
@@ -185,8 +214,8 @@ fn operated(sign: InfixSign, a: Worth, b: Worth) -> Worth
 
 /// The value of a sign between two operands. What is wrong with the left one comes first; but `a <== b` is `b ==> a`, where b comes
 /// first.
-pub fn joined(sign: InfixSign, a: Worth, b: Worth) -> Worth
-    ensures { worth_in result ≡ between sign (worth_in a) (worth_in b) }
+pub fn joined<'a>(sign: InfixSign, a: Worth<'a>, b: Worth<'a>) -> Worth<'a>
+    ensures { worth_in result ≡ between sign (worth_in a.entry) (worth_in b.entry) }
 {
     match sign {
         InfixSign::Explies => operated(InfixSign::Implies, b, a),
@@ -194,32 +223,34 @@ pub fn joined(sign: InfixSign, a: Worth, b: Worth) -> Worth
     }
 }
 
-fn prefix_on(sign: PrefixSign, a: Scalar) -> Worth
-    ensures { worth_in result ≡ prefix_on sign (val_of a) }
+#[tactic(auto, using(crate::proofs::Operands::no_prefix))]
+fn prefix_on<'a>(sign: PrefixSign, a: &Value) -> Worth<'a>
+    ensures { worth_in result ≡ prefix_on sign (value_of a.now) }
 {
     match a {
-        Scalar::Truth(b) => match sign {
-            PrefixSign::Not => truth(!b),
-            PrefixSign::Minus => Worth::NoScalar,
+        Value::Plain(Scalar::Truth(b)) => match sign {
+            PrefixSign::Not => truth(!*b),
+            PrefixSign::Minus => Worth::NoValue,
         },
-        Scalar::Number(z) => match sign {
-            PrefixSign::Not => Worth::NoScalar,
-            PrefixSign::Minus => exact(neg(z)),
+        Value::Plain(Scalar::Number(z)) => match sign {
+            PrefixSign::Not => Worth::NoValue,
+            PrefixSign::Minus => exact(neg(*z)),
         },
-        Scalar::Element(_, _) => match sign {
-            PrefixSign::Not => Worth::NoScalar,
-            PrefixSign::Minus => Worth::NoScalar,
+        Value::Plain(Scalar::Element(_, _)) => match sign {
+            PrefixSign::Not => Worth::NoValue,
+            PrefixSign::Minus => Worth::NoValue,
         },
+        Value::Map(_, _) => Worth::NoValue,
     }
 }
 
 /// The value of a prefix sign before an operand.
-pub fn prefixed(sign: PrefixSign, a: Worth) -> Worth
-    ensures { worth_in result ≡ prefixed sign (worth_in a) }
+pub fn prefixed<'a>(sign: PrefixSign, a: Worth<'a>) -> Worth<'a>
+    ensures { worth_in result ≡ prefixed sign (worth_in a.entry) }
 {
     match a {
         Worth::Leaves(o) => Worth::Leaves(o),
-        Worth::NoScalar => Worth::NoScalar,
-        Worth::Is(x) => prefix_on(sign, x),
+        Worth::NoValue => Worth::NoValue,
+        Worth::Is(x) => prefix_on(sign, shown(&x)),
     }
 }

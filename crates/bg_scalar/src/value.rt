@@ -1,26 +1,26 @@
 //! Values.
 ghost use Rattle.std.specs.Prelude.{◌≡◌, map, IfOk};
 ghost use Rattle.bg_ast.specs.Values.{val_eq};
-ghost use Rattle.bg_scalar.specs.Values.{val_of};
-ghost use Rattle.bg_scalar.specs.Maps.{value_of, entry_in, entries_eq};
+ghost use Rattle.bg_scalar.specs.Values.{val_of, value_of};
+ghost use Rattle.bg_scalar.specs.Maps.{entry_in, entries_eq};
 
 use crate::keys::are_same_keys;
 use crate::scalar::Scalar;
 use std::alloc::{AllocError, Global};
 
 /// A scalar; or a map: its entries by rising keys, none of which has the default's value, and the default.
-#[derive(Drop)]
+#[derive(Drop, PartialEq, Eq, PartialOrd, Ord)]
 #[cycle(value)]
 pub enum Value {
     Plain(Scalar),
     Map(Vec<Entry>, Box<Value>),
 }
 
-/// The value of a map at a key, which has a part for each index type.
-#[derive(Drop)]
+/// The value of a map at a key: of each part of an index, its number.
+#[derive(Drop, PartialEq, Eq, PartialOrd, Ord)]
 #[cycle(value)]
 pub struct Entry {
-    pub key: Vec<Scalar>,
+    pub key: Vec<i128>,
     pub value: Value,
 }
 
@@ -54,7 +54,19 @@ fn copy_all(alloc: Global, entries: &[Entry]) -> Result<Vec<Entry>, AllocError>
     Ok(made)
 }
 
-fn same_scalar(a: Scalar, b: Scalar) -> bool
+/// Copies of values, in their order.
+pub fn copies(alloc: Global, values: &[Value]) -> Result<Vec<Value>, AllocError>
+    ensures { IfOk result (λ made. map value_of made.items ≡ map value_of values.now) }
+{
+    let mut made = Vec::new(alloc);
+    for v in values {
+        made.push(copy(alloc, v)?)?;
+    }
+    Ok(made)
+}
+
+/// Whether two scalars are the same.
+pub fn same_scalar(a: Scalar, b: Scalar) -> bool
     ensures { result ≡ val_eq (val_of a) (val_of b) }
 {
     match (a, b) {

@@ -33,12 +33,14 @@ sets_agree p a b x y ga gb c =
 -- a place that is proved in one report isn't refuted in another
 same_kind : (p : Prog) (set : ℕ → Bool) (s t : Place) (v w : Verdict) → s ≡ t → IsTrueAt p set s v → IsTrueAt p set t w → not (is_unknown v) ≡ true → not (is_unknown w) ≡ true → is_refuted v ≡ is_refuted w
 same_kind p set s t Proved Proved e f g m n = refl
-same_kind p set s t (Refuted i st cs) (Refuted j su ds) e f g m n = refl
-same_kind p set s t Proved (Refuted j su ds) e f g m n = absurd (subst (λ (u : Place). IsTrueAt p set u Proved) e f j su ds g.0)
-same_kind p set s t (Refuted i st cs) Proved e f g m n = absurd (g i st cs (subst (λ (u : Place). IsTrueAt p set u (Refuted i st cs)) e f).0)
+same_kind p set s t (Refuted i st ts cs) (Refuted j su us ds) e f g m n = refl
+same_kind p set s t Proved (Refuted j su us ds) e f g m n =
+    absurd (subst (λ (u : Place). IsTrueAt p set u Proved) e f j su ds g.0)
+same_kind p set s t (Refuted i st ts cs) Proved e f g m n =
+    absurd (g i st cs (subst (λ (u : Place). IsTrueAt p set u (Refuted i st ts cs)) e f).0)
 same_kind p set s t (Unknown why) w e f g m n = absurd (let bad : false ≡ true = m in cc)
 same_kind p set s t Proved (Unknown why) e f g m n = absurd (let bad : false ≡ true = n in cc)
-same_kind p set s t (Refuted i st cs) (Unknown why) e f g m n = absurd (let bad : false ≡ true = n in cc)
+same_kind p set s t (Refuted i st ts cs) (Unknown why) e f g m n = absurd (let bad : false ≡ true = n in cc)
 
 abbrev settled : List Judged → Bool
 settled js = list_all (λ j. not (is_unknown j.verdict)) js

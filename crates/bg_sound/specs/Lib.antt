@@ -1,4 +1,5 @@
 pub mod Told
 pub mod Used
+pub mod Chosen
 pub mod Sound
 pub mod Report

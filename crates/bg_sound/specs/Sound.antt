@@ -7,6 +7,7 @@ use Rattle.bg_ast.specs.Execution.{Interp, State, Choice, Place}
 use Rattle.bg_sense.specs.Claims.{Meets, IsSetOf, Inductive, Greatest, Safe, Fails, places}
 use Rattle.bg_places.specs.Placed.{placed_impl}
 use Rattle.bg_sound.specs.Used.{UsesAll}
+use Rattle.bg_sound.specs.Chosen.{choices_are_of}
 use Rattle.bg_sound.specs.Told.{Axioms, Consistent, Contradictory, Undecided, Unchecked, Verdict, Proved, Refuted, Unknown, Judged, Outcome, retained, placed_at, is_ordinary, AllProved, word_of}
 
 -- the axioms: some interpretation meets the program, or none does
@@ -25,10 +26,12 @@ abbrev pub AreUnchecked : Prog → Outcome → Type 0
 AreUnchecked p o =
     (b : ℕ) (t : Place) → slice_get o.fates b ≡ Some Unchecked → Contains (places p) t → t.candidate ≡ Some b → ⊥
 
--- a place: proved where no induction run fails there, refuted where the printed one does, with no choice left over
+-- a place: proved where no induction run fails there, refuted where the printed one does, with no choice left over, and its choices are
+-- of the types by which they are printed
 abbrev pub IsTrueAt : Prog → (ℕ → Bool) → Place → Verdict → Type 0
 IsTrueAt p set t Proved = (i : Interp) (s : State) (choices : List Choice) → Fails p set t i s choices → ⊥
-IsTrueAt p set t (Refuted i s choices) = Fails p set t i s choices × UsesAll p set t i s choices
+IsTrueAt p set t (Refuted i s ts choices) =
+    Fails p set t i s choices × (UsesAll p set t i s choices × (choices_are_of ts choices ≡ true))
 IsTrueAt p set t (Unknown why) = Unit {0}
 
 abbrev pub AreTrueAt : Prog → (ℕ → Bool) → List Judged → Type 0

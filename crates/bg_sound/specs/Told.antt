@@ -2,6 +2,7 @@
 use Rattle.std.specs.Prelude.{ℕ, Bool, true, false, not, List, Option, Some, None, is_none, slice_get, if◌then◌else◌, ◌||◌}
 use Rattle.std.specs.List.{list_any, list_all}
 use Rattle.bg_base.specs.declared.exact.OutOfRange.{OutOfRange}
+use Rattle.bg_ast.specs.Values.{Ty}
 use Rattle.bg_ast.specs.Execution.{Interp, State, Choice}
 use Rattle.bg_places.specs.Placed.{Placed}
 
@@ -24,10 +25,10 @@ pub data Fate : Type 0 where
   Dropped : Fate
   DroppedFor : Why → Fate
 
--- of a place; a refuted one with the printed counterexample
+-- of a place; a refuted one with the printed counterexample, and the types of its choices
 pub data Verdict : Type 0 where
   Proved : Verdict
-  Refuted : Interp → State → List Choice → Verdict
+  Refuted : Interp → State → List Ty → List Choice → Verdict
   Unknown : Why → Verdict
 
 pub record Judged : Type 0 where
@@ -70,7 +71,7 @@ is_proved Proved = true
 is_proved _ = false
 
 abbrev pub is_refuted : Verdict → Bool
-is_refuted (Refuted i s choices) = true
+is_refuted (Refuted i s ts choices) = true
 is_refuted _ = false
 
 abbrev pub is_unknown : Verdict → Bool

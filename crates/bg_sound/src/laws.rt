@@ -6,7 +6,7 @@ ghost use Rattle.bg_ast.specs.Meaning.{meaning_of};
 ghost use Rattle.bg_ast.specs.Execution.{Interp, State, Choice, Place};
 ghost use Rattle.bg_sense.specs.Run.{Answer, BadChoice, induction_run};
 ghost use Rattle.bg_sense.specs.Claims.{Meets, Safe, Fails};
-ghost use Rattle.bg_fits.specs.Scalars.{is_over_scalars};
+ghost use Rattle.bg_fits.specs.Valued.{is_over_values};
 ghost use Rattle.bg_sound.specs.Told.{Consistent, Outcome, retained, word_of, are_settled, status_of};
 ghost use Rattle.bg_sound.specs.Sound.{AreAxioms, IsSound};
 
@@ -33,9 +33,9 @@ pub fn shorter_runs_lack_a_choice_or_fail()
         Fails p set t i s (front ++ (last ∷ [])) → (induction_run p set i t.implementation s front ≡ BadChoice) ⊎ Fails p set t i s front }
 {}
 
-/// A program over truth values, whole numbers and elements of user types, and functions on them, has consistent axioms.
-pub fn programs_over_scalars_are_consistent()
-    ensures { (p : Prog) (numbers : Bool) → is_over_scalars numbers p ≡ true → AreAxioms p Consistent }
+/// A program without constants, axioms and bodies of functions has consistent axioms.
+pub fn programs_over_values_are_consistent()
+    ensures { (p : Prog) → is_over_values p ≡ true → AreAxioms p Consistent }
 {}
 
 /// Status 0 says that some interpretation meets the program, and that no execution of any implementation fails, of any number of steps,

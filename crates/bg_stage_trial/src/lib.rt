@@ -19,3 +19,5 @@ mod replay;
 mod slice;
 #[cfg(test)]
 mod text;
+#[cfg(test)]
+mod values;

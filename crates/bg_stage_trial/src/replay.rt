@@ -1,22 +1,25 @@
 //! How runs end.
 use crate::text::program;
+use crate::values::{Literal, Taken, choice, values};
 use bg_base::{Op, OutOfRange};
 use bg_blocks::{blocks, callees_of};
 use bg_places::Spot;
-use bg_replay::{Choice, Code, Ending, Start, replay};
-use bg_scalar::Scalar;
+use bg_replay::{Code, Ending, Start, replay};
 use std::alloc::Global;
 use std::test::Fail;
 
-/// The same with variables of four kinds to choose, of which `j` is no scalar; and an element, which is compared with another one.
+/// The same with variables of four kinds to choose, of which `j` is a map; an element, which is compared with another one; a map that is
+/// read and one that is written at a chosen index; and a number with an index, which no typed program has.
 const TEXT: &[u8] =
     b"type T = int; type U; var g: T; var h: bool; var i: U; var j: [int]int; var k: U;
 procedure P(); modifies g, h, i, j;
-implementation P() { havoc g; g, j := g + 1, g * 2; assert g == 0; }
-implementation P() { havoc h; g, j := g + 1, g * 2; assert g == 0; }
+implementation P() { havoc g; g := g + 1; assert g == 0; }
+implementation P() { havoc h; g := g + 1; assert g == 0; }
 implementation P() { havoc i; assert i == k; }
-implementation P() { havoc j; g, j := g + 1, g * 2; assert g == 0; }
-implementation P() { havoc g; assert j[g] == 0; }";
+implementation P() { havoc j; g := g + 1; assert j[g] == 0; }
+implementation P() { havoc g; assert j[g] == 0; }
+implementation P() { havoc g; j[g] := 1; assert j[4] == 0; assert j[g] == j[5]; }
+implementation P() { havoc g; assert g[0] == 0; }";
 
 const LEAVES: Ending = Ending::OutOfRange(OutOfRange {
     op: Op::Plus,
@@ -24,52 +27,93 @@ const LEAVES: Ending = Ending::OutOfRange(OutOfRange {
     b: 1,
 });
 
-const ZERO: Scalar = Scalar::Number(0);
+const ZERO: Literal = Literal::Number(0);
 
-const NO: Scalar = Scalar::Truth(false);
+const NO: Literal = Literal::Truth(false);
 
 /// The element with this number of the second type that is declared; `k` has number 7.
-const SEVEN: Scalar = Scalar::Element(1, 7);
+const SEVEN: Literal = Literal::Element(1, 7);
 
-const YES: Choice = Choice::Chosen(Scalar::Truth(true));
+/// What `j` is at first.
+const MAP: Literal = Literal::Map(&[(5, 1)]);
 
-/// The number of an implementation, a choice, and how the run ends that begins with zeros and the element 7.
-const CASES: [(usize, Choice, Ending); 14] = [
-    (0, Choice::Chosen(Scalar::Number(i128::MAX)), LEAVES),
-    (0, Choice::Chosen(Scalar::Number(-1)), Ending::Ended),
+const GLOBALS: [Literal; 5] = [ZERO, NO, SEVEN, MAP, SEVEN];
+
+/// The number of an implementation, a choice, and how the run ends that begins with zeros, the element 7 and a map.
+const CASES: [(usize, Taken, Ending); 24] = [
+    (0, Taken::Chosen(Literal::Number(i128::MAX)), LEAVES),
+    (0, Taken::Chosen(Literal::Number(-1)), Ending::Ended),
     (
         0,
-        Choice::Chosen(Scalar::Number(4)),
+        Taken::Chosen(Literal::Number(4)),
         Ending::Failed(Spot::Assert(0)),
     ),
-    (0, YES, Ending::BadChoice),
-    (0, Choice::Branch(0), Ending::BadChoice),
-    (1, Choice::Chosen(ZERO), Ending::BadChoice),
-    (1, YES, Ending::Failed(Spot::Assert(1))),
-    (2, Choice::Chosen(SEVEN), Ending::Ended),
+    (0, Taken::Chosen(Literal::Truth(true)), Ending::BadChoice),
+    (0, Taken::Chosen(Literal::Map(&[])), Ending::BadChoice),
+    (0, Taken::Branch(0), Ending::BadChoice),
+    (1, Taken::Chosen(Literal::Number(0)), Ending::BadChoice),
+    (
+        1,
+        Taken::Chosen(Literal::Truth(true)),
+        Ending::Failed(Spot::Assert(1)),
+    ),
+    (2, Taken::Chosen(Literal::Element(1, 7)), Ending::Ended),
     (
         2,
-        Choice::Chosen(Scalar::Element(1, -7)),
+        Taken::Chosen(Literal::Element(1, -7)),
         Ending::Failed(Spot::Assert(2)),
     ),
-    (2, Choice::Chosen(Scalar::Element(0, 7)), Ending::BadChoice),
-    (2, Choice::Chosen(Scalar::Number(7)), Ending::BadChoice),
-    (2, YES, Ending::BadChoice),
-    (3, Choice::Chosen(ZERO), Ending::BadChoice),
-    (4, Choice::Chosen(ZERO), Ending::NoScalars),
+    (2, Taken::Chosen(Literal::Element(0, 7)), Ending::BadChoice),
+    (2, Taken::Chosen(Literal::Number(7)), Ending::BadChoice),
+    (2, Taken::Chosen(Literal::Truth(true)), Ending::BadChoice),
+    (3, Taken::Chosen(Literal::Number(0)), Ending::BadChoice),
+    (3, Taken::Chosen(Literal::Map(&[])), Ending::Ended),
+    (
+        3,
+        Taken::Chosen(Literal::Map(&[(1, 2), (3, 4)])),
+        Ending::Failed(Spot::Assert(3)),
+    ),
+    (
+        3,
+        Taken::Chosen(Literal::Map(&[(3, 4), (1, 2)])),
+        Ending::BadChoice,
+    ),
+    (
+        3,
+        Taken::Chosen(Literal::Map(&[(1, 2), (1, 3)])),
+        Ending::BadChoice,
+    ),
+    (
+        3,
+        Taken::Chosen(Literal::Map(&[(1, 2), (3, 0)])),
+        Ending::BadChoice,
+    ),
+    (4, Taken::Chosen(Literal::Number(0)), Ending::Ended),
+    (
+        4,
+        Taken::Chosen(Literal::Number(5)),
+        Ending::Failed(Spot::Assert(4)),
+    ),
+    (
+        5,
+        Taken::Chosen(Literal::Number(4)),
+        Ending::Failed(Spot::Assert(5)),
+    ),
+    (5, Taken::Chosen(Literal::Number(3)), Ending::Ended),
+    (6, Taken::Chosen(Literal::Number(0)), Ending::NoValues),
 ];
 
-fn ends(alloc: Global, number: usize, choice: Choice, wanted: Ending) -> Result<bool, Fail> {
+fn ends(alloc: Global, number: usize, taken: Taken, wanted: Ending) -> Result<bool, Fail> {
     let p = program(alloc, &[(TEXT, 1)])?;
     let callees = callees_of(alloc, &p)?;
     let blocks = blocks(alloc, &p, &callees, number)?;
-    let globals = [ZERO, NO, SEVEN, ZERO, SEVEN];
+    let globals = values(alloc, &GLOBALS)?;
     let code = Code {
         program: &p,
         blocks: &blocks,
         set: &[],
     };
-    let choices = [choice];
+    let choices = [choice(alloc, taken)?];
     let start = Start {
         tables: &[],
         globals: &globals,
@@ -82,8 +126,8 @@ fn ends(alloc: Global, number: usize, choice: Choice, wanted: Ending) -> Result<
 
 #[test]
 fn a_choice_decides_the_ending(rt: HostRuntime) -> Result<(), Fail> {
-    for (number, choice, wanted) in &CASES {
-        assert!(rt; ends(rt.alloc(), *number, *choice, *wanted)?);
+    for (number, taken, wanted) in &CASES {
+        assert!(rt; ends(rt.alloc(), *number, *taken, *wanted)?);
     }
     Ok(())
 }

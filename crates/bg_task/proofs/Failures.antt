@@ -16,7 +16,7 @@ use Rattle.bg_cert.specs.declared.cert.Cert.{Cert}
 use Rattle.bg_cert.specs.Certs.{CertOf, Accepts, cert_of, uses}
 use Rattle.bg_cert.proofs.Sound.{table_agrees}
 use Rattle.bg_cert.specs.Walks.{no_instance}
-use Rattle.bg_fits.specs.Scalars.{is_over_scalars}
+use Rattle.bg_fits.specs.Valued.{is_over_values}
 use Rattle.bg_forms.specs.Worth.{bools_at}
 use Rattle.bg_clause.specs.Tables.{there_in}
 use Rattle.bg_numbered.specs.Lines.{Line}
@@ -25,7 +25,7 @@ use Rattle.bg_task.specs.Certified.{HasCertificate}
 use Rattle.bg_task.proofs.LawTypes.{FunctionLaw, BodyLaw, PassiveLaw, FitLaw, DenyLaw, MetLaw, CertLaw, UsedLaw, UnitAtomLaw, NamedUnitLaw}
 use Rattle.bg_task.proofs.Formulas.{plain_formula, plain_agree, meets_units}
 
-module _ (functions : FunctionLaw) (bodies : BodyLaw) (runs : PassiveLaw) (fits : FitLaw) (denies : DenyLaw) (met : MetLaw) (p : Prog) (t : IsTyped p) (o : is_over_scalars true p ≡ true) where
+module _ (functions : FunctionLaw) (bodies : BodyLaw) (runs : PassiveLaw) (fits : FitLaw) (denies : DenyLaw) (met : MetLaw) (p : Prog) (t : IsTyped p) (o : is_over_values p ≡ true) where
   -- a failing run gives a valuation that makes the clauses true, and the candidates as they are in the set
   valued : (set : ℕ → Bool) (u : Place) (es : List Line) (f : Formula) (h : HasClauses p u es f) (i : Interp) (s : State) (choices : List Choice) → Meets p i → IsState p u.implementation s → induction_run p set i u.implementation s choices ≡ Failed u.spot → (v : Valuation) × ((clauses_true v f.atoms f.clauses ≡ true) × ((b : ℕ) → bools_at h.encoding.named b ≡ true → there_in f.candidates v.truths b ≡ set b))
   valued set u es f h i s choices meets state e =

@@ -37,9 +37,8 @@ use Rattle.bg_terms.specs.Flat.{HaveNoBodies}
 use Rattle.bg_numbered.specs.Lines.{Line}
 use Rattle.bg_termed.specs.Termed.{IsTabled}
 use Rattle.bg_termed.specs.Lined.{HasFlats, IsLinedEncoding, lined_behind, lined_sorts}
-use Rattle.bg_flat.specs.Mapless.{are_mapless}
 use Rattle.bg_flat_clauses.specs.Linear.{LinearBlocks}
-use Rattle.bg_fits.specs.Scalars.{is_over_scalars}
+use Rattle.bg_fits.specs.Valued.{is_over_values}
 
 abbrev pub FunctionLaw : Type 0
 FunctionLaw = (p : Prog) → IsTyped p → AreTypedBodies p
@@ -77,7 +76,7 @@ DenyLaw =
 -- a valuation for typed values under which the equations deny the entry
 abbrev pub MetLaw : Type 0
 MetLaw =
-    (p : Prog) (k : ℕ) (m : Impl) (q : Proc) → IsTyped p → is_over_scalars true p ≡ true →
+    (p : Prog) (k : ℕ) (m : Impl) (q : Proc) → IsTyped p → is_over_values p ≡ true →
     slice_get p.implementations k ≡ Some m → procedure_of p m.procedure ≡ Some q →
     (lines : List Line) (a : Encoding) → IsLinedEncoding p k m q lines a →
     (target : Spot) (f : Formula) → clauses_of a.first a.named a.terms a.rows target a.blocks ≡ Ok f →
@@ -110,34 +109,29 @@ UsedLaw =
 
 abbrev pub EvenLaw : Type 0
 EvenLaw =
-    (p : Prog) (k : ℕ) (m : Impl) (q : Proc) → IsTyped p → is_over_scalars true p ≡ true →
+    (p : Prog) (k : ℕ) (m : Impl) (q : Proc) → IsTyped p → is_over_values p ≡ true →
     slice_get p.implementations k ≡ Some m → procedure_of p m.procedure ≡ Some q → BlocksEven (blocks_in p k m q)
 
 abbrev pub SortLaw : Type 0
 SortLaw =
-    (p : Prog) (k : ℕ) (m : Impl) (q : Proc) → IsTyped p → is_over_scalars true p ≡ true →
+    (p : Prog) (k : ℕ) (m : Impl) (q : Proc) → IsTyped p → is_over_values p ≡ true →
     slice_get p.implementations k ≡ Some m → procedure_of p m.procedure ≡ Some q →
     (lines : List Line) → blocks_sorted (lined_sorts p k m q lines) p.candidates (lined_behind p k m q lines) ≡ true
 
--- ---- laws of programs whose functions have tables, for programs over scalars
+-- ---- laws of programs whose functions have tables, for programs over values
 
 abbrev pub TabledLaw : Type 0
-TabledLaw = (p : Prog) → IsTyped p → is_over_scalars true p ≡ true → IsTabled p
-
-abbrev pub MaplessLaw : Type 0
-MaplessLaw =
-    (p : Prog) (k : ℕ) (m : Impl) (q : Proc) → IsTyped p → is_over_scalars true p ≡ true →
-    slice_get p.implementations k ≡ Some m → procedure_of p m.procedure ≡ Some q → are_mapless (incarnations_in p k m q) ≡ true
+TabledLaw = (p : Prog) → IsTyped p → is_over_values p ≡ true → IsTabled p
 
 abbrev pub LinearLaw : Type 0
 LinearLaw =
-    (p : Prog) (k : ℕ) (m : Impl) (q : Proc) → IsTyped p → is_over_scalars true p ≡ true →
+    (p : Prog) (k : ℕ) (m : Impl) (q : Proc) → IsTyped p → is_over_values p ≡ true →
     slice_get p.implementations k ≡ Some m → procedure_of p m.procedure ≡ Some q → LinearBlocks p.candidates (passives_in p k m q)
 
 abbrev pub FlatsLaw : Type 0
 FlatsLaw =
-    (p : Prog) (k : ℕ) (m : Impl) (q : Proc) → IsTabled p → slice_get p.implementations k ≡ Some m → procedure_of p m.procedure ≡ Some q →
-    are_mapless (incarnations_in p k m q) ≡ true → HasFlats p k m q
+    (p : Prog) (k : ℕ) (m : Impl) (q : Proc) → IsTyped p → is_over_values p ≡ true →
+    slice_get p.implementations k ≡ Some m → procedure_of p m.procedure ≡ Some q → HasFlats p k m q
 
 abbrev pub AnyMetLaw : Type 0
 AnyMetLaw =
@@ -154,11 +148,8 @@ AnySortLaw =
     (p : Prog) (k : ℕ) (m : Impl) (q : Proc) → HasFlats p k m q → LinearBlocks p.candidates (passives_in p k m q) →
     (lines : List Line) → blocks_sorted (lined_sorts p k m q lines) p.candidates (lined_behind p k m q lines) ≡ true
 
-pub met_law : TabledLaw → MaplessLaw → FlatsLaw → AnyMetLaw → MetLaw
-met_law tabled mapless flats met p k m q t o im pr =
-    let its = tabled p t o in
-    met p k m q its.bodies (flats p k m q its im pr (mapless p k m q t o im pr))
+pub met_law : TabledLaw → FlatsLaw → AnyMetLaw → MetLaw
+met_law tabled flats met p k m q t o im pr = met p k m q (tabled p t o).bodies (flats p k m q t o im pr)
 
-pub sort_law : TabledLaw → MaplessLaw → FlatsLaw → LinearLaw → AnySortLaw → SortLaw
-sort_law tabled mapless flats linear sorted p k m q t o im pr =
-    sorted p k m q (flats p k m q (tabled p t o) im pr (mapless p k m q t o im pr)) (linear p k m q t o im pr)
+pub sort_law : FlatsLaw → LinearLaw → AnySortLaw → SortLaw
+sort_law flats linear sorted p k m q t o im pr = sorted p k m q (flats p k m q t o im pr) (linear p k m q t o im pr)

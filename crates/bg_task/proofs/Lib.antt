@@ -13,3 +13,4 @@ pub mod Preparing
 pub mod Sorting
 pub mod Onways
 pub mod Determined
+pub mod Mapless

@@ -45,7 +45,7 @@ use Rattle.bg_incarnate.specs.Views.{passive_block_of, incarnations_of, incarnat
 use Rattle.bg_incarnate.specs.declared.blocks.Passive.{Passive}
 use Rattle.bg_incarnate.specs.Walked.{next_in}
 use Rattle.bg_block_types.specs.Typed.{blocks_in, arrivals_in, incarnations_in, passives_in}
-use Rattle.bg_fits.specs.Scalars.{is_over_scalars}
+use Rattle.bg_fits.specs.Valued.{is_over_values}
 use Rattle.bg_linear.specs.declared.scalar.Sort.{Sort}
 use Rattle.bg_sorts.specs.Passive.{ArrivesAt}
 use Rattle.bg_atoms.specs.Sorted.{blocks_sorted}
@@ -202,7 +202,7 @@ own_here p n m q es ss k bs a sorts count passives encodes exact listed =
     }
 
 -- sorts of the blocks behind lines
-pub sorted_own : SortLaw → (p : s.Prog) (n : ℕ) (m : s.Impl) (q : s.Proc) (es : List Line) → IsTyped p → is_over_scalars true p ≡ true → slice_get p.implementations n ≡ Some m → procedure_of p m.procedure ≡ Some q → (ss : List Sort) (k : ℕ) (bs : List PassiveBlock) → ss ≡ lined_sorts p n m q es → k ≡ p.candidates → bs ≡ lined_behind p n m q es → blocks_sorted ss k bs ≡ true
+pub sorted_own : SortLaw → (p : s.Prog) (n : ℕ) (m : s.Impl) (q : s.Proc) (es : List Line) → IsTyped p → is_over_values p ≡ true → slice_get p.implementations n ≡ Some m → procedure_of p m.procedure ≡ Some q → (ss : List Sort) (k : ℕ) (bs : List PassiveBlock) → ss ≡ lined_sorts p n m q es → k ≡ p.candidates → bs ≡ lined_behind p n m q es → blocks_sorted ss k bs ≡ true
 sorted_own law p n m q es t o im pr ss k bs sorts count passives =
     ap (λ x. blocks_sorted x k bs) sorts
     ∙ (ap (λ x. blocks_sorted (lined_sorts p n m q es) x bs) count
@@ -250,7 +250,7 @@ module _ (p : r.Program) (n : ℕ) (m : r.Impl) (q : r.Proc) (im : slice_get p.i
   many kinds e =
       sym (sym (length-map kinds ref_in) ∙ (ap (λ l. length l) e ∙ (types_many (frame_of p declared) ∙ length-map declared (decl_of types))))
 
-  module _ (evens : EvenLaw) (t : IsTyped P) (o : is_over_scalars true P ≡ true) (bs : List Block) (made : AreBlocks p n m q bs) where
+  module _ (evens : EvenLaw) (t : IsTyped P) (o : is_over_values P ≡ true) (bs : List Block) (made : AreBlocks p n m q bs) where
     pub even : BlocksEven (map (block_of p) bs)
     even = subst BlocksEven (sym made) (evens P n M Q t o impl_is proc_is)
 

@@ -9,7 +9,7 @@ use Rattle.bg_ast.specs.Resolved as r
 use Rattle.bg_ast.specs.Meaning.{meaning_of, named_of, fun_of}
 use Rattle.bg_sense.specs.Typed.{IsTyped}
 use Rattle.bg_sense.specs.Variables.{procedure_of}
-use Rattle.bg_fits.specs.Scalars.{is_over_scalars}
+use Rattle.bg_fits.specs.Valued.{is_over_values}
 use Rattle.bg_passive.specs.Passive.{PassiveBlock}
 use Rattle.bg_block_types.specs.Typed.{incarnations_in, passives_in}
 use Rattle.bg_incarnate.specs.Views.{passive_block_of}
@@ -26,9 +26,8 @@ use Rattle.bg_terms.specs.Typed.{type_of, types_with}
 use Rattle.bg_numbered.specs.Lines.{Line, after_lines, instances_in}
 use Rattle.bg_flat.specs.Blocks.{in_front}
 use Rattle.bg_flat.specs.Fronts.{stated}
-use Rattle.bg_flat.specs.Mapless.{are_mapless}
 use Rattle.bg_flatten.specs.Numbered.{terms_of, flat_of}
-use Rattle.bg_flatten.specs.Plain.{PlainBlocks}
+use Rattle.bg_flatten.specs.Plain.{are_mapless, PlainBlocks}
 use Rattle.bg_kinds.specs.declared.kinds.ValueType.{ValueType}
 use Rattle.bg_kinds.specs.Views.{ref_in}
 use Rattle.bg_term_table.specs.declared.table.Term as kept
@@ -36,7 +35,7 @@ use Rattle.bg_term_table.specs.Views as table
 use Rattle.bg_termed.specs.Termed.{IsTabled, count_in, terms_in, flats_in, types_in, sorts_in}
 use Rattle.bg_termed.specs.Lined.{lined_behind, lined_sorts, lined_terms, lined_types}
 use Rattle.bg_task.specs.declared.prepared.Prepared.{Prepared}
-use Rattle.bg_task.specs.Prepared.{IsPrepared, encoding_over}
+use Rattle.bg_task.specs.Prepared.{IsBare, IsPrepared, encoding_over}
 use Rattle.bg_task.specs.Cuts.{IsOwn}
 use Rattle.bg_task.specs.Sorts.{flat_sort}
 use Rattle.bg_task.specs.Targets.{targets_of, targets_in}
@@ -53,7 +52,7 @@ PlainLaw =
 
 abbrev pub PlainFlatLaw : Type 0
 PlainFlatLaw =
-    (p : s.Prog) (k : ℕ) (m : s.Impl) (q : s.Proc) → IsTyped p → is_over_scalars true p ≡ true → slice_get p.implementations k ≡ Some m →
+    (p : s.Prog) (k : ℕ) (m : s.Impl) (q : s.Proc) → IsTyped p → is_over_values p ≡ true → slice_get p.implementations k ≡ Some m →
     procedure_of p m.procedure ≡ Some q → PlainBlocks (flats_in p k m q)
 
 -- ---- what is made once
@@ -131,7 +130,7 @@ module _ (p : r.Program) (n : ℕ) (w : Prepared) (h : IsPrepared p n w) where
       ∙ ap (λ us. map flat_sort (types_with incs us)) b
       ∙ sorts_flat (lined_types P n M Q ls)
 
-  module _ (t : IsTyped (meaning_of p)) (o : is_over_scalars true (meaning_of p) ≡ true) (some : w.terms.items ≡ [] → ⊥) where
+  module _ (t : IsTyped (meaning_of p)) (o : is_over_values (meaning_of p) ≡ true) (some : IsBare w.terms.items (map ref_in w.kinds.items) → ⊥) where
     pub plain_flats : PlainFlatLaw → PlainBlocks (map passive_block_of w.flats.items)
     plain_flats law = subst PlainBlocks (sym (h.flats some)) (law P n M Q t o (impl_at p n w h) (proc_at p n w h))
 

@@ -17,7 +17,7 @@ use Rattle.bg_slice.specs.Marks.{marked_rows}
 use Rattle.bg_clause.specs.Whole.{clauses_of}
 use Rattle.bg_atoms.specs.declared.product.Atoms.{Atoms}
 use Rattle.bg_faithful.specs.Encoded.{Encoding}
-use Rattle.bg_flat.specs.Mapless.{are_mapless}
+use Rattle.bg_flatten.specs.Plain.{are_mapless}
 use Rattle.bg_terms.specs.Terms.{Term}
 use Rattle.bg_terms.specs.Typed.{types_with}
 use Rattle.bg_terms.specs.Instances.{Instance, Congruent, AtIndex, Elsewhere, Apart}
@@ -110,8 +110,8 @@ no_terms incs ts (l ∷ ls) h there some e =
     let bad : ⊥ = cc in
     bad
 
--- whether there is a line
-pub none_there : (ls : List code.Line) (b : Bool) → b ≡ (length ls == 0) → b ≡ true → ls ≡ []
+-- whether there is one
+pub none_there : {A : Type 0} (ls : List A) (b : Bool) → b ≡ (length ls == 0) → b ≡ true → ls ≡ []
 none_there [] b h e = refl
 none_there (x ∷ ls) b h e = absurd (let bad : (suc (length ls) == 0) ≡ true = sym h ∙ e in let no : ⊥ = grind (arith, bad) in no)
 

@@ -1,5 +1,6 @@
 -- What is made once of each implementation.
 use Rattle.std.specs.Prelude.{◌≡◌, ℕ, Bool, true, List, [], ◌∷◌, ◌++◌, Some, map, length, replicate, slice_get}
+use Rattle.bg_ast.specs.Values.{Ty}
 use Rattle.bg_ast.specs.Resolved as r
 use Rattle.bg_ast.specs.Meaning.{meaning_of, named_of, impl_of, proc_of}
 use Rattle.bg_kinds.specs.Views.{ref_in}
@@ -15,6 +16,8 @@ use Rattle.bg_incarnate.specs.Walked.{next_in}
 use Rattle.bg_incarnate.specs.Views.{passive_block_of}
 use Rattle.bg_atoms.specs.declared.product.Atoms.{Atoms}
 use Rattle.bg_faithful.specs.Encoded.{Encoding}
+use Rattle.bg_flatten.specs.Plain.{are_mapless}
+use Rattle.bg_term_table.specs.declared.table.Term as kept
 use Rattle.bg_term_table.specs.Views as table
 use Rattle.bg_termed.specs.Termed.{count_in, terms_in, flats_in, types_in, sorts_in}
 use Rattle.bg_task.specs.Cuts.{IsOwn}
@@ -38,8 +41,12 @@ encoding_over candidates a = encoding_of (replicate candidates true) a
 abbrev pub frame_declared : r.Impl → r.Proc → List r.Declared
 frame_declared m q = q.params ++ (q.results ++ m.locals)
 
+-- there are no terms, and no maps: no line names what is there
+abbrev pub IsBare : List kept.Term → List Ty → Type 0
+IsBare ts tys = (ts ≡ []) × (are_mapless tys ≡ true)
+
 -- the blocks of the implementation with this number, the first new incarnations at their arrivals, how many incarnations there are, its
--- terms, its flat blocks where it has terms, the types of incarnations and terms, the sorts of what stands for these, the blocks of forms
+-- terms, its flat blocks where it has terms or maps, the types of incarnations and terms, the sorts of what stands for these, the blocks of forms
 -- behind no line, and the targets of incarnations and terms
 pub record IsPrepared (p : r.Program) (number : ℕ) (w : Prepared) : Type 0 where
   pub implementation : r.Impl
@@ -51,7 +58,7 @@ pub record IsPrepared (p : r.Program) (number : ℕ) (w : Prepared) : Type 0 whe
   pub firsts : w.firsts.items ≡ firsts_of p (frame_declared implementation procedure) w.blocks.items
   pub count : w.count ≡ count_in (meaning_of p) number (impl_of (named_of p.types) implementation) (proc_of (named_of p.types) procedure)
   pub terms : table.terms_in (meaning_of p).functions w.terms.items ≡ terms_in (meaning_of p) number (impl_of (named_of p.types) implementation) (proc_of (named_of p.types) procedure)
-  pub flats : (w.terms.items ≡ [] → ⊥) → map passive_block_of w.flats.items ≡ flats_in (meaning_of p) number (impl_of (named_of p.types) implementation) (proc_of (named_of p.types) procedure)
+  pub flats : (IsBare w.terms.items (map ref_in w.kinds.items) → ⊥) → map passive_block_of w.flats.items ≡ flats_in (meaning_of p) number (impl_of (named_of p.types) implementation) (proc_of (named_of p.types) procedure)
   pub kinds : map ref_in w.kinds.items ≡ types_in (meaning_of p) number (impl_of (named_of p.types) implementation) (proc_of (named_of p.types) procedure)
   pub sorts : w.sorts.items ≡ sorts_in (meaning_of p) number (impl_of (named_of p.types) implementation) (proc_of (named_of p.types) procedure)
   pub own : IsOwn (meaning_of p) number (impl_of (named_of p.types) implementation) (proc_of (named_of p.types) procedure) [] (encoding_over (meaning_of p).candidates w.atoms)

@@ -1,12 +1,13 @@
 //! The blocks of forms of an implementation behind lines.
-ghost use Rattle.std.specs.Prelude.{◌≡◌, ◌<◌, ℕ, [], length, true, IfOk};
+ghost use Rattle.std.specs.Prelude.{◌≡◌, ℕ, map, true, IfOk};
 ghost use Rattle.bg_ast.specs.Meaning.{meaning_of, named_of, impl_of, proc_of};
 ghost use Rattle.bg_ast.specs.Views.{program_of};
 ghost use Rattle.bg_sense.specs.Typed.{IsTyped};
-ghost use Rattle.bg_fits.specs.Scalars.{is_over_scalars};
+ghost use Rattle.bg_fits.specs.Valued.{is_over_values};
+ghost use Rattle.bg_kinds.specs.Views.{ref_in};
 ghost use Rattle.bg_term_table.specs.Lines.{lines_of};
 ghost use Rattle.bg_task.specs.Cuts.{IsOwn};
-ghost use Rattle.bg_task.specs.Prepared.{IsPrepared, encoding_over};
+ghost use Rattle.bg_task.specs.Prepared.{IsBare, IsPrepared, encoding_over};
 
 use crate::lining::{Lined, with_lines};
 use crate::prepared::{Prepared, count_candidates};
@@ -15,13 +16,12 @@ use bg_atoms::{Atoms, atoms};
 use bg_fronts::behind;
 use bg_term_table::Line;
 use bg_termed::laws::{
-    blocks_behind_lines_are_sorted, flat_blocks_of_programs_are_plain,
-    implementations_over_scalars_have_no_maps, passive_blocks_have_terms,
-    programs_over_scalars_are_tabled,
+    blocks_behind_lines_are_sorted, flat_blocks_of_programs_are_plain, passive_blocks_are_linear,
+    passive_blocks_have_terms,
 };
 use std::alloc::{AllocError, Global};
 
-/// The blocks of forms of a prepared implementation that has terms behind lines. All of them are made anew.
+/// The blocks of forms of a prepared implementation that has terms or maps behind lines. All of them are made anew.
 pub fn atoms_behind(
     alloc: Global,
     program: &Resolved,
@@ -29,18 +29,22 @@ pub fn atoms_behind(
     lines: &[Line],
 ) -> Result<Atoms, AllocError>
     requires typed { IsTyped (meaning_of (program_of program.now)) }
-    requires scalars { is_over_scalars true (meaning_of (program_of program.now)) ≡ true }
+    requires scalars { is_over_values (meaning_of (program_of program.now)) ≡ true }
     requires prepared { (number : ℕ) × IsPrepared (program_of program.now) number prepared.now }
-    requires terms { prepared.now.terms.items ≡ [] → ⊥ }
+    requires kept { IsBare prepared.now.terms.items (map ref_in prepared.now.kinds.items) → ⊥ }
     ensures { IfOk result (λ made. (number : ℕ) (h : IsPrepared (program_of program.now) number prepared.now) → IsOwn (meaning_of (program_of program.now)) number (impl_of (named_of (program_of program.now).types) h.implementation) (proc_of (named_of (program_of program.now).types) h.procedure) (lines_of lines.now) (encoding_over (meaning_of (program_of program.now)).candidates made)) }
 {
-    programs_over_scalars_are_tabled();
-    implementations_over_scalars_have_no_maps();
     passive_blocks_have_terms();
+    passive_blocks_are_linear();
     blocks_behind_lines_are_sorted();
     flat_blocks_of_programs_are_plain();
     let candidates = count_candidates(program)?;
-    let Lined { terms, sorts } = with_lines(alloc, program, prepared, lines)?;
+    let Lined {
+        incarnations: _,
+        results: _,
+        terms,
+        sorts,
+    } = with_lines(alloc, program, prepared, lines)?;
     let blocks = behind(alloc, prepared.count, &terms, lines, &prepared.flats)?;
     match atoms(alloc, &sorts, candidates, &blocks)? {
         Some(made) => Ok(made),

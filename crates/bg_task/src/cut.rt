@@ -5,7 +5,7 @@ ghost use Rattle.bg_ast.specs.Views.{program_of};
 ghost use Rattle.bg_sense.specs.Typed.{IsTyped};
 ghost use Rattle.bg_places.specs.Views.{spot_of};
 ghost use Rattle.bg_formed.specs.Views.{blocks_of};
-ghost use Rattle.bg_fits.specs.Scalars.{is_over_scalars};
+ghost use Rattle.bg_fits.specs.Valued.{is_over_values};
 ghost use Rattle.bg_term_table.specs.Lines.{lines_of};
 ghost use Rattle.bg_task.specs.Prepared.{IsPrepared};
 ghost use Rattle.bg_task.specs.Lines.{AreThere};
@@ -20,7 +20,6 @@ use bg_places::{Place, Spot};
 use bg_slice::laws::{slices_are_below, slices_have_rows, slices_say_the_same, slices_use_alike};
 use bg_slice::{Kept, sliced, what_counts};
 use bg_term_table::Line;
-use bg_termed::laws::implementations_over_scalars_have_no_maps;
 use std::alloc::{AllocError, Global};
 
 /// Blocks of forms that were prepared, or that were made for a place.
@@ -83,12 +82,11 @@ pub fn cut_down<'q>(
     lines: &[Line],
 ) -> Result<Cut<'q>, AllocError>
     requires typed { IsTyped (meaning_of (program_of program.now)) }
-    requires scalars { is_over_scalars true (meaning_of (program_of program.now)) ≡ true }
+    requires scalars { is_over_values (meaning_of (program_of program.now)) ≡ true }
     requires prepared { IsPrepared (program_of program.now) place.now.implementation prepared.now }
     requires there { AreThere (program_of program.now) place.now.implementation prepared.now (lines_of lines.now) }
     ensures { IfOk result (λ made. IsSliceFor (program_of program.now) place.now.implementation prepared.now (lines_of lines.now) (spot_of place.now.spot) made) }
 {
-    implementations_over_scalars_have_no_maps();
     let spot = place.spot;
     if lines.is_empty() {
         let Kept { rows, named } = counted(alloc, program, &prepared.atoms, spot)?;

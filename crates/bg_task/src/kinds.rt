@@ -1,15 +1,17 @@
-//! The types of functions' values and of terms.
+//! The types of functions' values and of terms, and whether there are maps.
 ghost use Rattle.std.specs.Prelude.{◌≡◌, ◌++◌, List, map, IfOk};
+ghost use Rattle.bg_ast.specs.Values.{is_map};
 ghost use Rattle.bg_ast.specs.Syntax.{Fun};
 ghost use Rattle.bg_ast.specs.Meaning.{meaning_of};
 ghost use Rattle.bg_ast.specs.Views.{program_of};
-ghost use Rattle.bg_kinds.specs.Views.{ref_in};
+ghost use Rattle.bg_kinds.specs.Views.{ref_in, ref_of};
 ghost use Rattle.bg_terms.specs.Typed.{type_of};
+ghost use Rattle.bg_flatten.specs.Plain.{are_mapless};
 ghost use Rattle.bg_term_table.specs.Views.{result_ty, seen_ty, terms_in};
 
 use bg_ast::resolved::Resolved;
-use bg_fits::{kind_copied, map_kind, written_kind};
-use bg_kinds::ValueType;
+use bg_fits::{base_in, kind_copied, map_kind, written_kind};
+use bg_kinds::{TypeRef, ValueType};
 use bg_term_table::{Seen, Term, head_type};
 use std::alloc::{AllocError, Global};
 
@@ -48,4 +50,26 @@ pub fn with_terms(
         made.push(seen_copied(alloc, head_type(results, &t.head))?)?;
     }
     Ok(made)
+}
+
+/// Whether this is a map.
+fn is_map(t: TypeRef<'_>) -> bool
+    ensures { result ≡ is_map (ref_of t.entry) }
+{
+    match base_in(t) {
+        None => true,
+        Some(_) => false,
+    }
+}
+
+/// Whether none of these types is a map.
+pub fn are_mapless(kinds: &[ValueType]) -> bool
+    ensures { result ≡ are_mapless (map ref_in kinds.now) }
+{
+    for t in kinds {
+        if is_map(t.as_ref()) {
+            return false;
+        }
+    }
+    true
 }

@@ -9,7 +9,7 @@ ghost use Rattle.bg_cert.specs.declared.cert.Cert.{Cert};
 ghost use Rattle.bg_formula.specs.Meaning.{AtomsAgree};
 ghost use Rattle.bg_cert.specs.Certs.{CertOf, Accepts, cert_of, uses};
 ghost use Rattle.bg_cert.specs.Walks.{has, no_instance};
-ghost use Rattle.bg_fits.specs.Scalars.{is_over_scalars};
+ghost use Rattle.bg_fits.specs.Valued.{is_over_values};
 ghost use Rattle.bg_ast.specs.Values.{Ty};
 ghost use Rattle.bg_terms.specs.Terms.{Term};
 ghost use Rattle.bg_numbered.specs.Lines.{Line};
@@ -27,13 +27,13 @@ use bg_passive::laws::{arrivals_fit, passive_blocks_fail_alike};
 use bg_sense::laws::typed_programs_have_typed_bodies;
 use bg_slice::laws::slices_use_alike;
 use bg_termed::laws::{
-    denied_passive_blocks_have_lined_valuations, implementations_over_scalars_have_no_maps,
-    passive_blocks_have_terms, programs_over_scalars_are_tabled,
+    denied_passive_blocks_have_lined_valuations, passive_blocks_have_terms,
+    programs_over_values_are_tabled,
 };
 
 /// A place whose clauses, behind whatever lines, have a certificate has no failing run, under any set that has what the certificate uses.
 pub fn proved_places_do_not_fail()
-    ensures { (p : Prog) (set other : ℕ → Bool) (t : Place) (lines : List Line) (cert : Cert) → IsTyped p → is_over_scalars true p ≡ true →
+    ensures { (p : Prog) (set other : ℕ → Bool) (t : Place) (lines : List Line) (cert : Cert) → IsTyped p → is_over_values p ≡ true →
         HasCertificate p set t lines cert → ((c : ℕ) → uses (cert_of cert).nodes c ≡ true → other c ≡ true) →
         (i : Interp) (s : State) (choices : List Choice) → Fails p other t i s choices → ⊥ }
 {
@@ -41,8 +41,7 @@ pub fn proved_places_do_not_fail()
     passive_blocks_fail_alike();
     arrivals_fit();
     equations_deny_failing_walks();
-    programs_over_scalars_are_tabled();
-    implementations_over_scalars_have_no_maps();
+    programs_over_values_are_tabled();
     passive_blocks_have_terms();
     denied_passive_blocks_have_lined_valuations();
     accepted_has_no_valuation();
@@ -52,7 +51,7 @@ pub fn proved_places_do_not_fail()
 
 /// A place whose clauses, behind whatever lines, accept a certificate has no failing run, wherever the certificate is from.
 pub fn accepted_places_do_not_fail()
-    ensures { (p : Prog) (set : ℕ → Bool) (t : Place) (lines : List Line) (f : Formula) (cert : CertOf) → IsTyped p → is_over_scalars true p ≡ true →
+    ensures { (p : Prog) (set : ℕ → Bool) (t : Place) (lines : List Line) (f : Formula) (cert : CertOf) → IsTyped p → is_over_values p ≡ true →
         HasOwnClauses p t lines f → AtomsAgree cert.table → Accepts f set no_instance cert →
         (i : Interp) (s : State) (choices : List Choice) → Fails p set t i s choices → ⊥ }
 {
@@ -60,8 +59,7 @@ pub fn accepted_places_do_not_fail()
     passive_blocks_fail_alike();
     arrivals_fit();
     equations_deny_failing_walks();
-    programs_over_scalars_are_tabled();
-    implementations_over_scalars_have_no_maps();
+    programs_over_values_are_tabled();
     passive_blocks_have_terms();
     denied_passive_blocks_have_lined_valuations();
     accepted_has_no_valuation();

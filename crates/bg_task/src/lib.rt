@@ -1,10 +1,11 @@
-//! A place of a program over scalars as a task: what is made once of its implementation, what of that counts for
+//! A place of a program over values as a task: what is made once of its implementation, what of that counts for
 //! the place, and its clauses behind lines, which a certificate shows to have no solution. Nothing here searches.
 #![tactic(auto)]
 
 mod behind;
 mod clauses;
 mod cut;
+mod equated;
 mod flat;
 mod growing;
 mod kinds;

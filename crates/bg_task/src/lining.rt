@@ -17,9 +17,12 @@ use bg_linear::Sort;
 use bg_term_table::{Around, Line, Seen, Term, head_type, terms_behind};
 use std::alloc::{AllocError, Global};
 
-/// Terms with those that lines bring, and the sorts of what stands for values of incarnations and of these.
+/// The types of incarnations and of what functions give, terms with those that lines bring, and the sorts of what stands for values of
+/// incarnations and of these.
 #[derive(Drop)]
-pub struct Lined {
+pub struct Lined<'q> {
+    pub incarnations: &'q [ValueType],
+    pub results: Vec<ValueType>,
     pub terms: Vec<Term>,
     pub sorts: Vec<Sort>,
 }
@@ -52,23 +55,29 @@ fn sorts_over(alloc: Global, around: Around<'_>, terms: &[Term]) -> Result<Vec<S
     Ok(made)
 }
 
-/// The terms of a prepared implementation with those that lines bring, and the sorts. All of them are made anew.
+/// The terms of a prepared implementation with those that lines bring, the types, and the sorts. All terms are made anew.
 ///
 /// Only want of memory is an error; 2^32 incarnations and terms count as such.
-pub fn with_lines(
+pub fn with_lines<'q>(
     alloc: Global,
     program: &Resolved,
-    prepared: &Prepared<'_>,
+    prepared: &'q Prepared<'_>,
     lines: &[Line],
-) -> Result<Lined, AllocError>
+) -> Result<Lined<'q>, AllocError>
     ensures { IfOk result (λ made. IsLined (program_of program.now) prepared.now (lines_of lines.now) made) }
 {
     let results = result_kinds(alloc, program)?;
+    let incarnations = front(&prepared.kinds, prepared.count as usize);
     let around = Around {
-        incarnations: front(&prepared.kinds, prepared.count as usize),
+        incarnations,
         results: &results,
     };
     let terms = terms_behind(alloc, around, &prepared.terms, lines)?;
     let sorts = sorts_over(alloc, around, &terms)?;
-    Ok(Lined { terms, sorts })
+    Ok(Lined {
+        incarnations,
+        results,
+        terms,
+        sorts,
+    })
 }

@@ -6,19 +6,20 @@ ghost use Rattle.bg_ast.specs.Views.{program_of};
 ghost use Rattle.bg_sense.specs.Typed.{IsTyped};
 ghost use Rattle.bg_blocks.specs.Callees.{IsModified};
 ghost use Rattle.bg_blocks.specs.EmittedViews.{frame_of};
-ghost use Rattle.bg_fits.specs.Scalars.{is_over_scalars};
+ghost use Rattle.bg_fits.specs.Valued.{is_over_values};
 ghost use Rattle.bg_sense.specs.Types.{types_of};
 ghost use Rattle.bg_kinds.specs.Views.{ref_in};
-ghost use Rattle.bg_task.specs.Prepared.{IsPrepared, frame_declared};
+ghost use Rattle.bg_task.specs.Prepared.{IsBare, IsPrepared, frame_declared};
 
+use crate::equated::{Beside, compared_maps};
 use crate::flat::made_flat;
-use crate::kinds::{result_kinds, with_terms};
+use crate::kinds::{are_mapless, result_kinds, with_terms};
 use crate::sorts::flat_sorts;
 use crate::targets::targets_of;
 use bg_ast::resolved::{Resolved, Variable};
 use bg_atoms::{Atoms, atoms};
 use bg_blocks::{Block, blocks};
-use bg_faithful::laws::blocks_over_scalars_are_even;
+use bg_faithful::laws::blocks_over_values_are_even;
 use bg_flatten::Flat;
 use bg_incarnate::{Passive, PassiveBlock, passive};
 use bg_kinds::ValueType;
@@ -26,14 +27,13 @@ use bg_linear::Sort;
 use bg_sorts::{frame_kinds, incarnation_kinds};
 use bg_term_table::{Around, Term};
 use bg_termed::laws::{
-    blocks_behind_lines_are_sorted, implementations_over_scalars_have_no_maps,
-    implementations_without_functions_stay, passive_blocks_have_terms,
-    programs_over_scalars_are_tabled,
+    blocks_behind_lines_are_sorted, implementations_without_functions_stay,
+    passive_blocks_are_linear, passive_blocks_have_terms, programs_over_values_are_tabled,
 };
 use std::alloc::{AllocError, Global};
 
 /// The blocks of an implementation, the first new incarnation at each arrival where they are made passive, how many incarnations there
-/// are, its terms, where it has terms its flat blocks, the types of incarnations and terms, the sorts of what stands for these, the blocks of
+/// are, its terms, where it has terms or maps its flat blocks, the types of incarnations and terms, the sorts of what stands for these, the blocks of
 /// forms behind no line, the targets of incarnations and terms, and how many variables the frame has.
 #[derive(Drop)]
 pub struct Prepared<'p> {
@@ -46,6 +46,7 @@ pub struct Prepared<'p> {
     pub sorts: Vec<Sort>,
     pub atoms: Atoms,
     pub targets: Vec<i128>,
+    pub beside: Beside,
     pub frame: usize,
 }
 
@@ -72,18 +73,25 @@ pub fn count_candidates(program: &Resolved) -> Result<u32, AllocError>
     }
 }
 
-/// The blocks where there are terms; else none are kept.
-fn kept(alloc: Global, terms: &[Term], blocks: Vec<PassiveBlock>) -> Vec<PassiveBlock>
-    ensures { (terms.now ≡ [] → ⊥) → result ≡ blocks }
+/// The blocks where there are terms, or maps; else none are kept, since no line names what is there.
+fn kept(
+    alloc: Global,
+    terms: &[Term],
+    kinds: &[ValueType],
+    blocks: Vec<PassiveBlock>,
+) -> Vec<PassiveBlock>
+    ensures { (IsBare terms.now (map ref_in kinds.now) → ⊥) → result ≡ blocks }
 {
     if terms.is_empty() {
-        return Vec::new(alloc);
+        if are_mapless(kinds) {
+            return Vec::new(alloc);
+        }
     }
     blocks
 }
 
-/// Prepares the implementation with this number of a typed program over scalars, where these are what its
-/// procedures modify. In a program without functions no block is copied.
+/// Prepares the implementation with this number of a typed program over values, where these are what its
+/// procedures modify. In a program without functions and maps no block is copied.
 ///
 /// Only want of memory is an error; 2^32 incarnations and terms, or atoms, count as such.
 pub fn prepare<'p>(
@@ -95,14 +103,14 @@ pub fn prepare<'p>(
     requires modified { IsModified (program_of program.now) callees.now }
     requires there { number < length program.now.implementations.items }
     requires typed { IsTyped (meaning_of (program_of program.now)) }
-    requires scalars { is_over_scalars true (meaning_of (program_of program.now)) ≡ true }
+    requires scalars { is_over_values (meaning_of (program_of program.now)) ≡ true }
     ensures { IfOk result (λ made. IsPrepared (program_of program.now) number made) }
 {
-    blocks_over_scalars_are_even();
-    programs_over_scalars_are_tabled();
-    implementations_over_scalars_have_no_maps();
+    blocks_over_values_are_even();
+    programs_over_values_are_tabled();
     implementations_without_functions_stay();
     passive_blocks_have_terms();
+    passive_blocks_are_linear();
     blocks_behind_lines_are_sorted();
     let blocks = blocks(alloc, program, callees, number)?;
     let frame = frame_in(alloc, program, number)?;
@@ -129,8 +137,9 @@ pub fn prepare<'p>(
     let Some(atoms) = atoms(alloc, &sorts, candidates, &flats)? else {
         unreachable!()
     };
-    let flats = kept(alloc, &terms, flats);
+    let flats = kept(alloc, &terms, &kinds, flats);
     let targets = targets_of(alloc, &kinds, &terms)?;
+    let beside = compared_maps(alloc, &kinds, &flats)?;
     Ok(Prepared {
         blocks,
         firsts,
@@ -141,6 +150,7 @@ pub fn prepare<'p>(
         sorts,
         atoms,
         targets,
+        beside,
         frame: frame.len(),
     })
 }

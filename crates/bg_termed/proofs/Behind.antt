@@ -14,7 +14,7 @@ use Rattle.bg_terms.proofs.Built.{built_typed}
 use Rattle.bg_flat_clauses.specs.Sorts.{flat_sorts}
 use Rattle.bg_flat_clauses.proofs.Sorted.{scalars_of}
 use Rattle.bg_read_off.specs.Leaves.{AreBuilt}
-use Rattle.bg_termed.specs.Built.{each_built, built_all}
+use Rattle.bg_read_off.specs.Built.{each_built, built_all}
 
 -- numbers and truth values are of the types of what stands for values
 pub scalars_typed : (tys : List Ty) (numbers : ℕ → ℤ) (truths : ℕ → Bool) → are_of (map scalar_ty tys) (scalar_values numbers truths (flat_sorts tys)) ≡ true

@@ -4,4 +4,3 @@ pub mod Plain
 pub mod Firsts
 pub mod Indices
 pub mod Over
-pub mod Bare

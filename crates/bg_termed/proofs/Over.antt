@@ -8,7 +8,7 @@ use Rattle.bg_sense.specs.Types.{are_of}
 use Rattle.bg_passive.specs.Passive.{PassiveBlock}
 use Rattle.bg_passive.specs.Incarnations.{passive_scope}
 use Rattle.bg_passive.specs.Equations.{is_well, equations}
-use Rattle.bg_terms.specs.Terms.{Head, Term, over}
+use Rattle.bg_terms.specs.Terms.{Head, Term, IsModel, over}
 use Rattle.bg_terms.specs.Alike.{scalar_ty}
 use Rattle.bg_terms.specs.Closed.{IsFinished}
 use Rattle.bg_terms.specs.Tables.{IsReadOff}
@@ -28,3 +28,14 @@ module _ (p : Prog) (i : Interp) (defaults : Head → Val) (incs : List Ty) (ts 
 
   pub fail_over : ((us : List Term) → FailOver (ts ++ us)) → (all us : List Term) → all ≡ ts ++ us → FailOver all
   fail_over law all us e = subst FailOver (sym e) (law us)
+
+module _ (p : Prog) (i : Interp) (defaults : Head → Val) (incs : List Ty) (ts : List Term) (s w : List Val) where
+  -- at a finished leaf over these terms the first ones are worth what they mean
+  abbrev ModelOver : List Term → Type 0
+  ModelOver all =
+      TermsTyped p.functions incs all → are_of (map scalar_ty (types_with incs all)) s ≡ true →
+      AreBuilt (length incs) all (types_with incs all) s w → IsFinished s (length incs) all (types_with incs all) →
+      IsReadOff i defaults w (length incs) all → IsModel i w (length incs) ts
+
+  pub model_over : ((us : List Term) → ModelOver (ts ++ us)) → (all us : List Term) → all ≡ ts ++ us → ModelOver all
+  model_over law all us e = subst ModelOver (sym e) (law us)

@@ -1,21 +1,18 @@
--- What is plain: passive blocks without functions, and what is flat.
-use Rattle.std.proofs.Common.{◌≡◌, ℕ, true, List, [], ◌∷◌, Option, Some, None, refl, subst}
-use Rattle.std.specs.Prelude.{slice_get}
+-- What is flat is plain, and what is typed is linear.
+use Rattle.std.proofs.Common.{◌≡◌, ℕ, true, List, [], ◌∷◌, Option, Some, None, refl}
 use Rattle.bg_ast.specs.Values.{Ty, BoolTy, IntTy}
 use Rattle.bg_ast.specs.Syntax.{Op, And, Or, Implies, Iff, Equal, Unequal, Less, AtMost, Greater, AtLeast, Plus, Minus, Times, Ex, Number, Fact, Constant, Read, Not, Negative, Binary, Apply, Select, Update, Old, Prog}
-use Rattle.bg_sense.specs.Typing.{Sig, OpHasType, HasType}
-use Rattle.bg_sense.specs.Typed.{HasNoOld}
+use Rattle.bg_sense.specs.Typing.{Sig, OpHasType}
 use Rattle.bg_passive.specs.Passive.{PassiveCmd, Claims, Supposes, Edge, PassiveBlock}
 use Rattle.bg_block_types.specs.Typed.{TypedCmds, TypedEdges, TypedBlocks}
 use Rattle.bg_formed.specs.Formed.{fits_candidate}
-use Rattle.bg_faithful.proofs.Scalars.{IsDeclared}
+use Rattle.bg_faithful.proofs.ValueTypes.{IsDeclared}
 use Rattle.bg_faithful.proofs.Passes.{FitOnes, FitEdges, FitPassives}
 use Rattle.bg_terms.specs.Terms.{Term}
 use Rattle.bg_terms.specs.Alike.{HasFlatType}
 use Rattle.bg_flat.specs.Blocks.{FlatCmds, FlatEdges, FlatBlocks}
 use Rattle.bg_flatten.specs.Makes.{Each}
 use Rattle.bg_flatten.specs.Plain.{IsPlain, PlainCmd, PlainEdge, PlainBlocks}
-use Rattle.bg_flatten.proofs.Handled.{HasNoMaps, CmdWithout, EdgeWithout, BlockWithout}
 use Rattle.bg_flat_clauses.specs.Linear.{LinearCmds, LinearEdges, LinearBlocks}
 
 -- ---- sides of an operator
@@ -34,38 +31,6 @@ both_sides AtLeast a b P Q t f g h = (f IntTy h.1, g IntTy h.2)
 both_sides Plus a b P Q t f g h = (f IntTy h.1, g IntTy h.2)
 both_sides Minus a b P Q t f g h = (f IntTy h.1, g IntTy h.2)
 both_sides Times a b P Q t f g h = (f IntTy h.1, g IntTy h.2)
-
--- ---- without functions
-
-module _ (g : Sig) (none : g.functions ≡ []) where
-  unapplied : (e : Ex) (t : Ty) → HasType e g t → HasNoOld e → HasNoMaps e → IsPlain e
-  unapplied (Number z) t h o w = tt
-  unapplied (Fact b) t h o w = tt
-  unapplied (Constant k) t h o w = tt
-  unapplied (Read x) t h o w = tt
-  unapplied (Not e) t h o w = unapplied e BoolTy h.1 o w
-  unapplied (Negative e) t h o w = unapplied e IntTy h.1 o w
-  unapplied (Binary op a b) t h o w =
-      both_sides op (HasType a g) (HasType b g) (IsPlain a) (IsPlain b) t (λ u x. unapplied a u x o.0 w.0) (λ u x. unapplied b u x o.1 w.1) h
-  unapplied (Apply f es) t h o w =
-      absurd (let gone : slice_get [] f ≡ Some h.0 = subst (λ fs. slice_get fs f ≡ Some h.0) none h.1 in let bad : ⊥ = cc in bad)
-  unapplied (Select m es) t h o w = absurd w
-  unapplied (Update m es e) t h o w = absurd w
-  unapplied (Old e) t h o w = absurd o
-
-  cmds_plain : (ks : List PassiveCmd) → TypedCmds g ks → Each CmdWithout ks → Each PlainCmd ks
-  cmds_plain [] h w = tt
-  cmds_plain (Claims s b e ∷ ks) h w = (unapplied e BoolTy h.0.0.0 h.0.1 w.0, cmds_plain ks h.1 w.1)
-  cmds_plain (Supposes b e ∷ ks) h w = (unapplied e BoolTy h.0.0.0 h.0.1 w.0, cmds_plain ks h.1 w.1)
-
-  edges_plain : (es : List Edge) → TypedEdges g es → Each EdgeWithout es → Each PlainEdge es
-  edges_plain [] h w = tt
-  edges_plain (e ∷ es) h w = (cmds_plain e.cmds h.0 w.0, edges_plain es h.1 w.1)
-
-  pub blocks_plain : (bs : List PassiveBlock) → TypedBlocks g bs → Each BlockWithout bs → PlainBlocks bs
-  blocks_plain [] h w = tt
-  blocks_plain (b ∷ bs) h w =
-      ((cmds_plain b.cmds h.0.0 w.0.0, edges_plain b.next h.0.1 w.0.1), blocks_plain bs h.1 w.1)
 
 -- ---- what is flat
 

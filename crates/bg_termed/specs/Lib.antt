@@ -1,4 +1,3 @@
 pub mod Termed
-pub mod Built
 pub mod Clauses
 pub mod Lined

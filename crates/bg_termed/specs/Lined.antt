@@ -13,7 +13,7 @@ use Rattle.bg_flat_clauses.specs.Sorts.{flat_sorts}
 use Rattle.bg_flatten.specs.Flattens.{AreFlattened}
 use Rattle.bg_faithful.specs.Encoded.{Encoding, Encodes}
 use Rattle.bg_numbered.specs.Lines.{Line, after_lines, instances_in}
-use Rattle.bg_termed.specs.Built.{built_all}
+use Rattle.bg_read_off.specs.Built.{built_all}
 use Rattle.bg_termed.specs.Termed.{count_in, terms_in, flats_in}
 
 -- its passive blocks are made flat over its terms

@@ -9,16 +9,14 @@ use Rattle.bg_linear.specs.declared.scalar.Sort.{Sort}
 use Rattle.bg_terms.specs.Terms.{Term}
 use Rattle.bg_terms.specs.Flat.{HaveNoBodies}
 use Rattle.bg_terms.specs.Typed.{types_with}
-use Rattle.bg_flat.specs.Mapless.{GiveNoMaps}
 use Rattle.bg_flatten.specs.Numbered.{terms_of, flat_of}
 use Rattle.bg_flat_clauses.specs.Sorts.{flat_sorts}
 
--- a typed program without constants, whose functions have tables and no bodies, and give no maps
+-- a typed program without constants, whose functions have tables and no bodies
 pub record IsTabled (p : Prog) : Type 0 where
   pub typed : IsTyped p
   pub constants : p.constants ≡ []
   pub bodies : HaveNoBodies p.functions
-  pub results : GiveNoMaps p.functions
 
 -- how many incarnations the implementation with this number has, which is one of this procedure
 abbrev pub count_in : Prog → ℕ → Impl → Proc → ℕ

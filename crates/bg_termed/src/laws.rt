@@ -3,14 +3,14 @@ ghost use Rattle.std.specs.Prelude.{◌≡◌, ℕ, ℤ, ◌<◌, Bool, true, fa
 ghost use Rattle.bg_ast.specs.Values.{Val};
 ghost use Rattle.bg_ast.specs.Syntax.{Prog, Impl, Proc};
 ghost use Rattle.bg_ast.specs.Execution.{Interp, Spot};
-ghost use Rattle.bg_sense.specs.Eval.{value_at, ev};
+ghost use Rattle.bg_sense.specs.Eval.{value_at};
 ghost use Rattle.bg_sense.specs.Interps.{IsInterp};
 ghost use Rattle.bg_sense.specs.Types.{are_of};
 ghost use Rattle.bg_sense.specs.Typed.{IsTyped};
 ghost use Rattle.bg_sense.specs.Variables.{procedure_of};
 ghost use Rattle.bg_passive.specs.Incarnations.{passive_scope};
 ghost use Rattle.bg_passive.specs.Equations.{is_well, equations};
-ghost use Rattle.bg_fits.specs.Scalars.{is_over_scalars};
+ghost use Rattle.bg_fits.specs.Valued.{is_over_values};
 ghost use Rattle.bg_block_types.specs.Typed.{incarnations_in, passives_in};
 ghost use Rattle.bg_formula.specs.Formulas.{Formula};
 ghost use Rattle.bg_formula.specs.Meaning.{Valuation, clauses_true};
@@ -23,18 +23,17 @@ ghost use Rattle.bg_atoms.specs.Sorted.{blocks_sorted};
 ghost use Rattle.bg_faithful.specs.Encoded.{Encoding};
 ghost use Rattle.bg_terms.specs.Terms.{IsModel, over};
 ghost use Rattle.bg_terms.specs.Alike.{StandFor, scalar_ty};
-ghost use Rattle.bg_terms.specs.Instances.{Instance, instance_ex};
 ghost use Rattle.bg_terms.specs.Closed.{IsFinished};
 ghost use Rattle.bg_terms.specs.Flat.{HaveNoBodies};
-ghost use Rattle.bg_numbered.specs.Lines.{Line, are_there};
+ghost use Rattle.bg_numbered.specs.Indexed.{are_indexed, GiveIndexed};
+ghost use Rattle.bg_numbered.specs.Lines.{Line};
 ghost use Rattle.bg_terms.specs.Tables.{IsReadOff};
 ghost use Rattle.bg_flatten.specs.Flattens.{AreFlattened};
-ghost use Rattle.bg_flat.specs.Mapless.{are_mapless};
-ghost use Rattle.bg_flatten.specs.Plain.{PlainBlocks};
-ghost use Rattle.bg_read_off.specs.Leaves.{AreApplications, AreCongruent, silent};
+ghost use Rattle.bg_flat.specs.Blocks.{FlatBlocks};
+ghost use Rattle.bg_flatten.specs.Plain.{are_mapless, PlainBlocks};
+ghost use Rattle.bg_read_off.specs.Leaves.{AreCongruent, silent};
 ghost use Rattle.bg_flat_clauses.specs.Linear.{LinearBlocks};
-ghost use Rattle.bg_termed.specs.Termed.{IsTabled, count_in, terms_in, flats_in, types_in, sorts_in};
-ghost use Rattle.bg_termed.specs.Built.{built_in};
+ghost use Rattle.bg_termed.specs.Termed.{IsTabled, count_in, terms_in, flats_in};
 ghost use Rattle.bg_termed.specs.Lined.{HasFlats, IsLinedEncoding, lined_behind, lined_built, lined_sorts, lined_terms, lined_types};
 
 use bg_block_types::laws::passive_blocks_are_typed;
@@ -43,46 +42,48 @@ use bg_flat::laws::{
 };
 use bg_flat_clauses::laws::{flat_blocks_are_sorted, flat_clauses_fail_alike};
 use bg_flatten::laws::{
-    flattened_blocks_stay, mapless_types_are_indexed, numbered_blocks_are_flattened,
-    plain_blocks_stay, terms_are_applications, terms_are_ordinary, typed_blocks_are_fine,
+    blocks_without_functions_are_plain, flattened_blocks_stay, numbered_blocks_are_flattened,
+    plain_blocks_stay, terms_are_ordinary, typed_blocks_are_fine,
 };
-use bg_read_off::laws::{
-    applications_are_finished, built_leaves_are_models, scalars_stand_for_values,
-};
-use bg_terms::laws::{instances_are_typed, scalars_say_the_same};
+use bg_read_off::laws::{finished_leaves_are_models, finished_leaves_stand};
 
-/// A typed program over scalars has no constants, and its functions have tables alone.
-pub fn programs_over_scalars_are_tabled()
-    ensures { (p : Prog) → IsTyped p → is_over_scalars true p ≡ true → IsTabled p }
+/// A typed program over values has no constants, and its functions have tables alone.
+pub fn programs_over_values_are_tabled()
+    ensures { (p : Prog) → IsTyped p → is_over_values p ≡ true → IsTabled p }
 {}
 
-/// No incarnation and no term of its implementations is a map; and its passive blocks are linear, and name candidates that are there.
-pub fn implementations_over_scalars_have_no_maps()
-    ensures mapless { (p : Prog) (k : ℕ) (m : Impl) (q : Proc) → IsTyped p → is_over_scalars true p ≡ true → slice_get p.implementations k ≡ Some m →
-        procedure_of p m.procedure ≡ Some q → are_mapless (incarnations_in p k m q) ≡ true }
-    ensures all { (p : Prog) (k : ℕ) (m : Impl) (q : Proc) → IsTyped p → is_over_scalars true p ≡ true → slice_get p.implementations k ≡ Some m →
-        procedure_of p m.procedure ≡ Some q → are_mapless (types_in p k m q) ≡ true }
-    ensures linear { (p : Prog) (k : ℕ) (m : Impl) (q : Proc) → IsTyped p → is_over_scalars true p ≡ true → slice_get p.implementations k ≡ Some m →
+/// Each map that its functions give has an index, each among the incarnations of its implementations, and each among the terms behind lines.
+pub fn types_over_values_are_indexed()
+    ensures functions { (p : Prog) → IsTyped p → is_over_values p ≡ true → GiveIndexed p.functions }
+    ensures incarnations { (p : Prog) (k : ℕ) (m : Impl) (q : Proc) → IsTyped p → is_over_values p ≡ true → slice_get p.implementations k ≡ Some m →
+        procedure_of p m.procedure ≡ Some q → are_indexed (incarnations_in p k m q) ≡ true }
+    ensures lined { (p : Prog) (k : ℕ) (m : Impl) (q : Proc) → IsTyped p → is_over_values p ≡ true → slice_get p.implementations k ≡ Some m →
+        procedure_of p m.procedure ≡ Some q → (ls : List Line) → are_indexed (lined_types p k m q ls) ≡ true }
+{
+    passive_blocks_have_terms();
+    blocks_behind_lines_stay_flat()
+}
+
+/// The passive blocks of its implementations are made flat over fair terms.
+pub fn passive_blocks_have_terms()
+    ensures { (p : Prog) (k : ℕ) (m : Impl) (q : Proc) → IsTyped p → is_over_values p ≡ true → slice_get p.implementations k ≡ Some m →
+        procedure_of p m.procedure ≡ Some q → HasFlats p k m q }
+{
+    passive_blocks_are_typed();
+    programs_over_values_are_tabled();
+    typed_blocks_are_fine();
+    numbered_blocks_are_flattened()
+}
+
+/// They are linear, and name candidates that are there.
+pub fn passive_blocks_are_linear()
+    ensures { (p : Prog) (k : ℕ) (m : Impl) (q : Proc) → IsTyped p → is_over_values p ≡ true → slice_get p.implementations k ≡ Some m →
         procedure_of p m.procedure ≡ Some q → LinearBlocks p.candidates (passives_in p k m q) }
 {
-    passive_blocks_are_typed();
-    passive_blocks_have_terms();
-    terms_are_applications();
-    programs_over_scalars_are_tabled()
+    passive_blocks_are_typed()
 }
 
-/// Each term of its implementations is an application.
-pub fn terms_over_scalars_are_applications()
-    ensures { (p : Prog) (k : ℕ) (m : Impl) (q : Proc) → IsTyped p → is_over_scalars true p ≡ true → slice_get p.implementations k ≡ Some m →
-        procedure_of p m.procedure ≡ Some q → AreApplications (terms_in p k m q) }
-{
-    passive_blocks_are_typed();
-    terms_are_applications();
-    programs_over_scalars_are_tabled();
-    implementations_over_scalars_have_no_maps()
-}
-
-/// Without functions and maps there are no terms, and passive blocks are flat as they are.
+/// Without functions, and without maps among the incarnations, there are no terms, and passive blocks are flat as they are.
 pub fn implementations_without_functions_stay()
     ensures plain { (p : Prog) (k : ℕ) (m : Impl) (q : Proc) → IsTabled p → p.functions ≡ [] → slice_get p.implementations k ≡ Some m →
         procedure_of p m.procedure ≡ Some q → are_mapless (incarnations_in p k m q) ≡ true → PlainBlocks (passives_in p k m q) }
@@ -92,79 +93,61 @@ pub fn implementations_without_functions_stay()
         procedure_of p m.procedure ≡ Some q → are_mapless (incarnations_in p k m q) ≡ true → flats_in p k m q ≡ passives_in p k m q }
 {
     passive_blocks_are_typed();
+    blocks_without_functions_are_plain();
     plain_blocks_stay()
 }
 
 /// Flat blocks hold no application, select, update and `old`.
 pub fn flat_blocks_of_programs_are_plain()
-    ensures { (p : Prog) (k : ℕ) (m : Impl) (q : Proc) → IsTyped p → is_over_scalars true p ≡ true → slice_get p.implementations k ≡ Some m →
+    ensures { (p : Prog) (k : ℕ) (m : Impl) (q : Proc) → IsTyped p → is_over_values p ≡ true → slice_get p.implementations k ≡ Some m →
         procedure_of p m.procedure ≡ Some q → PlainBlocks (flats_in p k m q) }
 {
-    passive_blocks_have_terms();
-    programs_over_scalars_are_tabled();
-    implementations_over_scalars_have_no_maps()
+    passive_blocks_have_terms()
 }
 
-/// Any numbers and truth values are of the types of what stands for the values of incarnations and terms; the values that are built for
-/// them are typed, and the first of them are of the incarnations' types.
+/// Behind any lines passive blocks stay made flat, over fair terms of which each map that is selected from or updated has an index; and over
+/// the implementation's own terms they do, where incarnations and all terms have their types.
+pub fn blocks_behind_lines_stay_flat()
+    ensures lined { (p : Prog) (k : ℕ) (m : Impl) (q : Proc) → HasFlats p k m q → (ls : List Line) →
+        AreFlattened p.functions (incarnations_in p k m q) (passives_in p k m q) (lined_terms p k m q ls) (flats_in p k m q) }
+    ensures own { (p : Prog) (k : ℕ) (m : Impl) (q : Proc) → HasFlats p k m q → (ls : List Line) →
+        FlatBlocks (lined_types p k m q ls) (count_in p k m q) (terms_in p k m q) (passives_in p k m q) (flats_in p k m q) }
+{
+    bg_numbered::laws::lines_bring_fair_terms();
+    flat_blocks_stay();
+    flattened_blocks_stay()
+}
+
+/// Any numbers and truth values are of the types of what stands for the values of incarnations and of terms behind lines; the values that are
+/// built for them are typed, and the first of them are of the incarnations' types.
 pub fn built_values_are_typed()
-    ensures scalars { (p : Prog) (k : ℕ) (m : Impl) (q : Proc) (numbers : ℕ → ℤ) (truths : ℕ → Bool) →
-        are_of (map scalar_ty (types_in p k m q)) (scalar_values numbers truths (sorts_in p k m q)) ≡ true }
-    ensures all { (p : Prog) (k : ℕ) (m : Impl) (q : Proc) (numbers : ℕ → ℤ) (truths : ℕ → Bool) →
-        are_of (types_in p k m q) (built_in p k m q (scalar_values numbers truths (sorts_in p k m q))) ≡ true }
-    ensures first { (p : Prog) (k : ℕ) (m : Impl) (q : Proc) (numbers : ℕ → ℤ) (truths : ℕ → Bool) →
-        are_of (incarnations_in p k m q) (take (count_in p k m q) (built_in p k m q (scalar_values numbers truths (sorts_in p k m q)))) ≡ true }
+    ensures scalars { (p : Prog) (k : ℕ) (m : Impl) (q : Proc) (ls : List Line) (numbers : ℕ → ℤ) (truths : ℕ → Bool) →
+        are_of (map scalar_ty (lined_types p k m q ls)) (scalar_values numbers truths (lined_sorts p k m q ls)) ≡ true }
+    ensures all { (p : Prog) (k : ℕ) (m : Impl) (q : Proc) (ls : List Line) (numbers : ℕ → ℤ) (truths : ℕ → Bool) →
+        are_of (lined_types p k m q ls) (lined_built p k m q ls (scalar_values numbers truths (lined_sorts p k m q ls))) ≡ true }
+    ensures first { (p : Prog) (k : ℕ) (m : Impl) (q : Proc) (ls : List Line) (numbers : ℕ → ℤ) (truths : ℕ → Bool) →
+        are_of (incarnations_in p k m q) (take (count_in p k m q) (lined_built p k m q ls (scalar_values numbers truths (lined_sorts p k m q ls)))) ≡ true }
 {}
 
-/// Where functions have tables alone, the passive blocks of an implementation whose incarnations are no maps are made flat over fair terms.
-pub fn passive_blocks_have_terms()
-    ensures { (p : Prog) (k : ℕ) (m : Impl) (q : Proc) → IsTabled p → slice_get p.implementations k ≡ Some m → procedure_of p m.procedure ≡ Some q →
-        are_mapless (incarnations_in p k m q) ≡ true →
-        AreFlattened p.functions (incarnations_in p k m q) (passives_in p k m q) (terms_in p k m q) (flats_in p k m q) }
-{
-    passive_blocks_are_typed();
-    mapless_types_are_indexed();
-    typed_blocks_are_fine();
-    numbered_blocks_are_flattened()
-}
-
-/// Scalars stand for the values that are built for them, and instances say the same of both; where no congruence is false of these values, the
-/// leaf of the scalars is finished, and each term has the value that an interpretation makes of it which is read off the values.
+/// Where a leaf is finished, its scalars stand for the values that are built for them; no congruence is false of these; and the
+/// implementation's own terms are worth what an interpretation makes of them that is read off these values.
 pub fn built_values_are_models()
-    ensures stand { (p : Prog) (k : ℕ) (m : Impl) (q : Proc) → IsTyped p → is_over_scalars true p ≡ true → slice_get p.implementations k ≡ Some m →
-        procedure_of p m.procedure ≡ Some q → (s : List Val) → are_of (map scalar_ty (types_in p k m q)) s ≡ true →
-        StandFor (types_in p k m q) (built_in p k m q s) s }
-    ensures alike { (p : Prog) (k : ℕ) (m : Impl) (q : Proc) → IsTyped p → is_over_scalars true p ≡ true → slice_get p.implementations k ≡ Some m →
-        procedure_of p m.procedure ≡ Some q → (s : List Val) → are_of (map scalar_ty (types_in p k m q)) s ≡ true → (e : Instance) →
-        ev (instance_ex (count_in p k m q) (terms_in p k m q) e) (over s) ≡ ev (instance_ex (count_in p k m q) (terms_in p k m q) e) (over (built_in p k m q s)) }
-    ensures finished { (p : Prog) (k : ℕ) (m : Impl) (q : Proc) → IsTyped p → is_over_scalars true p ≡ true → slice_get p.implementations k ≡ Some m →
-        procedure_of p m.procedure ≡ Some q → (s : List Val) → are_of (map scalar_ty (types_in p k m q)) s ≡ true →
-        AreCongruent (built_in p k m q s) (count_in p k m q) (terms_in p k m q) → IsFinished s (count_in p k m q) (terms_in p k m q) (types_in p k m q) }
-    ensures models { (p : Prog) (k : ℕ) (m : Impl) (q : Proc) → IsTyped p → is_over_scalars true p ≡ true → slice_get p.implementations k ≡ Some m →
-        procedure_of p m.procedure ≡ Some q → (i : Interp) (s : List Val) → are_of (map scalar_ty (types_in p k m q)) s ≡ true →
-        AreCongruent (built_in p k m q s) (count_in p k m q) (terms_in p k m q) →
-        IsReadOff i (silent p.functions) (built_in p k m q s) (count_in p k m q) (terms_in p k m q) →
-        IsModel i (built_in p k m q s) (count_in p k m q) (terms_in p k m q) }
+    ensures stand { (p : Prog) (k : ℕ) (m : Impl) (q : Proc) → HasFlats p k m q → (ls : List Line) (s : List Val) →
+        are_of (map scalar_ty (lined_types p k m q ls)) s ≡ true → IsFinished s (count_in p k m q) (lined_terms p k m q ls) (lined_types p k m q ls) →
+        StandFor (lined_types p k m q ls) (lined_built p k m q ls s) s }
+    ensures congruent { (p : Prog) (k : ℕ) (m : Impl) (q : Proc) → HasFlats p k m q → (ls : List Line) (s : List Val) →
+        are_of (map scalar_ty (lined_types p k m q ls)) s ≡ true → IsFinished s (count_in p k m q) (lined_terms p k m q ls) (lined_types p k m q ls) →
+        AreCongruent (lined_built p k m q ls s) (count_in p k m q) (lined_terms p k m q ls) }
+    ensures models { (p : Prog) (k : ℕ) (m : Impl) (q : Proc) → HasFlats p k m q → (ls : List Line) (s : List Val) →
+        are_of (map scalar_ty (lined_types p k m q ls)) s ≡ true → IsFinished s (count_in p k m q) (lined_terms p k m q ls) (lined_types p k m q ls) →
+        (i : Interp) → IsReadOff i (silent p.functions) (lined_built p k m q ls s) (count_in p k m q) (lined_terms p k m q ls) →
+        IsModel i (lined_built p k m q ls s) (count_in p k m q) (terms_in p k m q) }
 {
-    passive_blocks_are_typed();
-    passive_blocks_have_terms();
-    terms_over_scalars_are_applications();
-    programs_over_scalars_are_tabled();
-    implementations_over_scalars_have_no_maps();
-    scalars_stand_for_values();
-    scalars_say_the_same();
-    instances_are_typed();
-    applications_are_finished();
-    built_leaves_are_models()
-}
-
-/// Lines that name what is there bring no terms, since there are no maps.
-pub fn lines_over_scalars_bring_nothing()
-    ensures { (p : Prog) (k : ℕ) (m : Impl) (q : Proc) → IsTyped p → is_over_scalars true p ≡ true → slice_get p.implementations k ≡ Some m →
-        procedure_of p m.procedure ≡ Some q → (ls : List Line) → are_there (incarnations_in p k m q) (terms_in p k m q) ls ≡ true →
-        lined_terms p k m q ls ≡ terms_in p k m q }
-{
-    implementations_over_scalars_have_no_maps()
+    bg_numbered::laws::lines_bring_fair_terms();
+    blocks_behind_lines_stay_flat();
+    terms_are_ordinary();
+    finished_leaves_stand();
+    finished_leaves_are_models()
 }
 
 /// Behind any lines flat blocks are sorted, where the passive blocks are linear and name candidates that are there.

@@ -1,43 +1,18 @@
-//! What is judged and what isn't yet, and how large a text may be.
+//! What is judged, and how large a text may be.
 use crate::line::say;
 use std::alloc::{AllocError, Global};
 use std::test::Fail;
 
-/// Texts of which no verdicts are given yet, and the lines that refuse them.
-const LATER: [(&[u8], &[u8]); 8] = [
-    (
-        b"procedure {:n 1} P(x: [int]int) { }",
-        b"error: 1:23 unsupported [\n",
-    ),
-    (
-        b"procedure P() { assert 12 == 13; } const unique c: [int]int;",
-        b"error: 1:52 unsupported [\n",
-    ),
-    (
-        b"function f(x: bool): bool; type T = [int]bool; function g(T): bool;",
-        b"error: 1:37 unsupported [\n",
-    ),
-    (
-        b"var g: bool; function f(x: bool): [int]bool;",
-        b"error: 1:35 unsupported [\n",
-    ),
-    (b"type T = [int]int;", b"error: 1:10 unsupported [\n"),
-    (
-        b"procedure P(m: [int]bool);",
-        b"error: 1:16 unsupported [\n",
-    ),
-    (
-        b"axiom true; function f(): bool { true } function g(): int; function h([int]int): int;",
-        b"error: 1:71 unsupported [\n",
-    ),
-    (
-        b"function f(m: [int]int): bool; axiom true;",
-        b"error: 1:15 unsupported [\n",
-    ),
-];
-
 /// Texts of which verdicts are given.
-const JUDGED: [&[u8]; 17] = [
+const JUDGED: [&[u8]; 25] = [
+    b"procedure {:n 1} P(x: [int]int) { }",
+    b"procedure P() { assert 12 == 13; } const unique c: [int]int;",
+    b"function f(x: bool): bool; type T = [int]bool; function g(T): bool;",
+    b"var g: bool; function f(x: bool): [int]bool;",
+    b"type T = [int]int;",
+    b"procedure P(m: [int]bool);",
+    b"axiom true; function f(): bool { true } function g(): int; function h([int]int): int;",
+    b"function f(m: [int]int): bool; axiom true;",
     b"const unique a, b: int; const unique c: bool; procedure P() { assert a != b; }",
     b"const {:existential true} b, c: bool; procedure P(a: bool); requires b ==> a ==> !a; ensures (c) ==> a;",
     b"procedure {:n 1} P(x: int) { }",
@@ -58,10 +33,7 @@ const JUDGED: [&[u8]; 17] = [
 ];
 
 #[test]
-fn what_is_not_judged_yet_has_its_line(rt: HostRuntime) -> Result<(), Fail> {
-    for (text, line) in &LATER {
-        assert!(rt; say(rt.alloc(), &[(*text, 1)], line)?);
-    }
+fn each_construct_is_judged(rt: HostRuntime) -> Result<(), Fail> {
     for text in &JUDGED {
         assert!(rt; say(rt.alloc(), &[(*text, 1)], b"")?);
     }

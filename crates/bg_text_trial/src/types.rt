@@ -6,11 +6,11 @@ use std::test::Fail;
 const NAMED: &[u8] =
     b"type E; type A = [int]int; type B = [int, E][int]bool;\nconst i: int; const b: bool; const e: E; const m: A; const n: B; function f(int): bool;\n";
 
-/// Axioms, and the lines that refuse them; those without a fault of types are refused for what stands above.
+/// Axioms, and the lines that refuse them; those without a fault of types have none.
 const EXPRESSIONS: [(&[u8], &[u8]); 24] = [
     (
         b"axiom !(i * 1 + -(1) == m[i]); axiom (n[i, e][1] ==> true) && b; axiom m[i := 1] == m && f(i);",
-        b"error: 1:18 unsupported [\n",
+        b"",
     ),
     (b"axiom i;", b"error: 3:7 type bool int\n"),
     (b"axiom 1 + true == i;", b"error: 3:11 type int bool\n"),
@@ -30,10 +30,7 @@ const EXPRESSIONS: [(&[u8], &[u8]); 24] = [
     (b"axiom f(i, i);", b"error: 3:7 arity\n"),
     (b"axiom f(e);", b"error: 3:9 type int E\n"),
     (b"axiom i * i == 1;", b"error: 3:9 nonlinear\n"),
-    (
-        b"axiom i * -(1 + 1) * (1) == 1;",
-        b"error: 1:18 unsupported [\n",
-    ),
+    (b"axiom i * -(1 + 1) * (1) == 1;", b""),
     (b"axiom i * (i + 1) == 1;", b"error: 3:9 nonlinear\n"),
     (b"axiom n[i, e];", b"error: 3:7 type bool [int]bool\n"),
     (
@@ -55,10 +52,7 @@ const EXPRESSIONS: [(&[u8], &[u8]); 24] = [
 /// Declarations with types, and statements.
 const WRITTEN: [(&[u8], &[u8]); 20] = [
     (b"const c: [([int]int)]int;", b"error: 1:11 index\n"),
-    (
-        b"type E; const c: [E][int]int;",
-        b"error: 1:18 unsupported [\n",
-    ),
+    (b"type E; const c: [E][int]int;", b""),
     (b"const c: int; const d: [bool]int;", b"error: 1:25 index\n"),
     (
         b"type A = [int]int; const c: [A]int;",
@@ -69,10 +63,7 @@ const WRITTEN: [(&[u8], &[u8]); 20] = [
         b"error: 1:35 index\n",
     ),
     (b"type A = bool; const c: [A]int;", b"error: 1:26 index\n"),
-    (
-        b"type E; type A = E; type B = A; const c: [B]int;",
-        b"error: 1:42 unsupported [\n",
-    ),
+    (b"type E; type A = E; type B = A; const c: [B]int;", b""),
     (b"type A = A; const c: int;", b"error: 1:6 cyclic A\n"),
     (
         b"type A = B;\ntype B = [int]C;\ntype C = [B]int;",

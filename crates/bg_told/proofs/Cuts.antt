@@ -5,12 +5,13 @@ use Rattle.bg_base.specs.declared.exact.Op.{Op}
 use Rattle.bg_base.specs.declared.exact.Op.TheVariants.{Plus, Minus, Times, Negate}
 use Rattle.bg_base.specs.declared.exact.OutOfRange.{OutOfRange}
 use Rattle.bg_base.specs.declared.pos.Pos.{Pos}
-use Rattle.bg_ast.specs.Values.{Val, Num, Truth, Element, Default, Entry, Table}
+use Rattle.bg_ast.specs.Values.{KeyType, IntKey, UserKey, Ty, Val, Num, Truth, Element, Default, Entry, Table, result_of}
 use Rattle.bg_ast.specs.Execution.{Spot, AtAssert, AtEntry, AfterTurn, AtCall, AtReturn, Choice, Branch, Chosen}
 use Rattle.bg_places.specs.Placed.{Placed}
 use Rattle.bg_sound.specs.Told.{Why, Nodes, Rows, Range}
 use Rattle.bg_told.specs.Kept.{operator_text, operation_text, why_text, kept_text}
-use Rattle.bg_told.specs.Lines.{text_or_none, value_text, part_text, key_text, mapping_text, table_text, is_printed}
+use Rattle.bg_told.specs.Lines.{texts, text_or_none, is_printed}
+use Rattle.bg_told.specs.ValueTexts.{index_types, front_text, default_text, element_text, number_text, number_behind, index_text, value_text, inside_text, part_text, key_text, mapping_text, table_text}
 use Rattle.bg_lines.specs.Lines.{position_text}
 use Rattle.bg_told.specs.Places.{chosen_text}
 use Rattle.bg_lines.specs.Places.{kind_text, call_text, place_text}
@@ -110,44 +111,94 @@ each_is_flat : {A : Type 0} (f : A → List ℕ) → ((a : A) → IsFlat (f a)) 
 each_is_flat f h [] = no_byte
 each_is_flat f h (x ∷ xs) = append_is_flat (f x) (flat_map f xs) (h x) (each_is_flat f h xs)
 
+pairs_are_flat : {A B : Type 0} (f : A → B → List ℕ) → ((a : A) (b : B) → IsFlat (f a b)) → (xs : List A) (ys : List B) → IsFlat (texts f xs ys)
+pairs_are_flat f h [] ys = no_byte
+pairs_are_flat f h (x ∷ xs) [] = no_byte
+pairs_are_flat f h (x ∷ xs) (y ∷ ys) =
+    append_is_flat (f x y) (texts f xs ys) (h x y) (pairs_are_flat f h xs ys)
+
 -- ---- values, and tables, where types have these names
 
+front_is_flat : (key value : List ℕ) → IsFlat key → IsFlat value → IsFlat (front_text key value)
+front_is_flat key value k v =
+    append_is_flat key (codes " := " ++ (value ++ codes ", ")) k
+    (append_is_flat (codes " := ") (value ++ codes ", ") (word_is_flat (codes " := ") refl) (behind_is_flat value (codes ", ") v refl))
+
+default_is_flat : (value : List ℕ) → IsFlat value → IsFlat (default_text value)
+default_is_flat value v =
+    append_is_flat (codes "else ") (value ++ codes "]") (word_is_flat (codes "else ") refl) (behind_is_flat value (codes "]") v refl)
+
+-- behind the bracket that opens a map or a table
+opened_is_flat : (w : List ℕ) → IsFlat w → IsFlat (codes "[" ++ w)
+opened_is_flat w h = append_is_flat (codes "[") w (word_is_flat (codes "[") refl) h
+
 module _ (types : List (List ℕ)) where
-  pub value_is_flat : (v : Val) → IsFlat (value_text types v)
-  value_is_flat (Truth true) = word_is_flat (codes "true") refl
-  value_is_flat (Truth false) = word_is_flat (codes "false") refl
-  value_is_flat (Num z) = signed_is_flat z
-  value_is_flat (Element t z) =
+  element_is_flat : (t : ℕ) (z : ℤ) → IsFlat (element_text types t z)
+  element_is_flat t z =
       let name = text_or_none (slice_get types t) in
       append_is_flat (filter is_printed name ++ codes "!") (signed_decimal z)
       (behind_is_flat (filter is_printed name) (codes "!") (printed_is_flat name) refl) (signed_is_flat z)
-  value_is_flat (Default d) = no_byte
-  value_is_flat (Entry k v m) = no_byte
 
-  pub chosen_is_flat : (c : Choice) → IsFlat (chosen_text types c)
-  chosen_is_flat (Branch k) = append_is_flat (codes "branch ") (decimal k) (word_is_flat (codes "branch ") refl) (decimal_is_flat k)
-  chosen_is_flat (Chosen v) = value_is_flat v
+  number_is_flat : (k : KeyType) (z : ℤ) → IsFlat (number_text types k z)
+  number_is_flat IntKey z = signed_is_flat z
+  number_is_flat (UserKey t) z = element_is_flat t z
 
-  part_is_flat : (v : Val) → IsFlat (part_text types v)
-  part_is_flat v = append_is_flat (codes ",") (value_text types v) (word_is_flat (codes ",") refl) (value_is_flat v)
+  other_is_flat : (k : KeyType) (z : ℤ) → IsFlat (number_behind types k z)
+  other_is_flat k z = append_is_flat (codes ",") (number_text types k z) (word_is_flat (codes ",") refl) (number_is_flat k z)
 
-  key_is_flat : (vs : List Val) → IsFlat (key_text types vs)
-  key_is_flat [] = no_byte
-  key_is_flat (v ∷ vs) =
-      append_is_flat (value_text types v) (flat_map (part_text types) vs) (value_is_flat v) (each_is_flat (part_text types) part_is_flat vs)
+  index_is_flat : (ks : List KeyType) (zs : List ℤ) → IsFlat (index_text types ks zs)
+  index_is_flat [] zs = no_byte
+  index_is_flat (k ∷ ks) [] = no_byte
+  index_is_flat (k ∷ ks) (z ∷ zs) =
+      append_is_flat (number_text types k z) (texts (number_behind types) ks zs) (number_is_flat k z) (pairs_are_flat (number_behind types) other_is_flat ks zs)
 
-  mapping_is_flat : (e : List Val × Val) → IsFlat (mapping_text types e)
-  mapping_is_flat e =
-      behind_is_flat ((key_text types e.0 ++ codes " := ") ++ value_text types e.1) (codes ", ")
-      (append_is_flat (key_text types e.0 ++ codes " := ") (value_text types e.1) (behind_is_flat (key_text types e.0) (codes " := ") (key_is_flat e.0) refl) (value_is_flat e.1)) refl
+  mutual
+    pub value_is_flat : (t : Ty) (v : Val) → IsFlat (value_text types t v)
+    value_is_flat t (Truth true) = word_is_flat (codes "true") refl
+    value_is_flat t (Truth false) = word_is_flat (codes "false") refl
+    value_is_flat t (Num z) = signed_is_flat z
+    value_is_flat t (Element u z) = element_is_flat u z
+    value_is_flat t (Default d) =
+        opened_is_flat (default_text (value_text types (result_of t) d)) (default_is_flat (value_text types (result_of t) d) (value_is_flat (result_of t) d))
+    value_is_flat t (Entry k v m) =
+        let key = index_text types (index_types t) k in
+        let value = value_text types (result_of t) v in
+        opened_is_flat (front_text key value ++ inside_text types t m)
+        (append_is_flat (front_text key value) (inside_text types t m) (front_is_flat key value (index_is_flat (index_types t) k) (value_is_flat (result_of t) v)) (inside_is_flat t m))
 
-  pub table_is_flat : (t : Table) → IsFlat (table_text types t)
-  table_is_flat t =
-      let entries = flat_map (mapping_text types) t.entries in
-      behind_is_flat (((codes "[" ++ entries) ++ codes "else ") ++ value_text types t.default) (codes "]")
-      (append_is_flat ((codes "[" ++ entries) ++ codes "else ") (value_text types t.default)
-      (behind_is_flat (codes "[" ++ entries) (codes "else ") (append_is_flat (codes "[") entries (word_is_flat (codes "[") refl) (each_is_flat (mapping_text types) mapping_is_flat t.entries)) refl)
-      (value_is_flat t.default)) refl
+    inside_is_flat : (t : Ty) (v : Val) → IsFlat (inside_text types t v)
+    inside_is_flat t (Truth b) = no_byte
+    inside_is_flat t (Num z) = no_byte
+    inside_is_flat t (Element u z) = no_byte
+    inside_is_flat t (Default d) = default_is_flat (value_text types (result_of t) d) (value_is_flat (result_of t) d)
+    inside_is_flat t (Entry k v m) =
+        let key = index_text types (index_types t) k in
+        let value = value_text types (result_of t) v in
+        append_is_flat (front_text key value) (inside_text types t m) (front_is_flat key value (index_is_flat (index_types t) k) (value_is_flat (result_of t) v)) (inside_is_flat t m)
+
+  pub chosen_is_flat : (t : Ty) (c : Choice) → IsFlat (chosen_text types t c)
+  chosen_is_flat t (Branch k) = append_is_flat (codes "branch ") (decimal k) (word_is_flat (codes "branch ") refl) (decimal_is_flat k)
+  chosen_is_flat t (Chosen v) = value_is_flat t v
+
+  part_is_flat : (t : Ty) (v : Val) → IsFlat (part_text types t v)
+  part_is_flat t v = append_is_flat (codes ",") (value_text types t v) (word_is_flat (codes ",") refl) (value_is_flat t v)
+
+  key_is_flat : (ts : List Ty) (vs : List Val) → IsFlat (key_text types ts vs)
+  key_is_flat [] vs = no_byte
+  key_is_flat (t ∷ ts) [] = no_byte
+  key_is_flat (t ∷ ts) (v ∷ vs) =
+      append_is_flat (value_text types t v) (texts (part_text types) ts vs) (value_is_flat t v) (pairs_are_flat (part_text types) part_is_flat ts vs)
+
+  mapping_is_flat : (ts : List Ty) (t : Ty) (e : List Val × Val) → IsFlat (mapping_text types ts t e)
+  mapping_is_flat ts t e =
+      front_is_flat (key_text types ts e.0) (value_text types t e.1) (key_is_flat ts e.0) (value_is_flat t e.1)
+
+  pub table_is_flat : (ts : List Ty) (t : Ty) (u : Table) → IsFlat (table_text types ts t u)
+  table_is_flat ts t u =
+      let entries = flat_map (mapping_text types ts t) u.entries in
+      let default = default_text (value_text types t u.default) in
+      opened_is_flat (entries ++ default)
+      (append_is_flat entries default (each_is_flat (mapping_text types ts t) (mapping_is_flat ts t) u.entries) (default_is_flat (value_text types t u.default) (value_is_flat t u.default)))
 
 -- ---- causes, and what is kept
 

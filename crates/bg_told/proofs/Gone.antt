@@ -14,7 +14,7 @@ use Rattle.bg_opened.specs.Axioms.{of_axioms}
 use Rattle.bg_carried.specs.Carried.{carried_verdict}
 use Rattle.bg_told.specs.Lines.{texts}
 use Rattle.bg_told.specs.Places.{constant_text}
-use Rattle.bg_told.specs.Sheets.{Head, Outer, Sheet, name_in, names_of}
+use Rattle.bg_told.specs.Sheets.{Head, Outer, Sheet, type_name, variable_in, names_of}
 use Rattle.bg_told.specs.History.{Gone, guarded, found_of, found_text, shown_text, front_text, gone_line, snapshot_line, gone_of, gone_in, gone_at, gone_text, interpretation_text, axioms_found}
 use Rattle.bg_lines.specs.Lines.{line}
 use Rattle.bg_lines.specs.Places.{place_text}
@@ -56,6 +56,6 @@ axioms_same s p o fits = by (verdict_of why_of o.axioms)
   where
     by : (v : Verdict) → interpretation_text s (split_verdict 0 v) ≡ interpretation_text s (carried_verdict (of_axioms (meaning_of p)) v)
     by Proved = refl
-    by (Refuted i u cs) =
-        ap (λ (x : List ℕ). line (Rattle.std.proofs.Common.codes "interpretation:") ++ (texts (constant_text s.types) (map name_in s.constants) u.globals ++ x)) (sym (fits i.tables))
+    by (Refuted i u ts cs) =
+        ap (λ (x : List ℕ). line (Rattle.std.proofs.Common.codes "interpretation:") ++ (texts (constant_text (map type_name s.types)) (map (variable_in s.types) s.constants) u.globals ++ x)) (sym (fits i.tables))
     by (Unknown why) = refl

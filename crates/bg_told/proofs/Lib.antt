@@ -1,8 +1,12 @@
 pub mod Texts
 pub mod Told
 pub mod Cuts
+pub mod Maps
+pub mod Towers
 pub mod Apart
 pub mod Whole
+pub mod Digits
+pub mod Injective
 pub mod Decided
 pub mod Settled
 pub mod Verified

@@ -34,14 +34,14 @@ use Rattle.bg_told.specs.Report.{result_text}
 -- a place that is proved in one isn't refuted in the other
 same_verdict : (p : Prog) (set : ℕ → Bool) (a b : Place) (v w : Verdict) → a ≡ b → IsTrueAt p set a v → IsTrueAt p set b w → not (is_unknown v) ≡ true → not (is_unknown w) ≡ true → bare_verdict v ≡ bare_verdict w
 same_verdict p set a b Proved Proved e f g m n = refl
-same_verdict p set a b (Refuted i s cs) (Refuted j u ds) e f g m n = refl
-same_verdict p set a b Proved (Refuted j u ds) e f g m n =
+same_verdict p set a b (Refuted i s ts cs) (Refuted j u us ds) e f g m n = refl
+same_verdict p set a b Proved (Refuted j u us ds) e f g m n =
     absurd (subst (λ (x : Place). IsTrueAt p set x Proved) e f j u ds g.0)
-same_verdict p set a b (Refuted i s cs) Proved e f g m n =
-    absurd (g i s cs (subst (λ (x : Place). IsTrueAt p set x (Refuted i s cs)) e f).0)
+same_verdict p set a b (Refuted i s ts cs) Proved e f g m n =
+    absurd (g i s cs (subst (λ (x : Place). IsTrueAt p set x (Refuted i s ts cs)) e f).0)
 same_verdict p set a b (Unknown why) w e f g m n = absurd (let bad : false ≡ true = m in cc)
 same_verdict p set a b Proved (Unknown why) e f g m n = absurd (let bad : false ≡ true = n in cc)
-same_verdict p set a b (Refuted i s cs) (Unknown why) e f g m n = absurd (let bad : false ≡ true = n in cc)
+same_verdict p set a b (Refuted i s ts cs) (Unknown why) e f g m n = absurd (let bad : false ≡ true = n in cc)
 
 abbrev settled : List Judged → Bool
 settled js = list_all (λ j. not (is_unknown j.verdict)) js

@@ -12,9 +12,9 @@ use Rattle.bg_expanded.specs.Chains.{most_bodies}
 use Rattle.bg_inference.specs.declared.outcome.Outcome.{Outcome}
 use Rattle.bg_inference.specs.Outcomes.{has_body}
 use Rattle.bg_told.specs.Places.{Named}
-use Rattle.bg_told.specs.Sheets.{Head, Sheet, head_of, type_name, named_of, sheet_of}
+use Rattle.bg_told.specs.Sheets.{Head, Sheet, head_of, type_name, named_in, sheet_of}
 use Rattle.bg_told.specs.declared.declared.Declarations.{Declarations}
-use Rattle.bg_told.specs.Entries.{types_in, all_named, outer_in, sheet_told, sheet_in, IsOf}
+use Rattle.bg_told.specs.Entries.{declared_types, types_in, all_named, outer_in, sheet_told, sheet_in, IsOf}
 use Rattle.bg_told.specs.History.{has_candidate, guarded}
 
 take_front : {A : Type 0} (xs ys : List A) → take (length xs) (xs ++ ys) ≡ xs
@@ -65,13 +65,13 @@ heads_same o axioms [] = refl
 heads_same o axioms (m ∷ ms) = ap (λ (hs : List Head). head_of m ∷ hs) (heads_same o axioms ms)
 
 -- opened functions have no body: which had one is told beside them
-named_same : (fs : List r.Fun) → all_named (map bodiless fs) (map has_body fs) ≡ map named_of fs
-named_same [] = refl
-named_same (f ∷ fs) = ap (λ (l : List Named). named_of f ∷ l) (named_same fs)
+named_same : (types : List r.TypeName) (fs : List r.Fun) → all_named types (map bodiless fs) (map has_body fs) ≡ map (named_in types) fs
+named_same types [] = refl
+named_same types (f ∷ fs) = ap (λ (l : List Named). named_in types f ∷ l) (named_same types fs)
 
 sheets : (p : r.Program) → sheet_told (length p.globals) (map has_body p.functions) (opened_program most_bodies p) ≡ sheet_of p
 sheets p =
-    rw (drop_front p.globals (map global_for p.constants), take_front p.globals (map global_for p.constants), named_same p.functions, heads_same (opened_in most_bodies p) (claims p) p.implementations) refl
+    rw (drop_front p.globals (map global_for p.constants), take_front p.globals (map global_for p.constants), named_same p.types p.functions, heads_same (opened_in most_bodies p) (claims p) p.implementations) refl
 
 pub sheet_same : (p : r.Program) (o : Outcome) → IsOf p o → sheet_in o ≡ sheet_of p
 sheet_same p o h =
@@ -82,7 +82,7 @@ sheet_same p o h =
 
 -- what all implementations see, part by part
 pub outer_same : (ds : Declarations) (s : Sheet) → (outer_in ds).types ≡ s.outer.types → (outer_in ds).constants ≡ s.outer.constants → (outer_in ds).functions ≡ s.outer.functions → (outer_in ds).globals ≡ s.outer.globals → outer_in ds ≡ s.outer
-outer_same ds s t a b c = rw (t, a, b, c) refl
+outer_same ds s t a b c = rw (a, b, c, t) refl
 
 module _ (p : r.Program) where
   from_same : (k : ℕ) (ms : List r.Impl) → placed_from (map (opened_proc (opened_in most_bodies p)) p.procedures) k (map (opened_impl (opened_in most_bodies p) (claims p)) ms) ≡ placed_from p.procedures k ms

@@ -3,6 +3,7 @@ use Rattle.std.proofs.Common.{◌≡◌, ℕ, ◌+◌, Bool, true, false, ◌||�
 use Rattle.std.specs.List.{list_any}
 use Rattle.std.specs.Fmt.{decimal}
 use Rattle.bg_ast.specs.Syntax.{Prog}
+use Rattle.bg_ast.specs.Values.{Ty}
 use Rattle.bg_ast.specs.Execution.{Interp, State, Choice}
 use Rattle.bg_sound.specs.Told.{Verdict, Proved, Refuted, Unknown, Judged, Word, is_refuted, is_unknown, has_refuted, has_unknown, word_of, SomeRefuted, SomeUnknown, AllProved}
 use Rattle.bg_check.specs.declared.verdict.Judged as code
@@ -37,22 +38,22 @@ word_kept g r u js =
 
 refuted_split : (n : ℕ) (v : Verdict) → is_refuted (split_verdict n v) ≡ is_refuted v
 refuted_split n Proved = refl
-refuted_split n (Refuted i s cs) = refl
+refuted_split n (Refuted i s ts cs) = refl
 refuted_split n (Unknown why) = refl
 
 unknown_split : (n : ℕ) (v : Verdict) → is_unknown (split_verdict n v) ≡ is_unknown v
 unknown_split n Proved = refl
-unknown_split n (Refuted i s cs) = refl
+unknown_split n (Refuted i s ts cs) = refl
 unknown_split n (Unknown why) = refl
 
 refuted_carried : (p : Prog) (v : Verdict) → is_refuted (carried_verdict p v) ≡ is_refuted v
 refuted_carried p Proved = refl
-refuted_carried p (Refuted i s cs) = refl
+refuted_carried p (Refuted i s ts cs) = refl
 refuted_carried p (Unknown why) = refl
 
 unknown_carried : (p : Prog) (v : Verdict) → is_unknown (carried_verdict p v) ≡ is_unknown v
 unknown_carried p Proved = refl
-unknown_carried p (Refuted i s cs) = refl
+unknown_carried p (Refuted i s ts cs) = refl
 unknown_carried p (Unknown why) = refl
 
 pub word_split : (n : ℕ) (js : List Judged) → word_of (map (split_one n) js) ≡ word_of js
@@ -101,14 +102,14 @@ module _ (s : Outer) (h : Head) (p : Prog) (fits : Fits s p) where
   abbrev n : ℕ
   n = length p.globals
 
-  example_same : (i : Interp) (u : State) (cs : List Choice) → counterexample_text names (record { constants = drop n u.globals; tables = i.tables }) (take n u.globals ++ u.frame) cs ≡ counterexample_text names (interp_in p i u) (take n u.globals ++ u.frame) cs
-  example_same i u cs =
-      ap (λ (x : List ℕ). (texts (constant_text names.types) names.constants (drop n u.globals) ++ x) ++ (texts (variable_text names.types) names.variables (take n u.globals ++ u.frame) ++ flat_map (choice_text names.types) cs)) (sym (fits i.tables))
+  example_same : (i : Interp) (u : State) (ts : List Ty) (cs : List Choice) → counterexample_text names (record { constants = drop n u.globals; tables = i.tables }) (take n u.globals ++ u.frame) ts cs ≡ counterexample_text names (interp_in p i u) (take n u.globals ++ u.frame) ts cs
+  example_same i u ts cs =
+      ap (λ (x : List ℕ). (texts (constant_text names.types) names.constants (drop n u.globals) ++ x) ++ (texts (variable_text names.types) names.variables (take n u.globals ++ u.frame) ++ texts (choice_text names.types) ts cs)) (sym (fits i.tables))
 
   verdict_same : (j : Judged) (v : Verdict) → verdict_text names j.placed (split_verdict n v) ≡ verdict_text names j.placed (carried_verdict p v)
   verdict_same j Proved = refl
-  verdict_same j (Refuted i u cs) =
-      ap (λ (x : List ℕ). line (told_text SomeRefuted j.placed) ++ x) (example_same i u cs)
+  verdict_same j (Refuted i u ts cs) =
+      ap (λ (x : List ℕ). line (told_text SomeRefuted j.placed) ++ x) (example_same i u ts cs)
   verdict_same j (Unknown why) = refl
 
   judged_same : (js : List Judged) → flat_map (judged_text names) (map (split_one n) js) ≡ flat_map (judged_text names) (map (carried_one p) js)
@@ -124,7 +125,7 @@ module _ (s : Outer) (h : Head) (p : Prog) (fits : Fits s p) where
 
   pub shown_same : (v : Verdict) → shown_text names (split_verdict n v) ≡ shown_text names (carried_verdict p v)
   shown_same Proved = refl
-  shown_same (Refuted i u cs) = example_same i u cs
+  shown_same (Refuted i u ts cs) = example_same i u ts cs
   shown_same (Unknown why) = refl
 
 pub implementations_same : (s : Outer) (p : Prog) → Fits s p → (hs : List Head) (os : List (List code.Judged)) → texts (implementation_text s) hs (map (split_all (length p.globals)) os) ≡ texts (implementation_text s) hs (map (map (carried_one p)) (map (told why_of) os))
@@ -138,5 +139,5 @@ implementations_same s p fits (h ∷ hs) (js ∷ os) =
 
 pub found_same : (p : Prog) (n : ℕ) (v : Verdict) → found_text (split_verdict n v) ≡ found_text (carried_verdict p v)
 found_same p n Proved = refl
-found_same p n (Refuted i s cs) = refl
+found_same p n (Refuted i s ts cs) = refl
 found_same p n (Unknown why) = refl

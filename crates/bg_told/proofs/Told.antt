@@ -1,16 +1,21 @@
 -- What the code finds is what is told.
-use Rattle.std.proofs.Common.{◌≡◌, ℕ, zero, suc, ◌+◌, Bool, true, false, ◌&&◌, ◌||◌, List, [], ◌∷◌, ◌++◌, map, take, drop, filter, cond, fold, flat_map, count_by, if◌then◌else◌, Option, Some, None, is_none, refl, sym, ap, ◌∙◌}
+use Rattle.std.proofs.Common.{◌≡◌, ℕ, zero, suc, ◌+◌, Bool, true, false, ◌&&◌, ◌||◌, List, [], ◌∷◌, ◌++◌, map, take, drop, filter, cond, fold, flat_map, count_by, if◌then◌else◌, Option, Some, None, is_none, refl, sym, ap, ◌∙◌, append_assoc}
 use Rattle.std.specs.List.{list_any}
 use Rattle.std.specs.Prelude.{Vec}
 use Rattle.std.specs.declared.alloc.Global.{Global}
 use Rattle.std.proofs.lemmas.List.{map-append}
 use Rattle.bg_base.specs.declared.ids.CandId.{CandId}
 use Rattle.bg_text.specs.Views.{option_of}
-use Rattle.bg_ast.specs.Values.{Val}
+use Rattle.bg_ast.specs.Values.{Ty, Val}
 use Rattle.bg_ast.specs.Views.{candidate_of}
-use Rattle.bg_scalar.specs.declared.scalar.Scalar.{Scalar}
-use Rattle.bg_scalar.specs.Values.{val_of}
-use Rattle.bg_scalar.specs.Views.{tables_in}
+use Rattle.bg_scalar.specs.declared.value.Value.{Value}
+use Rattle.bg_scalar.specs.declared.choice.Choice.{Choice}
+use Rattle.bg_scalar.specs.Values.{value_of}
+use Rattle.bg_scalar.specs.Choices.{choice_of}
+use Rattle.bg_kinds.specs.declared.kinds.ValueType.{ValueType}
+use Rattle.bg_kinds.specs.Views.{ref_in}
+use Rattle.bg_scalar.specs.Views.{vals_in, tables_in}
+use Rattle.bg_told.specs.ValueTexts.{value_text, part_text, key_text}
 use Rattle.bg_scalar.specs.declared.table.Table as code
 use Rattle.bg_sound.specs.Told as t
 use Rattle.bg_check.specs.declared.verdict.Verdict.{Verdict}
@@ -24,11 +29,11 @@ use Rattle.bg_check.specs.declared.verdict.Round.{Round}
 use Rattle.bg_told.specs.declared.word.Word.{Word}
 use Rattle.bg_told.specs.declared.word.Word.TheVariants.{Verified, Refuted, Unknown}
 use Rattle.bg_told.specs.Lines.{texts}
-use Rattle.bg_told.specs.Places.{Named, Names, constant_text, function_text, variable_text, judged_text}
+use Rattle.bg_told.specs.Places.{Variable, Named, Names, constant_text, function_text, variable_text, choice_text, judged_text}
 use Rattle.bg_told.specs.Report as r
 use Rattle.bg_told.specs.Views.{why_of, told_word, status_in}
 use Rattle.bg_told.specs.Words.{is_ordinary, word_in, is_word, has, word_of, word_for, with_axioms, count_of}
-use Rattle.bg_told.specs.Entries.{entry_text, constant_line, function_line, split_one, split_all, shown_text}
+use Rattle.bg_told.specs.Entries.{entry_text, constant_line, function_line, choice_line, part_behind, split_one, split_all, shown_text}
 
 same_none : (o : Option CandId) → is_none (option_of candidate_of o) ≡ is_none o
 same_none None = refl
@@ -144,12 +149,12 @@ shown_is names n (j ∷ js) =
     ∙ ap (λ (o : Bool). (if o then judged_text names (split_one n (told_one why_of j)) else []) ++ flat_map (judged_text names) (split_all n js)) (sym (same_ordinary j))
     ∙ shown_in_front names n (c.is_ordinary j) j (filter c.is_ordinary js)
 
-map_front : (n : ℕ) (gs : List Scalar) → map val_of (take n gs) ≡ take n (map val_of gs)
+map_front : (n : ℕ) (gs : List Value) → map value_of (take n gs) ≡ take n (map value_of gs)
 map_front zero gs = refl
 map_front (suc n) [] = refl
-map_front (suc n) (g ∷ gs) = ap (λ (vs : List Val). val_of g ∷ vs) (map_front n gs)
+map_front (suc n) (g ∷ gs) = ap (λ (vs : List Val). value_of g ∷ vs) (map_front n gs)
 
-map_behind : (n : ℕ) (gs : List Scalar) → map val_of (drop n gs) ≡ drop n (map val_of gs)
+map_behind : (n : ℕ) (gs : List Value) → map value_of (drop n gs) ≡ drop n (map value_of gs)
 map_behind zero gs = refl
 map_behind (suc n) [] = refl
 map_behind (suc n) (g ∷ gs) = map_behind n gs
@@ -160,15 +165,15 @@ texts_map text f (x ∷ xs) [] = refl
 texts_map text f (x ∷ xs) (y ∷ ys) = ap (λ (z : List ℕ). text x (f y) ++ z) (texts_map text f xs ys)
 
 -- the lines of entry values
-pub entries_told : (types : List (List ℕ)) (names : List (List ℕ)) (n : ℕ) (gs fs : List Scalar) → texts (entry_text types) names (take n gs ++ fs) ≡ texts (variable_text types) names (take n (map val_of gs) ++ map val_of fs)
+pub entries_told : (types : List (List ℕ)) (names : List Variable) (n : ℕ) (gs fs : List Value) → texts (entry_text types) names (take n gs ++ fs) ≡ texts (variable_text types) names (take n (map value_of gs) ++ map value_of fs)
 entries_told types names n gs fs =
-    sym (texts_map (variable_text types) val_of names (take n gs ++ fs))
-    ∙ ap (texts (variable_text types) names) (map-append val_of (take n gs) fs ∙ ap (λ (vs : List Val). vs ++ map val_of fs) (map_front n gs))
+    sym (texts_map (variable_text types) value_of names (take n gs ++ fs))
+    ∙ ap (texts (variable_text types) names) (map-append value_of (take n gs) fs ∙ ap (λ (vs : List Val). vs ++ map value_of fs) (map_front n gs))
 
 -- and those of constants
-pub constants_told : (types : List (List ℕ)) (names : List (List ℕ)) (n : ℕ) (gs : List Scalar) → texts (constant_line types) names (drop n gs) ≡ texts (constant_text types) names (drop n (map val_of gs))
+pub constants_told : (types : List (List ℕ)) (names : List Variable) (n : ℕ) (gs : List Value) → texts (constant_line types) names (drop n gs) ≡ texts (constant_text types) names (drop n (map value_of gs))
 constants_told types names n gs =
-    sym (texts_map (constant_text types) val_of names (drop n gs)) ∙ ap (texts (constant_text types) names) (map_behind n gs)
+    sym (texts_map (constant_text types) value_of names (drop n gs)) ∙ ap (texts (constant_text types) names) (map_behind n gs)
 
 -- and those of functions
 pub functions_told : (types : List (List ℕ)) (fs : List Named) (ts : List code.Table) → texts (function_line types) fs ts ≡ texts (function_text types) fs (tables_in ts)
@@ -176,5 +181,20 @@ functions_told types [] ts = refl
 functions_told types (f ∷ fs) [] = refl
 functions_told types (f ∷ fs) (t ∷ ts) = ap (λ (x : List ℕ). function_line types f t ++ x) (functions_told types fs ts)
 
-pub constants_all : (types : List (List ℕ)) (names : List (List ℕ)) (gs : List Scalar) → texts (constant_line types) names gs ≡ texts (constant_text types) names (map val_of gs)
-constants_all types names gs = sym (texts_map (constant_text types) val_of names gs)
+pub constants_all : (types : List (List ℕ)) (names : List Variable) (gs : List Value) → texts (constant_line types) names gs ≡ texts (constant_text types) names (map value_of gs)
+constants_all types names gs = sym (texts_map (constant_text types) value_of names gs)
+
+-- and those of choices
+pub choices_told : (types : List (List ℕ)) (ts : List Ty) (cs : List Choice) → texts (choice_line types) ts cs ≡ texts (choice_text types) ts (map choice_of cs)
+choices_told types ts cs = sym (texts_map (choice_text types) choice_of ts cs)
+
+-- a key is put part by part
+pub key_put : (types : List (List ℕ)) (kinds more : List ValueType) (kind : ValueType) (key parts : List Value) (part : Value) (old one new : List ℕ) → kinds ≡ kind ∷ more → key ≡ part ∷ parts → one ≡ old ++ value_text types (ref_in kind) (value_of part) → new ≡ one ++ texts (part_behind types) (map ref_in more) parts → new ≡ old ++ key_text types (map ref_in kinds) (vals_in key)
+key_put types kinds more kind key parts part old one new ks vs a b =
+    let front = value_text types (ref_in kind) (value_of part) in
+    b
+    ∙ ap (λ (x : List ℕ). x ++ texts (part_behind types) (map ref_in more) parts) a
+    ∙ append_assoc old front (texts (part_behind types) (map ref_in more) parts)
+    ∙ ap (λ (x : List ℕ). old ++ (front ++ x)) (sym (texts_map (part_text types) value_of (map ref_in more) parts))
+    ∙ ap (λ (l : List ValueType). old ++ key_text types (map ref_in l) (vals_in (part ∷ parts))) (sym ks)
+    ∙ ap (λ (l : List Value). old ++ key_text types (map ref_in kinds) (vals_in l)) (sym vs)

@@ -28,12 +28,12 @@ or_is a b e f = ap (λ (c : Bool). c || b) e ∙ f
 
 known_from : (v : Verdict) → is_refuted v ≡ false → is_unknown v ≡ false → is_proved v ≡ true
 known_from Proved a b = refl
-known_from (Refuted i s choices) a b = cc
+known_from (Refuted i s ts choices) a b = cc
 known_from (Unknown why) a b = cc
 
 known_to : (v : Verdict) → is_proved v ≡ true → (is_refuted v ≡ false) × (is_unknown v ≡ false)
 known_to Proved h = (refl, refl)
-known_to (Refuted i s choices) h = cc
+known_to (Refuted i s ts choices) h = cc
 known_to (Unknown why) h = cc
 
 proved_from : (js : List Judged) → has_refuted js ≡ false → has_unknown js ≡ false → list_all (λ (j : Judged). is_proved j.verdict) js ≡ true

@@ -106,6 +106,10 @@ idents b bs false false false true hi h =
     absurd (no_other (Token kinds.Quoted) (when_is (is_quoted false bs) (Token kinds.Quoted) h).1 refl)
 idents b bs false false false false hi h = absurd (no_sign_at (b == 47) b bs h)
 
+pub name_bytes : (word : List ℕ) → piece_of word ≡ Some name → list_all is_ident word ≡ true
+name_bytes [] h = refl
+name_bytes (b ∷ bs) h = idents b bs (is_space b) (is_digit b) (is_ident b) (b == 34) refl h
+
 pub names_are_printed : (word : List ℕ) → piece_of word ≡ Some (Token kinds.Name) → filter is_printed word ≡ word
 names_are_printed [] h = absurd (let x : None ≡ Some name = h in cc)
-names_are_printed (b ∷ bs) h = idents_are_printed (b ∷ bs) (idents b bs (is_space b) (is_digit b) (is_ident b) (b == 34) refl h)
+names_are_printed (b ∷ bs) h = idents_are_printed (b ∷ bs) (name_bytes (b ∷ bs) h)

@@ -21,7 +21,7 @@ use Rattle.bg_told.specs.Lines.{texts}
 use Rattle.bg_lines.specs.Lines.{line, position_text}
 use Rattle.bg_told.specs.Places.{Names, interp_text, counterexample_text}
 use Rattle.bg_lines.specs.Places.{place_text}
-use Rattle.bg_told.specs.Sheets.{Head, Outer, Sheet, sheet_of, name_in, names_of}
+use Rattle.bg_told.specs.Sheets.{Head, Outer, Sheet, sheet_of, type_name, variable_in, names_of}
 
 -- an entry as it is told: its number, the candidate that went, the place that isn't proved, the candidates that its check had, and what
 -- was found there
@@ -72,13 +72,13 @@ member_text name here = if here then codes " " ++ name.text else []
 -- what was found, in words
 abbrev pub found_text : Verdict → List ℕ
 found_text Proved = []
-found_text (Refuted i s choices) = codes "refuted"
+found_text (Refuted i s ts choices) = codes "refuted"
 found_text (Unknown why) = codes "unknown " ++ why_text why
 
 -- how the place fails, or what is kept of the cause
 abbrev pub shown_text : Names → Verdict → List ℕ
 shown_text names Proved = []
-shown_text names (Refuted i s choices) = counterexample_text names i (s.globals ++ s.frame) choices
+shown_text names (Refuted i s ts choices) = counterexample_text names i (s.globals ++ s.frame) ts choices
 shown_text names (Unknown why) = kept_line why
 
 -- the number of an entry, its candidate, and the implementation
@@ -110,7 +110,8 @@ gone_text s g = gone_at s g g.placed
 -- the interpretation that meets the axioms, where one was found
 abbrev pub interpretation_text : Outer → Verdict → List ℕ
 interpretation_text outer Proved = []
-interpretation_text outer (Refuted i s choices) = line (codes "interpretation:") ++ interp_text outer.types (map name_in outer.constants) outer.functions i
+interpretation_text outer (Refuted i s ts choices) =
+    line (codes "interpretation:") ++ interp_text (map type_name outer.types) (map (variable_in outer.types) outer.constants) outer.functions i
 interpretation_text outer (Unknown why) = []
 
 -- the entries, in this order, and behind them the interpretation by the verdict on the axioms' own program

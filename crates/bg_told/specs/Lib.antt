@@ -1,4 +1,6 @@
 pub mod Lines
+pub mod ValueTexts
+pub mod Distinct
 pub mod Kept
 pub mod Places
 pub mod Sheets

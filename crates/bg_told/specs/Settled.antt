@@ -11,8 +11,8 @@ is_settled o = not (is_undecided o.axioms) && (o.is_greatest && are_settled o.im
 -- of a counterexample it is told only that there is one: no values and no choices
 abbrev pub bare_verdict : Verdict → Verdict
 bare_verdict Proved = Proved
-bare_verdict (Refuted i s choices) =
-    Refuted (record { constants = []; tables = [] }) (record { globals = []; frame = [] }) []
+bare_verdict (Refuted i s ts choices) =
+    Refuted (record { constants = []; tables = [] }) (record { globals = []; frame = [] }) [] []
 bare_verdict (Unknown why) = Unknown why
 
 abbrev pub bare : Judged → Judged

@@ -1,7 +1,7 @@
 //! What has a value in a counterexample.
 ghost use Rattle.std.specs.Prelude.{◌≡◌, map};
 ghost use Rattle.bg_ast.specs.Views.{declared_of, fun_of};
-ghost use Rattle.bg_told.specs.Entries.{types_in, all_named, sheet_in};
+ghost use Rattle.bg_told.specs.Entries.{declared_types, all_named, sheet_in};
 
 use bg_ast::resolved::{Declared, Function, TypeName};
 use bg_inference::Outcome;
@@ -18,9 +18,9 @@ pub struct Declarations<'a> {
 
 /// Those of the program of an outcome: in the opened program the constants stand behind the globals, and no function has a body.
 pub fn declared_in(outcome: &Outcome) -> Declarations<'_>
-    ensures types { types_in result.types.now ≡ (sheet_in outcome.now).outer.types }
+    ensures types { declared_types result.types.now ≡ (sheet_in outcome.now).outer.types }
     ensures constants { map declared_of result.constants.now ≡ (sheet_in outcome.now).outer.constants }
-    ensures functions { all_named (map fun_of result.functions.now) result.bodies.now ≡ (sheet_in outcome.now).outer.functions }
+    ensures functions { all_named (declared_types result.types.now) (map fun_of result.functions.now) result.bodies.now ≡ (sheet_in outcome.now).outer.functions }
     ensures globals { map declared_of result.globals.now ≡ (sheet_in outcome.now).outer.globals }
 {
     let all = outcome.opened.globals.as_slice();

@@ -1,9 +1,10 @@
 //! Laws of what reports say.
 
-ghost use Rattle.std.specs.Prelude.{◌≡◌, ◌↔◌, ℕ, List, Some, filter, length, map, true, All};
+ghost use Rattle.std.specs.Prelude.{◌≡◌, ◌↔◌, ◌++◌, ℕ, List, Some, filter, length, map, true, All};
 ghost use Rattle.std.specs.List.{list_all};
 ghost use Rattle.bg_ast.specs.Meaning.{meaning_of};
 ghost use Rattle.bg_ast.specs.Resolved.{Program};
+ghost use Rattle.bg_ast.specs.Values.{Ty, Val, is_of};
 ghost use Rattle.bg_check.specs.declared.verdict.Cause.{Cause};
 ghost use Rattle.bg_expanded.specs.Chains.{most_bodies};
 ghost use Rattle.bg_inference.specs.declared.outcome.Outcome as inference;
@@ -13,14 +14,16 @@ ghost use Rattle.bg_opened.specs.Openable.{IsOpenable};
 ghost use Rattle.bg_sound.specs.Told.{Why, Consistent, Judged, Outcome, retained, is_proved, word_of, AllProved, status_of};
 ghost use Rattle.bg_text.specs.declared.token.Kind.TheVariants as kinds;
 ghost use Rattle.bg_text.specs.Pieces.{Token, piece_of};
+ghost use Rattle.bg_told.specs.Distinct.{HaveNames, fits_in, ends};
 ghost use Rattle.bg_told.specs.Lines.{is_printed};
 ghost use Rattle.bg_told.specs.Report.{result_text};
 ghost use Rattle.bg_told.specs.Settled.{is_settled, verdict_lines};
+ghost use Rattle.bg_told.specs.ValueTexts.{value_text};
 ghost use Rattle.bg_tree.specs.declared.outcome.Budget.{Budget};
 
 use bg_houdini::laws::outcomes_agree;
 use bg_inference::laws::true_outcomes_are_sound;
-use bg_opened::laws::opened_programs_are_over_scalars;
+use bg_opened::laws::opened_programs_are_over_values;
 use bg_sound::laws::greatest_sets_agree;
 
 /// Equal reports of one program say the same word of each implementation.
@@ -33,6 +36,14 @@ pub fn equal_reports_say_equal_words()
 /// Of a type that a text declares, the whole name is told: a name token has no byte below that of a space.
 pub fn names_in_texts_are_told_whole()
     ensures { (word : List ℕ) → piece_of word ≡ Some (Token kinds.Name) → filter is_printed word ≡ word }
+{}
+
+/// Of one type, values of which one text tells are the same, and so is what stands behind the text, where no digit does; types have names
+/// of a text, and numbers 128 bits.
+pub fn equal_texts_tell_equal_values()
+    ensures { (types : List (List ℕ)) (t : Ty) (v w : Val) (x y : List ℕ) → HaveNames types → is_of t v ≡ true → is_of t w ≡ true →
+        fits_in v ≡ true → fits_in w ≡ true → ends x ≡ true → ends y ≡ true →
+        value_text types t v ++ x ≡ value_text types t w ++ y → (v ≡ w) × (x ≡ y) }
 {}
 
 /// Equal reports of one program tell of the same retained set, and both that it is the greatest, or neither.
@@ -60,7 +71,7 @@ pub fn settled_reports_agree()
         verdict_lines p (outcome_of words (meaning_of p) o) ≡ verdict_lines p (outcome_of words (meaning_of p) q) }
 {
     greatest_sets_agree();
-    opened_programs_are_over_scalars();
+    opened_programs_are_over_values();
     outcomes_agree();
     true_outcomes_are_sound()
 }

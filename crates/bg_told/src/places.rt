@@ -2,6 +2,7 @@
 ghost use Rattle.std.specs.Prelude.{◌≡◌, ◌++◌, OnOk, map, length, flat_map};
 ghost use Rattle.bg_ast.specs.Views.{impl_of};
 ghost use Rattle.bg_places.specs.Views.{placed_of};
+ghost use Rattle.bg_kinds.specs.Views.{ref_in};
 ghost use Rattle.bg_scalar.specs.Choices.{choice_of};
 ghost use Rattle.bg_check.specs.Outcomes.{verdict_of};
 ghost use Rattle.bg_told.specs.Places.{counterexample_text, refuted_text, unknown_text, verdict_text};
@@ -29,7 +30,7 @@ pub fn put_counterexample(
     implementation: &Implementation,
     cex: &Counterexample,
 ) -> Result<(), AllocError>
-    ensures { OnOk result (out.new.items ≡ out.old.items ++ counterexample_text (names_for declared.entry (head_of (impl_of implementation.now))) (interp_by (length declared.entry.globals.now) cex.now) (entry_by (length declared.entry.globals.now) cex.now) (map choice_of cex.now.choices.items)) }
+    ensures { OnOk result (out.new.items ≡ out.old.items ++ counterexample_text (names_for declared.entry (head_of (impl_of implementation.now))) (interp_by (length declared.entry.globals.now) cex.now) (entry_by (length declared.entry.globals.now) cex.now) (map ref_in cex.now.kinds.items) (map choice_of cex.now.choices.items)) }
 {
     let count = declared.globals.len();
     put_constants(
@@ -56,7 +57,7 @@ pub fn put_counterexample(
         implementation,
         values,
     )?;
-    put_choices(out, declared.types, &cex.choices)?;
+    put_choices(out, declared.types, &cex.kinds, &cex.choices)?;
     Ok(())
 }
 
@@ -68,7 +69,7 @@ fn put_refuted(
     place: &Place,
     cex: &Counterexample,
 ) -> Result<(), AllocError>
-    ensures { OnOk result (out.new.items ≡ out.old.items ++ refuted_text (names_for declared.entry (head_of (impl_of implementation.now))) (placed_of place.now) (interp_by (length declared.entry.globals.now) cex.now) (entry_by (length declared.entry.globals.now) cex.now) (map choice_of cex.now.choices.items)) }
+    ensures { OnOk result (out.new.items ≡ out.old.items ++ refuted_text (names_for declared.entry (head_of (impl_of implementation.now))) (placed_of place.now) (interp_by (length declared.entry.globals.now) cex.now) (entry_by (length declared.entry.globals.now) cex.now) (map ref_in cex.now.kinds.items) (map choice_of cex.now.choices.items)) }
 {
     put_told(out, Word::Refuted, place)?;
     out.push(b'\n')?;

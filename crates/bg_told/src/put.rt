@@ -1,14 +1,13 @@
 //! Parts of a line.
 ghost use Rattle.std.specs.Prelude.{◌≡◌, ◌++◌, OnOk, filter, slice_get};
 ghost use Rattle.std.specs.Fmt.{signed_decimal};
-ghost use Rattle.bg_scalar.specs.Values.{val_of};
-ghost use Rattle.bg_told.specs.Lines.{truth_text, text_or_none, is_printed, element_text, value_text, word_text};
+ghost use Rattle.bg_told.specs.Lines.{text_or_none, is_printed, word_text};
+ghost use Rattle.bg_told.specs.ValueTexts.{truth_text, element_text};
 ghost use Rattle.bg_told.specs.Entries.{types_in};
 ghost use Rattle.bg_told.specs.Views.{told_word};
 
 use crate::word::Word;
 use bg_ast::resolved::TypeName;
-use bg_scalar::Scalar;
 use itoa::Buffer;
 use std::alloc::AllocError;
 
@@ -20,7 +19,7 @@ pub fn put_integer(out: &mut Vec<u8>, n: i128) -> Result<(), AllocError>
     out.extend_from_slice(buffer.format(n).as_bytes())
 }
 
-fn put_truth(out: &mut Vec<u8>, value: bool) -> Result<(), AllocError>
+pub fn put_truth(out: &mut Vec<u8>, value: bool) -> Result<(), AllocError>
     ensures { OnOk result (out.new.items ≡ out.old.items ++ truth_text value) }
 {
     if value {
@@ -52,23 +51,13 @@ fn put_type(out: &mut Vec<u8>, types: &[TypeName], t: u32) -> Result<(), AllocEr
     }
 }
 
-fn put_element(out: &mut Vec<u8>, types: &[TypeName], t: u32, z: i128) -> Result<(), AllocError>
+/// The element with a number of the type with a number, where these types are declared.
+pub fn put_element(out: &mut Vec<u8>, types: &[TypeName], t: u32, z: i128) -> Result<(), AllocError>
     ensures { OnOk result (out.new.items ≡ out.old.items ++ element_text (types_in types.now) t z) }
 {
     put_type(out, types, t)?;
     out.extend_from_slice(b"!")?;
     put_integer(out, z)
-}
-
-/// A value, where these types are declared.
-pub fn put_scalar(out: &mut Vec<u8>, types: &[TypeName], value: Scalar) -> Result<(), AllocError>
-    ensures { OnOk result (out.new.items ≡ out.old.items ++ value_text (types_in types.now) (val_of value)) }
-{
-    match value {
-        Scalar::Truth(b) => put_truth(out, b),
-        Scalar::Number(z) => put_integer(out, z),
-        Scalar::Element(t, z) => put_element(out, types, t, z),
-    }
 }
 
 pub fn put_word(out: &mut Vec<u8>, word: Word) -> Result<(), AllocError>

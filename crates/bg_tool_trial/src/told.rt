@@ -1,17 +1,19 @@
 //! The reports of programs and outcomes made by hand.
 use bg_ast::resolved::{
-    Clause, Declared, Expr, Function, Implementation, Resolved, Stmt, WrittenType,
+    Clause, Declared, Expr, Function, Implementation, IndexTypes, Resolved, Stmt, TypeName,
+    WrittenType,
 };
 use bg_base::{CandId, Op, OutOfRange, Pos, TargetId};
 use bg_cert::bare;
 use bg_check::{Cause, Judged, Round, Verdict};
 use bg_elim::{Further, Order, Reason};
 use bg_inference::Outcome;
+use bg_kinds::{Base, IndexType, Keys, ValueType};
 use bg_model::Counterexample;
 use bg_places::{Place, Spot};
 use bg_point::Far;
 use bg_rounds::Removal;
-use bg_scalar::{Choice, Scalar, Table};
+use bg_scalar::{Choice, Entry, Scalar, Table, Value};
 use bg_text::Name;
 use bg_told::{Word, history_text, result_text, word_of};
 use bg_tree::{Beyond, Leaf, Why};
@@ -33,13 +35,20 @@ type Case<'a> = (
 /// A place: what is checked, the candidate that guards it, the clause's position, that of the call, and what is known of it.
 type Told<'a> = (Spot, Option<u32>, (u32, u32), Option<(u32, u32)>, Known<'a>);
 
+/// A choice: of a branch, or of a value that is no map.
+#[derive(Clone, Copy)]
+enum Chosen {
+    Branch(u32),
+    Plain(Scalar),
+}
+
 /// What is known of a place: of a refuted one the values of globals and frame, and the choices; of
 /// an unknown one a budget of nodes, the reasons of rows, an operation of the search and whether it
 /// makes a value, or one of a linear form, or of a replay, or a number of rounds.
 #[derive(Clone, Copy)]
 enum Known<'a> {
     Proved,
-    Refuted(&'a [Scalar], &'a [Scalar], &'a [Choice]),
+    Refuted(&'a [Scalar], &'a [Scalar], &'a [Chosen]),
     Unknown(u32),
     Filled(&'a [Reason]),
     Beyond(OutOfRange, bool),
@@ -100,15 +109,57 @@ fn beyond(alloc: Global, operation: OutOfRange, is_value: bool) -> Result<Beyond
     }
 }
 
+/// Values that are no maps.
+fn plain(alloc: Global, scalars: &[Scalar]) -> Result<Vec<Value>, AllocError> {
+    let mut made = Vec::new(alloc);
+    for scalar in scalars {
+        made.push(Value::Plain(*scalar))?;
+    }
+    Ok(made)
+}
+
+/// The type of a choice, and the choice.
+fn choice(alloc: Global, chosen: Chosen) -> (ValueType, Choice) {
+    let (base, made) = match chosen {
+        Chosen::Branch(branch) => (Base::Int, Choice::Branch(branch)),
+        Chosen::Plain(Scalar::Truth(b)) => {
+            (Base::Bool, Choice::Chosen(Value::Plain(Scalar::Truth(b))))
+        }
+        Chosen::Plain(value) => (Base::Int, Choice::Chosen(Value::Plain(value))),
+    };
+    let maps = Vec::new(alloc);
+    (ValueType { maps, base }, made)
+}
+
+/// A run that fails, without tables.
+fn run(
+    alloc: Global,
+    globals: &[Scalar],
+    frame: &[Scalar],
+    chosen: &[Chosen],
+) -> Result<Counterexample, AllocError> {
+    let mut kinds = Vec::new(alloc);
+    let mut choices = Vec::new(alloc);
+    for one in chosen {
+        let (kind, made) = choice(alloc, *one);
+        kinds.push(kind)?;
+        choices.push(made)?;
+    }
+    Ok(Counterexample {
+        tables: Vec::new(alloc),
+        globals: plain(alloc, globals)?,
+        frame: plain(alloc, frame)?,
+        kinds,
+        choices,
+    })
+}
+
 fn verdict(alloc: Global, known: Known) -> Result<Verdict, AllocError> {
     match known {
         Known::Proved => Ok(Verdict::Proved(Vec::new(alloc), bare(alloc, Vec::new(alloc)))),
-        Known::Refuted(globals, frame, choices) => Ok(Verdict::Refuted(Counterexample {
-            tables: Vec::new(alloc),
-            globals: globals.to_vec(alloc)?,
-            frame: frame.to_vec(alloc)?,
-            choices: choices.to_vec(alloc)?,
-        })),
+        Known::Refuted(globals, frame, chosen) => Ok(Verdict::Refuted(run(
+            alloc, globals, frame, chosen,
+        )?)),
         Known::Unknown(budget) => Ok(unknown(
             alloc,
             Cause::Search(Why::Nodes(Vec::new(alloc), budget)),
@@ -124,15 +175,7 @@ fn verdict(alloc: Global, known: Known) -> Result<Verdict, AllocError> {
         Known::Form(operation) => Ok(unknown(alloc, Cause::Form(operation))),
         Known::Replay(operation) => Ok(unknown(
             alloc,
-            Cause::Replay(
-                Counterexample {
-                    tables: Vec::new(alloc),
-                    globals: Vec::new(alloc),
-                    frame: Vec::new(alloc),
-                    choices: Vec::new(alloc),
-                },
-                operation,
-            ),
+            Cause::Replay(run(alloc, &[], &[], &[])?, operation),
         )),
         Known::Rounds(count) => rounds(alloc, count),
     }
@@ -224,7 +267,7 @@ fn history(
             snapshot: CandSet::new(alloc, candidates, true)?,
             was_there: true,
             unknown: operation.is_some(),
-            told: reason(alloc, *operation),
+            told: reason(alloc, *operation)?,
         })?;
     }
     Ok(bg_rounds::Outcome {
@@ -234,15 +277,10 @@ fn history(
     })
 }
 
-fn reason(alloc: Global, operation: Option<OutOfRange>) -> bg_houdini::Reason {
+fn reason(alloc: Global, operation: Option<OutOfRange>) -> Result<bg_houdini::Reason, AllocError> {
     match operation {
-        Some(operation) => { bg_houdini::Reason::Unknown(Vec::new(alloc), Cause::Form(operation)) }
-        None => bg_houdini::Reason::Refuted(Counterexample {
-            tables: Vec::new(alloc),
-            globals: Vec::new(alloc),
-            frame: Vec::new(alloc),
-            choices: Vec::new(alloc),
-        }),
+        Some(operation) => Ok(bg_houdini::Reason::Unknown(Vec::new(alloc), Cause::Form(operation))),
+        None => Ok(bg_houdini::Reason::Refuted(run(alloc, &[], &[], &[])?)),
     }
 }
 
@@ -442,7 +480,7 @@ const MIXED: Case<'static> = (
             None,
             (3, 14),
             None,
-            Known::Refuted(&[T, T], &[F, F, T], &[Choice::Branch(1), Choice::Chosen(F)]),
+            Known::Refuted(&[T, T], &[F, F, T], &[Chosen::Branch(1), Chosen::Plain(F)]),
         ),
         (
             Spot::Call(0, 2),
@@ -453,9 +491,9 @@ const MIXED: Case<'static> = (
                 &[T, F],
                 &[T, T, F],
                 &[
-                    Choice::Chosen(Scalar::Number(LEAST)),
-                    Choice::Branch(0),
-                    Choice::Branch(4_294_967_295),
+                    Chosen::Plain(Scalar::Number(LEAST)),
+                    Chosen::Branch(0),
+                    Chosen::Branch(4_294_967_295),
                 ],
             ),
         ),
@@ -668,12 +706,26 @@ fn the_first_removal_says_why_a_candidate_went(rt: HostRuntime) -> Result<(), Fa
     Ok(())
 }
 
-/// A function without a body as it stands in an opened program.
-fn function(alloc: Global, text: &str) -> Result<Function, AllocError> {
+/// A function without a body as it stands in an opened program; its arguments are whole numbers, or the first of them is a truth value.
+fn function(
+    alloc: Global,
+    text: &str,
+    count: u32,
+    has_truth: bool,
+) -> Result<Function, AllocError> {
+    let pos = at((1, 1));
+    let mut params = Vec::new(alloc);
+    for i in 0..count {
+        params.push(if has_truth && i == 0 {
+            WrittenType::Bool(pos)
+        } else {
+            WrittenType::Int(pos)
+        })?;
+    }
     Ok(Function {
         name: name(alloc, text)?,
-        params: Vec::new(alloc),
-        result: WrittenType::Int(at((1, 1))),
+        params,
+        result: WrittenType::Int(pos),
         body: None,
     })
 }
@@ -686,12 +738,11 @@ fn table(
 ) -> Result<Table, AllocError> {
     let mut made = BTreeMap::new(alloc);
     for (key, value) in entries {
-        let key = key.to_vec(alloc)?;
-        made.insert(key, *value)?;
+        made.insert(plain(alloc, key)?, Value::Plain(*value))?;
     }
     Ok(Table {
         entries: made,
-        default,
+        default: Value::Plain(default),
     })
 }
 
@@ -728,20 +779,23 @@ fn tables(alloc: Global) -> Result<Vec<Table>, AllocError> {
 /// A program of `P` with functions `f`, `b`, `n`, `g`, of which the second has a body.
 fn with_functions(alloc: Global) -> Result<Resolved, AllocError> {
     let mut made = guarded(alloc)?;
-    for text in &["f", "b", "n", "g"] {
-        made.functions.push(function(alloc, text)?)?;
+    for (text, count, has_truth) in &[
+        ("f", 1, false),
+        ("b", 1, false),
+        ("n", 0, false),
+        ("g", 2, true),
+    ] {
+        made.functions
+            .push(function(alloc, text, *count, *has_truth)?)?;
     }
     Ok(made)
 }
 
 /// A run that fails, under the four tables.
 fn example(alloc: Global) -> Result<Counterexample, AllocError> {
-    Ok(Counterexample {
-        tables: tables(alloc)?,
-        globals: vec![in alloc; F, T]?,
-        frame: Vec::new(alloc),
-        choices: vec![in alloc; Choice::Branch(1)]?,
-    })
+    let mut made = run(alloc, &[F, T], &[], &[Chosen::Branch(1)])?;
+    made.tables = tables(alloc)?;
+    Ok(made)
 }
 
 /// An outcome of that program, whose second global is a constant: its one ordinary place fails, and a candidate went.
@@ -799,5 +853,116 @@ fn functions_without_a_body_have_their_tables(rt: HostRuntime) -> Result<(), Fai
     )?;
     let history = history_text(alloc, &outcome)?;
     assert!(rt; history.as_slice() == entries.as_bytes());
+    Ok(())
+}
+
+/// The written type `[int, E]bool`, where `E` is the first type declared.
+fn written(alloc: Global) -> Result<WrittenType, AllocError> {
+    let pos = at((1, 1));
+    let mut indices = Vec::new(alloc);
+    indices.push(WrittenType::Int(pos))?;
+    indices.push(WrittenType::Declared(pos, 0))?;
+    let mut brackets = Vec::new(alloc);
+    brackets.push(IndexTypes { pos, indices })?;
+    Ok(WrittenType::Map(brackets, Box::new(alloc, WrittenType::Bool(pos))?))
+}
+
+/// That type.
+fn kind(alloc: Global) -> Result<ValueType, AllocError> {
+    let keys = vec![in alloc; IndexType::Int, IndexType::User(0)]?;
+    let mut maps = Vec::new(alloc);
+    maps.push(Keys { keys })?;
+    Ok(ValueType {
+        maps,
+        base: Base::Bool,
+    })
+}
+
+/// A map of that type: true at these indices alone.
+fn map(alloc: Global, indices: &[(i128, i128)]) -> Result<Value, AllocError> {
+    let mut entries = Vec::new(alloc);
+    for (n, e) in indices {
+        let key = vec![in alloc; *n, *e]?;
+        let value = Value::Plain(T);
+        entries.push(Entry { key, value })?;
+    }
+    Ok(Value::Map(entries, Box::new(alloc, Value::Plain(F))?))
+}
+
+/// A program of `P`, whose globals are maps, as is the argument of its function `f`.
+fn over_maps(alloc: Global) -> Result<Resolved, AllocError> {
+    let mut made = guarded(alloc)?;
+    made.types.push(TypeName {
+        name: name(alloc, "E")?,
+        synonym: None,
+    })?;
+    made.globals = Vec::new(alloc);
+    for text in &["g", "h"] {
+        made.globals.push(Declared {
+            name: name(alloc, text)?,
+            ty: written(alloc)?,
+        })?;
+    }
+    let mut f = function(alloc, "f", 0, false)?;
+    f.params.push(written(alloc)?)?;
+    made.functions.push(f)?;
+    Ok(made)
+}
+
+/// A run of it that fails.
+fn over_maps_failing(alloc: Global) -> Result<Counterexample, AllocError> {
+    let mut made = run(alloc, &[], &[], &[])?;
+    made.globals.push(map(alloc, &[(-1, 5), (2, -3), (2, 0)])?)?;
+    made.globals.push(map(alloc, &[])?)?;
+    made.kinds.push(kind(alloc)?)?;
+    made.choices.push(Choice::Chosen(map(alloc, &[(0, 0)])?))?;
+    let mut entries = BTreeMap::new(alloc);
+    for (n, value) in &[(2, 4), (1, 3)] {
+        let mut key = Vec::new(alloc);
+        key.push(map(alloc, &[(*n, 0)])?)?;
+        entries.insert(key, Value::Plain(Scalar::Number(*value)))?;
+    }
+    made.tables.push(Table {
+        entries,
+        default: Value::Plain(Scalar::Number(0)),
+    })?;
+    Ok(made)
+}
+
+#[test]
+fn maps_are_written_by_their_types(rt: HostRuntime) -> Result<(), Fail> {
+    let alloc = rt.alloc();
+    let mut row = Vec::new(alloc);
+    row.push(Judged {
+        place: Place {
+            implementation: 0,
+            spot: Spot::Assert(1),
+            candidate: None,
+            pos: at((8, 9)),
+            call: None,
+        },
+        verdict: Verdict::Refuted(over_maps_failing(alloc)?),
+    })?;
+    let mut verdicts = Vec::new(alloc);
+    verdicts.push(row)?;
+    let judged = bg_houdini::Outcome {
+        inferred: history(alloc, 2, &[])?,
+        verdicts,
+    };
+    let mut outcome = outcome(alloc, over_maps(alloc)?, &[], judged)?;
+    outcome.bodies = vec![in alloc; false]?;
+    let report = "axioms: consistent\n\
+        candidate c retained\n\
+        candidate d retained unchecked\n\
+        retained set: greatest\n\
+        implementation P 1:1 refuted\n\
+        \x20 refuted assert 8:9\n\
+        \x20   function f = [[1,E!0 := true, else false] := 3, [2,E!0 := true, else false] := 4, else 0]\n\
+        \x20   var g = [-1,E!5 := true, 2,E!-3 := true, 2,E!0 := true, else false]\n\
+        \x20   var h = [else false]\n\
+        \x20   choice [0,E!0 := true, else false]\n\
+        summary: 2 retained, 0 dropped; 0 verified, 1 refuted, 0 unknown\n";
+    let text = result_text(alloc, &outcome)?;
+    assert!(rt; text.as_slice() == report.as_bytes());
     Ok(())
 }

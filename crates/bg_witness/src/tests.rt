@@ -4,7 +4,7 @@ ghost use Rattle.bg_ast.specs.Meaning.{meaning_of};
 ghost use Rattle.bg_ast.specs.Views.{program_of};
 ghost use Rattle.bg_sense.specs.Typed.{IsTyped};
 ghost use Rattle.bg_sense.specs.Resolved.{IsResolved};
-ghost use Rattle.bg_fits.specs.Scalars.{is_over_scalars};
+ghost use Rattle.bg_fits.specs.Valued.{is_over_values};
 ghost use Rattle.bg_blocks.specs.Callees.{IsModified};
 
 use crate::{are_there, judged_program};
@@ -79,6 +79,12 @@ const ELEMENTS: &str =
 const APART: &str =
     "type T; type U; function f(t: T, u: U): int; procedure P(t, s: T, u, v: U) { assert f(t, u) == f(s, u) || t != s; assert f(t, u) == f(t, v); assert t == s || u != v; }";
 
+const MAPS: &str =
+    "var m: [int]int; procedure P(i: int, j: int) modifies m; { m[i] := 1; assert m[i] == 1; assert i != j ==> m[j] == old(m[j]); assert m[j] == old(m)[j]; havoc m; assert m == old(m) ==> m[i] == old(m[i]); assert m[i] == old(m[i]); }";
+
+const NESTS: &str =
+    "type T; var n: [T,int][int]bool; procedure P(t: T, i: int) modifies n; { n[t,i][i] := true; assert n[t,i][i]; assert n[t,i] == old(n)[t,i]; }";
+
 /// Whether the certificate of a place is accepted behind these lines.
 fn is_accepted(
     alloc: Global,
@@ -89,7 +95,7 @@ fn is_accepted(
     cert: &Cert,
 ) -> Result<bool, AllocError>
     requires typed { IsTyped (meaning_of (program_of program.now)) }
-    requires scalars { is_over_scalars true (meaning_of (program_of program.now)) ≡ true }
+    requires scalars { is_over_values (meaning_of (program_of program.now)) ≡ true }
     requires modified { IsModified (program_of program.now) callees.now }
 {
     let number = judged.place.implementation;
@@ -174,7 +180,7 @@ fn letter(
     judged: &Judged,
 ) -> Result<&'static str, AllocError>
     requires typed { IsTyped (meaning_of (program_of program.now)) }
-    requires scalars { is_over_scalars true (meaning_of (program_of program.now)) ≡ true }
+    requires scalars { is_over_values (meaning_of (program_of program.now)) ≡ true }
     requires modified { IsModified (program_of program.now) callees.now }
 {
     match &judged.verdict {
@@ -201,7 +207,7 @@ fn letter(
 fn letters(alloc: Global, program: &Resolved) -> Result<String, Fail>
     requires typed { IsTyped (meaning_of (program_of program.now)) }
     requires resolved { IsResolved (meaning_of (program_of program.now)) }
-    requires scalars { is_over_scalars true (meaning_of (program_of program.now)) ≡ true }
+    requires scalars { is_over_values (meaning_of (program_of program.now)) ≡ true }
 {
     let callees = callees_of(alloc, program)?;
     let mut found = String::new(alloc);
@@ -219,7 +225,7 @@ fn letters(alloc: Global, program: &Resolved) -> Result<String, Fail>
 #[test]
 fn each_verdict_holds_when_it_is_looked_at_again(rt: HostRuntime) -> Result<(), Fail> {
     let alloc = rt.alloc();
-    let table: [(&str, &str); 18] = [
+    let table: [(&str, &str); 20] = [
         (LOOP, "prp;"),
         (LEFT, "ppr;"),
         (CALLS, "rpr;"),
@@ -238,6 +244,8 @@ fn each_verdict_holds_when_it_is_looked_at_again(rt: HostRuntime) -> Result<(), 
         (ARGUMENT, "a;"),
         (ELEMENTS, "prpr;"),
         (APART, "prr;"),
+        (MAPS, "pprpr;"),
+        (NESTS, "pr;"),
     ];
     for (text, want) in table {
         let Some(program) = judged_program(alloc, text) else {

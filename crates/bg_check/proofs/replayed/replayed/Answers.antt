@@ -27,11 +27,11 @@ unreachable-requires-in-BadChoice c =
     subst (Arm (meaning_of p) (has c.args.question.set.now) t c.args.cex) c.in-BadChoice.is
     (arm_here c.replays_are_induction_runs.ensures c.blocks_are_typed.ensures p c.args.question.set.now t c.args.cex c.args.question.prepared.now c.requires.prepared c.deref.result.now c.deref-2.result.now c.deref-3.result.now c.deref-4.result.now c.deref-5.result.now c.in_ok-ending.ending c.requires.typed c.requires.scalars c.deref.ensures.value c.deref-2.ensures.value c.deref-3.ensures.value c.deref-4.ensures.value c.deref-5.ensures.value c.requires.fails c.in_ok-ending.ensures)
 
-pub unreachable-requires-in-NoScalars : goal.unreachable-requires-in-NoScalars
-unreachable-requires-in-NoScalars c =
+pub unreachable-requires-in-NoValues : goal.unreachable-requires-in-NoValues
+unreachable-requires-in-NoValues c =
     let p = program_of c.args.question.program.now in
     let t = (placed_of c.args.question.place.now).place in
-    subst (Arm (meaning_of p) (has c.args.question.set.now) t c.args.cex) c.in-NoScalars.is
+    subst (Arm (meaning_of p) (has c.args.question.set.now) t c.args.cex) c.in-NoValues.is
     (arm_here c.replays_are_induction_runs.ensures c.blocks_are_typed.ensures p c.args.question.set.now t c.args.cex c.args.question.prepared.now c.requires.prepared c.deref.result.now c.deref-2.result.now c.deref-3.result.now c.deref-4.result.now c.deref-5.result.now c.in_ok-ending.ending c.requires.typed c.requires.scalars c.deref.ensures.value c.deref-2.ensures.value c.deref-3.ensures.value c.deref-4.ensures.value c.deref-5.ensures.value c.requires.fails c.in_ok-ending.ensures)
 
 pub returns-in-OutOfRange : goal.returns-in-OutOfRange
@@ -48,4 +48,8 @@ used_up-requires-clause-fails c =
     let t = (placed_of c.args.question.place.now).place in
     let arm = subst (Arm (meaning_of p) (has c.args.question.set.now) t c.args.cex) c.in-Failed.is
     (arm_here c.replays_are_induction_runs.ensures c.blocks_are_typed.ensures p c.args.question.set.now t c.args.cex c.args.question.prepared.now c.requires.prepared c.deref.result.now c.deref-2.result.now c.deref-3.result.now c.deref-4.result.now c.deref-5.result.now c.in_ok-ending.ending c.requires.typed c.requires.scalars c.deref.ensures.value c.deref-2.ensures.value c.deref-3.ensures.value c.deref-4.ensures.value c.deref-5.ensures.value c.requires.fails c.in_ok-ending.ensures) in
-    (c.requires.fails, arm)
+    (c.requires.fails, (arm, c.requires.types))
+
+pub returns-in_ok-left-in-Failed : goal.returns-in_ok-left-in-Failed
+returns-in_ok-left-in-Failed c left lines leaf =
+    (c.in_ok-left-in-Failed.ensures.fails.0, (c.in_ok-left-in-Failed.ensures.fails.1.0, (c.in_ok-left-in-Failed.ensures.used, c.in_ok-left-in-Failed.ensures.fails.1.1)))

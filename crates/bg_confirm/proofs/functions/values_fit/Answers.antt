@@ -2,6 +2,7 @@ use Rattle.std.proofs.Common.{◌+◌, ◌<◌, Bool, length, map, drop, sym, ap
 use Rattle.std.specs.Prelude.{◌&&◌}
 use Rattle.bg_ast.specs.Views.{type_name_of}
 use Rattle.bg_kinds.specs.Views.{ref_in}
+use Rattle.bg_certtext.specs.declared.text.Value.{Value}
 use Rattle.bg_certtext.specs.Views.{value_of}
 use Rattle.bg_confirm.specs.Pairs.{each_fits}
 use Rattle.bg_confirm.specs.Typed.{values_fit}
@@ -25,7 +26,7 @@ returns-then-not-fits c =
     let whole = values_fit types (map ref_in ts) (map value_of xs) in
     let inside : k < length ts = omega (arith, c.loop-k-test.true, c.if-kinds-values.false) in
     ap (λ (b : Bool). b && each_fits (kind_fits types) (drop (k + 1) ts) (drop (k + 1) xs)) (sym c.if-not-fits.true)
-    ∙ one_fits types ts xs k c.index-kinds-k.result _ c.fits.result whole inside c.loop-k-test.true c.index-kinds-k.is (fits_at types _ _ _ c.fits.result c.fits.ensures c.as_ref.ensures) c.loop-k.invariant
+    ∙ one_fits types ts xs k c.index-kinds-k.result c.index-values-k.result c.fits.result whole inside c.loop-k-test.true c.index-kinds-k.is (fits_at types _ _ c.index-values-k.result c.fits.result c.fits.ensures c.as_ref.ensures ∙ ap (λ (y : Value). kind_fits types c.index-kinds-k.result y) c.index-values-k.is) c.loop-k.invariant
 
 pub loop-k-preserved : goal.loop-k-preserved
 loop-k-preserved c =
@@ -36,4 +37,4 @@ loop-k-preserved c =
     let whole = values_fit types (map ref_in ts) (map value_of xs) in
     let inside : k < length ts = omega (arith, c.loop-k-test.true, c.if-kinds-values.false) in
     ap (λ (b : Bool). b && each_fits (kind_fits types) (drop (k + 1) ts) (drop (k + 1) xs)) (sym c.if-not-fits.false)
-    ∙ one_fits types ts xs k c.index-kinds-k.result _ c.fits.result whole inside c.loop-k-test.true c.index-kinds-k.is (fits_at types _ _ _ c.fits.result c.fits.ensures c.as_ref.ensures) c.loop-k.invariant
+    ∙ one_fits types ts xs k c.index-kinds-k.result c.index-values-k.result c.fits.result whole inside c.loop-k-test.true c.index-kinds-k.is (fits_at types _ _ c.index-values-k.result c.fits.result c.fits.ensures c.as_ref.ensures ∙ ap (λ (y : Value). kind_fits types c.index-kinds-k.result y) c.index-values-k.is) c.loop-k.invariant

@@ -7,7 +7,7 @@ use Rattle.bg_ast.specs.Views.{program_of, fun_of, type_name_of}
 use Rattle.bg_ast.specs.declared.resolved.Function as ast
 use Rattle.bg_ast.specs.declared.resolved.TypeName.{TypeName}
 use Rattle.bg_sense.specs.Types.{types_of}
-use Rattle.bg_sense.proofs.Bools.{and_right}
+use Rattle.bg_sense.proofs.Bools.{and_left, and_right}
 use Rattle.bg_kinds.specs.Views.{ref_in}
 use Rattle.bg_scalar.specs.Views.{tables_in, vals_in}
 use Rattle.bg_replay.specs.Views.{set_of, said_by}
@@ -16,12 +16,12 @@ use Rattle.bg_certtext.specs.declared.text.Given.{Given}
 use Rattle.bg_certtext.specs.declared.text.Function.{Function}
 use Rattle.bg_certtext.specs.Views.{given_of, function_of, interp_of}
 use Rattle.bg_certtext.specs.Spellable.{is_given, is_function}
-use Rattle.bg_confirm.specs.Met.{vals_for, tables_by, run_in, constant_types, IsMet}
+use Rattle.bg_confirm.specs.Met.{vals_for, tables_by, run_in, constant_types, values_in, IsMet}
 use Rattle.bg_confirm.specs.Typed.{functions_fit}
 use Rattle.bg_confirm.specs.Pairs.{each_fits}
 use Rattle.bg_confirm.specs.Named.{same_name}
 use Rattle.bg_confirm.proofs.Candidates.{A, M, Q}
-use Rattle.bg_confirm.proofs.Fitting.{fit_typed, funs_judged}
+use Rattle.bg_confirm.proofs.Fitting.{are_held, given_values, fit_typed}
 use Rattle.bg_confirm.proofs.Matching.{true_false, not_so, named_by, unnamed_by, typed_by}
 use Rattle.bg_confirm.proofs.Running.{said_is, met, fails}
 use Rattle.bg_confirm.proofs.met.are_met.Goals as goal
@@ -79,6 +79,7 @@ returns c =
     let alike : c.are_for.result ≡ each_fits same_name c.deref.result.now x.constants.items = c.are_for.ensures ∙ ap (λ (l : List Given). each_fits same_name c.deref.result.now l) c.deref-2.ensures.value in
     let names = named_by c.args.program.now.constants.items c.deref.result.now x.constants.items c.are_for.result c.deref.ensures.value alike c.if-not-are_for.false in
     let spelled = and_right (list_all is_given i.constants) (list_all is_function i.functions) c.requires.spelled in
+    let normal = given_values i.constants (and_left (list_all is_given i.constants) (list_all is_function i.functions) c.requires.spelled) in
     let fit : functions_fit p.types p.functions i.functions ≡ true =
     sym (c.in_ok-functions_fit.ensures
     ∙ (ap (λ (l : List TypeName). functions_fit (map type_name_of l) (map fun_of c.deref-4.result.now) (map function_of c.deref-5.result.now)) c.deref-3.ensures.value
@@ -91,6 +92,6 @@ returns c =
     let is = said_is most_bodies P (program_of c.in_ok-axioms.axioms) said (tables_in c.deref-12.result.now) (vals_in c.deref-13.result.now) means c.in_ok-ending.ensures
     ∙ (ap (λ (ts : List Table). run_in (A most_bodies P) (set_of []) 0 (M most_bodies P) (Q most_bodies P) ts (vals_in c.deref-13.result.now)) tables
     ∙ ap (λ (xs : List Val). run_in (A most_bodies P) (set_of []) 0 (M most_bodies P) (Q most_bodies P) (tables_by P.functions i.functions) xs) (ap vals_in c.deref-13.ensures.value ∙ values)) in (
-      λ y. met p i said is names (sym types ∙ c.if-not-are_given.false) fit (fit_typed p.types p.functions i.functions spelled (funs_judged most_bodies P c.requires.openable) fit) (c.is_failure.ensures.0 y),
+      λ y. met p i said is names (sym types ∙ c.if-not-are_given.false) (are_held p.types (constant_types p) (values_in i) normal (sym types ∙ c.if-not-are_given.false)) fit (fit_typed p.types p.functions i.functions spelled fit) (c.is_failure.ensures.0 y),
       λ h. c.is_failure.ensures.1 (fails p i said is c.requires.openable h),
     )

@@ -1,8 +1,8 @@
-use Rattle.std.proofs.Common.{true, sym, ap, ◌∙◌, subst}
+use Rattle.std.proofs.Common.{sym, ap, ◌∙◌, subst}
 use Rattle.bg_ast.specs.Meaning.{meaning_of}
 use Rattle.bg_ast.specs.Views.{program_of}
 use Rattle.bg_sense.specs.Typed.{IsTyped}
-use Rattle.bg_fits.specs.Scalars.{is_over_scalars}
+use Rattle.bg_fits.specs.Valued.{is_over_values}
 use Rattle.bg_expanded.specs.Chains.{most_bodies}
 use Rattle.bg_certtext.specs.Views.{cert_of}
 use Rattle.bg_accept.specs.Answers as answers
@@ -14,13 +14,13 @@ pub check-requires-clause-typed : goal.check-requires-clause-typed
 check-requires-clause-typed c =
     let p = program_of c.args.program in
     let means = ap meaning_of c.in_ok-opened.ensures ∙ c.written_programs_are_opened.ensures most_bodies p in
-    subst IsTyped (sym means) (c.opened_programs_are_over_scalars.ensures.typed most_bodies (meaning_of p) c.requires.openable)
+    subst IsTyped (sym means) (c.opened_programs_are_over_values.ensures.typed most_bodies (meaning_of p) c.requires.openable)
 
 pub check-requires-clause-scalars : goal.check-requires-clause-scalars
 check-requires-clause-scalars c =
     let p = program_of c.args.program in
     let means = ap meaning_of c.in_ok-opened.ensures ∙ c.written_programs_are_opened.ensures most_bodies p in
-    ap (is_over_scalars true) means ∙ c.opened_programs_are_over_scalars.ensures.scalars most_bodies (meaning_of p) c.requires.openable
+    ap is_over_values means ∙ c.opened_programs_are_over_values.ensures.scalars most_bodies (meaning_of p) c.requires.openable
 
 pub returns-clause-answer : goal.returns-clause-answer
 returns-clause-answer c =

@@ -1,17 +1,18 @@
-use Rattle.std.proofs.Common.{map, ap}
-use Rattle.bg_finish.specs.Scalars.{tables_in}
-use Rattle.bg_finish.specs.Rows.{rows_of}
-use Rattle.bg_finish.specs.Filled.{blank, filled}
-use Rattle.bg_finish.proofs.Held.{filled_more, filled_end}
+use Rattle.std.proofs.Common.{length, map}
+use Rattle.bg_kinds.specs.Views.{ref_in}
+use Rattle.bg_scalar.specs.Views.{vals_in}
+use Rattle.bg_finish.specs.Filled.{blanks}
+use Rattle.bg_finish.proofs.Held.{none_so_far, more_so_far, all_so_far}
 use Rattle.bg_finish.proofs.tables.tables.Goals as goal
 
-pub loop-row-init : goal.loop-row-init
-loop-row-init c = ap (filled (rows_of c.args.rows.now)) c.in_ok-made.ensures
+pub loop-i-init : goal.loop-i-init
+loop-i-init c =
+    none_so_far (vals_in c.args.values.now) c.args.terms.now c.args.rows.now (length c.args.around.incarnations.now) (blanks (map ref_in c.args.around.results.now)) c.in_ok-made.made.items c.in_ok-made.ensures
 
-pub loop-row-preserved : goal.loop-row-preserved
-loop-row-preserved c =
-    filled_more c.args.rows.now c.loop-row.row-index c.row-item.result (tables_in c.loop-row.made.items) (tables_in c.put_row.new.tables.items) (filled (rows_of c.args.rows.now) (map blank c.args.defaults.now)) c.loop-row-test.true c.row-item.is c.in_ok-put_row.ensures c.loop-row.invariant
+pub loop-i-preserved : goal.loop-i-preserved
+loop-i-preserved c =
+    more_so_far (vals_in c.args.values.now) c.args.terms.now c.args.rows.now (length c.args.around.incarnations.now) (blanks (map ref_in c.args.around.results.now)) c.loop-i.i c.in_ok-number.number c.index-terms-i.result c.scalars_at-scalars.result.now c.loop-i.made.items c.put_term.new.tables.items c.loop-i-test.true c.index-terms-i.is c.in_ok-number.ensures c.scalars_at-scalars.ensures c.in_ok-put_term.ensures c.loop-i.invariant
 
 pub returns : goal.returns
 returns c =
-    filled_end c.args.rows.now c.loop-row.row-index (tables_in c.loop-row.made.items) (filled (rows_of c.args.rows.now) (map blank c.args.defaults.now)) c.loop-row-test.false c.loop-row.invariant
+    all_so_far (vals_in c.args.values.now) c.args.terms.now c.args.rows.now (length c.args.around.incarnations.now) c.args.around.results.now c.loop-i.i c.loop-i.made.items c.loop-i-test.false c.loop-i.invariant

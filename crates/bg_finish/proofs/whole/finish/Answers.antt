@@ -1,46 +1,54 @@
-use Rattle.std.proofs.Common.{◌≡◌, ◌<◌, length, map, ap, ◌∙◌, subst, arith}
-use Rattle.std.proofs.lemmas.Bool.Decides.{nat_tests}
-use Rattle.bg_term_table.specs.Views.{terms_in}
-use Rattle.bg_scalar.specs.Values.{val_of}
-use Rattle.bg_finish.specs.Rows.{rows_of, IsRows}
-use Rattle.bg_finish.specs.Firsts.{AreApart}
-use Rattle.bg_finish.specs.Filled.{blank, filled}
-use Rattle.bg_finish.proofs.Congruences.{are_false}
-use Rattle.bg_finish.proofs.Lacking.{nothing_lacks}
-use Rattle.bg_finish.proofs.Ending.{are_read_off, read_off_by, empty_is, still_some}
+use Rattle.std.proofs.Common.{map, length, sym, subst}
+use Rattle.bg_kinds.specs.Views.{ref_in}
+use Rattle.bg_terms.specs.Typed.{types_with}
+use Rattle.bg_term_table.specs.Views.{terms_in, incs_of}
+use Rattle.bg_scalar.specs.Views.{vals_in}
+use Rattle.bg_wanted.specs.Scalars.{scalars_in}
+use Rattle.bg_wanted.specs.Answers.{IsAnswer}
+use Rattle.bg_wanted.proofs.Rowed.{mapped_length}
+use Rattle.bg_finish.specs.Filled.{AreTables}
+use Rattle.bg_finish.proofs.Indexing.{types_indexed}
+use Rattle.bg_finish.proofs.Ending.{are_built, are_final}
 use Rattle.bg_finish.proofs.whole.finish.Goals as goal
 
-pub returns-in-Leave : goal.returns-in-Leave
-returns-in-Leave c =
-    λ fs incs count leaf.
-    subst (IsRows c.args.values.now c.args.count (terms_in fs c.args.terms.now)) c.in-Leave.is (c.in_ok-made.ensures fs)
-
-pub returns-in-NoRows : goal.returns-in-NoRows
-returns-in-NoRows c =
-    λ fs incs count leaf.
-    nothing_lacks fs incs (terms_in fs c.args.terms.now) c.args.values.now (map val_of c.args.defaults.now) c.args.count count leaf (subst (IsRows c.args.values.now c.args.count (terms_in fs c.args.terms.now)) c.in-NoRows.is (c.in_ok-made.ensures fs))
-
-pub returns-then-not-is_empty : goal.returns-then-not-is_empty
-returns-then-not-is_empty c =
-    let values = c.args.values.now in
-    let n = c.args.count in
-    let apart = subst (λ l. AreApart (rows_of l) c.in_ok-apart-in-Are.apart.items) c.deref.ensures.value c.in_ok-apart-in-Are.ensures in
-    let some : 0 < length c.in_ok-apart-in-Are.apart.items = let h = c.is_empty.ensures in let k = c.if-not-is_empty.true in grind (arith, nat_tests, h, k) in
-    λ fs incs count leaf.
+pub returns-in_ok-tried-in-Lines : goal.returns-in_ok-tried-in-Lines
+returns-in_ok-tried-in-Lines c =
+    let incs = incs_of c.args.around in
+    λ fs give leaf.
     let ts = terms_in fs c.args.terms.now in
-    let rows = subst (IsRows values n ts) c.in-Are.is (c.in_ok-made.ensures fs) in
-    record {
-      some = still_some c.in_ok-apart-in-Are.apart.items some;
-      each = are_false values n ts (rows_of c.in-Are.rows.items) rows c.in_ok-apart-in-Are.apart.items apart.0;
-    }
+    subst (IsAnswer incs ts c.args.scalars.now) c.in-Lines.is (c.in_ok-lines.ensures fs give (record { terms = leaf.terms.typed; indexed = leaf.indexed; types = types_indexed fs incs ts leaf.gives leaf.incarnations leaf.terms; scalars = leaf.scalars }))
 
-pub returns-in_ok-made-in-Are : goal.returns-in_ok-made-in-Are
-returns-in_ok-made-in-Are c =
-    let values = c.args.values.now in
-    let n = c.args.count in
-    let apart = subst (λ l. AreApart (rows_of l) c.in_ok-apart-in-Are.apart.items) c.deref.ensures.value c.in_ok-apart-in-Are.ensures in
-    let none : length c.in_ok-apart-in-Are.apart.items ≡ 0 = let h = c.is_empty.ensures in let k = c.if-not-is_empty.false in grind (arith, nat_tests, h, k) in
-    λ fs incs count leaf.
+pub returns-in-Leaves : goal.returns-in-Leaves
+returns-in-Leaves c =
+    let incs = incs_of c.args.around in
+    λ fs give leaf.
     let ts = terms_in fs c.args.terms.now in
-    let rows = subst (IsRows values n ts) c.in-Are.is (c.in_ok-made.ensures fs) in
-    read_off_by fs n ts (map val_of values) c.args.defaults.now (rows_of c.in-Are.rows.items) _ (c.in_ok-made-in-Are.ensures ∙ ap (λ l. filled (rows_of l) (map blank c.args.defaults.now)) c.deref-in-Are.ensures.value) (are_read_off fs incs ts values c.args.defaults.now leaf n count (rows_of c.in-Are.rows.items) rows (apart.1 (empty_is c.in_ok-apart-in-Are.apart.items none)))
+    subst (IsAnswer incs ts c.args.scalars.now) c.in-Leaves.is (c.in_ok-lines.ensures fs give (record { terms = leaf.terms.typed; indexed = leaf.indexed; types = types_indexed fs incs ts leaf.gives leaf.incarnations leaf.terms; scalars = leaf.scalars }))
+
+pub returns-in-NoScalars : goal.returns-in-NoScalars
+returns-in-NoScalars c =
+    let incs = incs_of c.args.around in
+    λ fs give leaf.
+    let ts = terms_in fs c.args.terms.now in
+    subst (IsAnswer incs ts c.args.scalars.now) c.in-NoScalars.is (c.in_ok-lines.ensures fs give (record { terms = leaf.terms.typed; indexed = leaf.indexed; types = types_indexed fs incs ts leaf.gives leaf.incarnations leaf.terms; scalars = leaf.scalars }))
+
+pub returns-in_ok-made-in-Nothing : goal.returns-in_ok-made-in-Nothing
+returns-in_ok-made-in-Nothing c =
+    let incs = incs_of c.args.around in
+    let scalars = c.args.scalars.now in
+    let terms = c.args.terms.now in
+    let rows = c.in-Nothing.rows.items in
+    let w = vals_in c.in-Nothing.values.items in
+    let made = c.in_ok-made-in-Nothing.made.items in
+    λ fs give leaf.
+    let ts = terms_in fs terms in
+    let done = subst (IsAnswer incs ts scalars) c.in-Nothing.is (c.in_ok-lines.ensures fs give (record { terms = leaf.terms.typed; indexed = leaf.indexed; types = types_indexed fs incs ts leaf.gives leaf.incarnations leaf.terms; scalars = leaf.scalars })) in
+    let built = are_built fs incs terms scalars w rows leaf done in
+    let law = c.finished_leaves_stand.ensures in
+    let tables = subst (λ n. AreTables w terms rows n (map ref_in c.args.around.results.now) made) (sym (mapped_length ref_in c.args.around.incarnations.now))
+    (subst (λ rs. AreTables w terms rs (length c.args.around.incarnations.now) (map ref_in c.args.around.results.now) made) c.deref-in-Nothing.ensures.value
+    (subst (λ vs. AreTables (vals_in vs) terms c.deref-in-Nothing.result.now (length c.args.around.incarnations.now) (map ref_in c.args.around.results.now) made) c.deref-in-Nothing-2.ensures.value c.in_ok-made-in-Nothing.ensures)) in
+    are_final fs incs terms scalars w rows leaf done
+    (law.stand (length incs) ts (types_with incs ts) (scalars_in scalars) w leaf.scalars built done.finished)
+    (law.congruent fs incs ts (scalars_in scalars) w leaf.terms.typed leaf.scalars built done.finished)
+    c.args.around.results.now made give tables

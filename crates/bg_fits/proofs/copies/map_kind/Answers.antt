@@ -1,7 +1,5 @@
-use Rattle.std.proofs.Common.{[], ◌∷◌, ◌++◌, map, ap, sym, ◌∙◌}
-use Rattle.bg_ast.specs.Values as v
-use Rattle.bg_kinds.specs.Views.{key_of, keys_of, base_of, tower}
-use Rattle.bg_kinds.proofs.Gathered.{tower_same}
+use Rattle.std.proofs.Common.{[], ◌∷◌, ◌++◌, map, ap, ◌∙◌}
+use Rattle.bg_kinds.specs.Views.{key_of, base_of}
 use Rattle.bg_fits.proofs.Towers.{one_in_front}
 use Rattle.bg_fits.proofs.copies.map_kind.Goals as goal
 

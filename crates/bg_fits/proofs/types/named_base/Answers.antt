@@ -1,6 +1,6 @@
 use Rattle.std.proofs.Common.{map, arith}
 use Rattle.bg_ast.specs.Views.{type_name_of}
-use Rattle.bg_fits.proofs.Synonyms.{next_synonym, last_synonym, no_synonym}
+use Rattle.bg_fits.proofs.Synonyms.{next_synonym, no_synonym}
 use Rattle.bg_fits.proofs.types.named_base.Goals as goal
 
 pub loop-preserved : goal.loop-preserved

@@ -17,8 +17,8 @@ typed-requires c =
           (subst (λ ds. IsMeaningFrom bytes (views c.deref.result.now) (decls_of ds) p) c.deref-2.ensures.value c.in_ok-program.ensures.meant)));
     }
 
-pub judged-requires-clause-meant : goal.judged-requires-clause-meant
-judged-requires-clause-meant c =
+pub counted-requires-clause-meant : goal.counted-requires-clause-meant
+counted-requires-clause-meant c =
     let p = program_of c.in_ok-typed.typed.program in
     let bytes = c.args.bytes.now in
     subst (λ ts. IsMeaningFrom bytes (views ts) (decls_of c.deref-6.result.now) p) (sym c.deref-5.ensures.value)

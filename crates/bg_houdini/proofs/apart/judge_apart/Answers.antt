@@ -15,7 +15,7 @@ use Rattle.bg_houdini.specs.Known.{AreRightOn}
 use Rattle.bg_houdini.specs.Checkers.{program_in, meaning_in}
 use Rattle.bg_houdini.proofs.Once.{if_ok}
 use Rattle.bg_houdini.proofs.Places.{its_chunk, asked_chunk, all_known}
-use Rattle.bg_houdini.proofs.Shared.{among_sync, place_sync}
+use Rattle.bg_houdini.proofs.Shared.{leaving, among_sync, judged_send, place_sync}
 use Rattle.bg_houdini.proofs.apart.judge_apart.Goals as goal
 
 pub map_chunks-requires-sync-T : goal.map_chunks-requires-sync-T
@@ -23,6 +23,9 @@ map_chunks-requires-sync-T g c κs within = search (place_sync, sendable)
 
 pub map_chunks-requires-sync-F : goal.map_chunks-requires-sync-F
 map_chunks-requires-sync-F g c κs within = param_sync 4 _ (arg_sync _ no _ (among_sync _ _ _ _ _ _ _))
+
+pub map_chunks-requires-send-X : goal.map_chunks-requires-send-X
+map_chunks-requires-send-X g c κs within = search (judged_send, leaving, sendable) depth 60 fits 20000
 
 pub map_chunks-requires-clause-accepts : goal.map_chunks-requires-clause-accepts
 map_chunks-requires-clause-accepts g c κs within = λ start piece chunk.

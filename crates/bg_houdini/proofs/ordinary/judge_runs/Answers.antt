@@ -9,7 +9,7 @@ use Rattle.bg_task.specs.declared.prepared.Prepared.{Prepared}
 use Rattle.bg_houdini.specs.Checkers.{ArePrepared, program_in}
 use Rattle.bg_houdini.proofs.Once.{if_ok}
 use Rattle.bg_houdini.proofs.Pieces.{prepared_chunk, chunk_take, all_right}
-use Rattle.bg_houdini.proofs.Shared.{captured_sync, prepared_sync}
+use Rattle.bg_houdini.proofs.Shared.{leaving, captured_sync, judged_send, prepared_sync}
 use Rattle.bg_houdini.proofs.ordinary.judge_runs.Goals as goal
 
 pub map_chunks-requires-sync-T : goal.map_chunks-requires-sync-T
@@ -17,6 +17,9 @@ map_chunks-requires-sync-T g c κs within = search (prepared_sync, sendable)
 
 pub map_chunks-requires-sync-F : goal.map_chunks-requires-sync-F
 map_chunks-requires-sync-F g c κs within = param_sync 4 _ (arg_sync _ no _ (captured_sync _ _ _ _ _))
+
+pub map_chunks-requires-send-X : goal.map_chunks-requires-send-X
+map_chunks-requires-send-X g c κs within = search (judged_send, leaving, sendable) depth 60 fits 20000
 
 pub map_chunks-requires-clause-accepts : goal.map_chunks-requires-clause-accepts
 map_chunks-requires-clause-accepts g c κs within = λ start p chunk.

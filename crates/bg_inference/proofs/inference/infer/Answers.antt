@@ -5,7 +5,7 @@ use Rattle.bg_ast.specs.Meaning.{meaning_of}
 use Rattle.bg_ast.specs.Views.{program_of, declared_of, fun_of}
 use Rattle.bg_sense.specs.Typed.{IsTyped}
 use Rattle.bg_sense.specs.Resolved.{IsResolved}
-use Rattle.bg_fits.specs.Scalars.{is_over_scalars}
+use Rattle.bg_fits.specs.Valued.{is_over_values}
 use Rattle.std.proofs.lemmas.List.{length-map}
 use Rattle.bg_houdini.specs.Outcomes as houdini
 use Rattle.bg_expanded.specs.Chains.{most_bodies}
@@ -15,17 +15,17 @@ use Rattle.bg_inference.proofs.inference.infer.Goals as goal
 pub infer-requires-clause-typed : goal.infer-requires-clause-typed
 infer-requires-clause-typed g c κs within =
     let p = program_of c.args.program in
-    subst IsTyped (sym (ap meaning_of c.in_ok-opened.ensures ∙ c.written_programs_are_opened.ensures most_bodies p)) (c.opened_programs_are_over_scalars.ensures.typed most_bodies (meaning_of p) c.requires.openable)
+    subst IsTyped (sym (ap meaning_of c.in_ok-opened.ensures ∙ c.written_programs_are_opened.ensures most_bodies p)) (c.opened_programs_are_over_values.ensures.typed most_bodies (meaning_of p) c.requires.openable)
 
 pub infer-requires-clause-scalars : goal.infer-requires-clause-scalars
 infer-requires-clause-scalars g c κs within =
     let p = program_of c.args.program in
-    subst (λ (x : Prog). is_over_scalars true x ≡ true) (sym (ap meaning_of c.in_ok-opened.ensures ∙ c.written_programs_are_opened.ensures most_bodies p)) (c.opened_programs_are_over_scalars.ensures.scalars most_bodies (meaning_of p) c.requires.openable)
+    subst (λ (x : Prog). is_over_values x ≡ true) (sym (ap meaning_of c.in_ok-opened.ensures ∙ c.written_programs_are_opened.ensures most_bodies p)) (c.opened_programs_are_over_values.ensures.scalars most_bodies (meaning_of p) c.requires.openable)
 
 pub infer-requires-clause-resolved : goal.infer-requires-clause-resolved
 infer-requires-clause-resolved g c κs within =
     let p = program_of c.args.program in
-    subst IsResolved (sym (ap meaning_of c.in_ok-opened.ensures ∙ c.written_programs_are_opened.ensures most_bodies p)) (c.opened_programs_are_over_scalars.ensures.resolved most_bodies (meaning_of p) c.requires.openable)
+    subst IsResolved (sym (ap meaning_of c.in_ok-opened.ensures ∙ c.written_programs_are_opened.ensures most_bodies p)) (c.opened_programs_are_over_values.ensures.resolved most_bodies (meaning_of p) c.requires.openable)
 
 pub returns : goal.returns
 returns g c =

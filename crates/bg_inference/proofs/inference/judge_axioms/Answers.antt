@@ -5,7 +5,7 @@ use Rattle.bg_ast.specs.Views.{program_of}
 use Rattle.bg_sense.specs.Typed.{IsTyped}
 use Rattle.bg_sense.specs.Resolved.{IsResolved}
 use Rattle.bg_sense.specs.Places.{places}
-use Rattle.bg_fits.specs.Scalars.{is_over_scalars}
+use Rattle.bg_fits.specs.Valued.{is_over_values}
 use Rattle.bg_words.specs.Sets.{has}
 use Rattle.bg_check.specs.Verdicts.{IsRight, judged}
 use Rattle.bg_opened.specs.Axioms.{of_axioms, axiom_program, axiom_place}
@@ -16,17 +16,17 @@ use Rattle.bg_inference.proofs.inference.judge_axioms.Goals as goal
 pub infer-requires-clause-typed : goal.infer-requires-clause-typed
 infer-requires-clause-typed g c κs within =
     let P = meaning_of (program_of c.args.program.now) in
-    subst IsTyped (sym (ap meaning_of c.in_ok-axioms.ensures ∙ c.written_axiom_programs_are_those_of_the_meaning.ensures most_bodies (program_of c.args.program.now))) (c.opened_programs_are_over_scalars.ensures.typed most_bodies (of_axioms P) (c.axioms_have_a_program.ensures.openable most_bodies P c.requires.openable))
+    subst IsTyped (sym (ap meaning_of c.in_ok-axioms.ensures ∙ c.written_axiom_programs_are_those_of_the_meaning.ensures most_bodies (program_of c.args.program.now))) (c.opened_programs_are_over_values.ensures.typed most_bodies (of_axioms P) (c.axioms_have_a_program.ensures.openable most_bodies P c.requires.openable))
 
 pub infer-requires-clause-scalars : goal.infer-requires-clause-scalars
 infer-requires-clause-scalars g c κs within =
     let P = meaning_of (program_of c.args.program.now) in
-    subst (λ (x : Prog). is_over_scalars true x ≡ true) (sym (ap meaning_of c.in_ok-axioms.ensures ∙ c.written_axiom_programs_are_those_of_the_meaning.ensures most_bodies (program_of c.args.program.now))) (c.opened_programs_are_over_scalars.ensures.scalars most_bodies (of_axioms P) (c.axioms_have_a_program.ensures.openable most_bodies P c.requires.openable))
+    subst (λ (x : Prog). is_over_values x ≡ true) (sym (ap meaning_of c.in_ok-axioms.ensures ∙ c.written_axiom_programs_are_those_of_the_meaning.ensures most_bodies (program_of c.args.program.now))) (c.opened_programs_are_over_values.ensures.scalars most_bodies (of_axioms P) (c.axioms_have_a_program.ensures.openable most_bodies P c.requires.openable))
 
 pub infer-requires-clause-resolved : goal.infer-requires-clause-resolved
 infer-requires-clause-resolved g c κs within =
     let P = meaning_of (program_of c.args.program.now) in
-    subst IsResolved (sym (ap meaning_of c.in_ok-axioms.ensures ∙ c.written_axiom_programs_are_those_of_the_meaning.ensures most_bodies (program_of c.args.program.now))) (c.opened_programs_are_over_scalars.ensures.resolved most_bodies (of_axioms P) (c.axioms_have_a_program.ensures.openable most_bodies P c.requires.openable))
+    subst IsResolved (sym (ap meaning_of c.in_ok-axioms.ensures ∙ c.written_axiom_programs_are_those_of_the_meaning.ensures most_bodies (program_of c.args.program.now))) (c.opened_programs_are_over_values.ensures.resolved most_bodies (of_axioms P) (c.axioms_have_a_program.ensures.openable most_bodies P c.requires.openable))
 
 pub returns-in-Some : goal.returns-in-Some
 returns-in-Some g c =

@@ -5,7 +5,7 @@ use Rattle.bg_sense.specs.Typed.{IsTyped}
 use Rattle.bg_sense.specs.Resolved.{IsResolved}
 use Rattle.bg_cert.specs.Certs.{cert_of}
 use Rattle.bg_cert.specs.Walks.{no_instance}
-use Rattle.bg_fits.specs.Scalars.{is_over_scalars}
+use Rattle.bg_fits.specs.Valued.{is_over_values}
 use Rattle.bg_sound.specs.Told as t
 use Rattle.bg_sound.specs.Sound.{IsSound}
 use Rattle.bg_check.specs.Outcomes.{verdict_of}
@@ -24,9 +24,9 @@ returns c = λ budget p o words openable truth.
     let P = meaning_of p in
     let q = judged_program p in
     let means = sym (program_means most_bodies p) in
-    let over = c.opened_programs_are_over_scalars.ensures in
+    let over = c.opened_programs_are_over_values.ensures in
     let typed : IsTyped (meaning_of q) = subst IsTyped means (over.typed most_bodies P openable) in
-    let scalars : is_over_scalars true (meaning_of q) ≡ true = subst (λ (x : Prog). is_over_scalars true x ≡ true) means (over.scalars most_bodies P openable) in
+    let scalars : is_over_values (meaning_of q) ≡ true = subst (λ (x : Prog). is_over_values x ≡ true) means (over.scalars most_bodies P openable) in
     let resolved : IsResolved (meaning_of q) = subst IsResolved means (over.resolved most_bodies P openable) in
     let of_all = c.axioms_have_a_program.ensures.openable most_bodies P openable in
     let axioms = c.axioms_are_told.ensures most_bodies P truth.set (verdict_of words o.axioms) openable

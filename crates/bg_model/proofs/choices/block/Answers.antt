@@ -7,11 +7,11 @@ use Rattle.bg_model.proofs.choices.block.Goals as goal
 pub returns-then-not-branch : goal.returns-then-not-branch
 returns-then-not-branch c =
     let e : c.in_ok-commands.field-0 ≡ false = search rules in
-    λ p behind. (let rest = turn_choices c.args.turn (exit_of c.args.b.now.exit) behind in
-    rw (← c.deref.ensures.value) (c.in_ok-commands.ensures p rest ∙ ap (λ x. made_by c.commands.new.front (if_goes x rest)) e))
+    λ vs p behind. (let rest = turn_choices c.args.turn (exit_of c.args.b.now.exit) behind in
+    rw (← c.deref.ensures.value) (c.in_ok-commands.ensures vs p rest ∙ ap (λ x. made_by vs c.commands.new.front (if_goes x rest)) e))
 
 pub returns : goal.returns
 returns c =
     let e : c.in_ok-commands.field-0 ≡ true = search rules in
-    λ p behind. (let rest = turn_choices c.args.turn (exit_of c.args.b.now.exit) behind in
-    rw (← c.deref.ensures.value) (c.in_ok-commands.ensures p rest ∙ (ap (λ x. made_by c.commands.new.front (if_goes x rest)) e ∙ c.in_ok-to.ensures behind)))
+    λ vs p behind. (let rest = turn_choices c.args.turn (exit_of c.args.b.now.exit) behind in
+    rw (← c.deref.ensures.value) (c.in_ok-commands.ensures vs p rest ∙ (ap (λ x. made_by vs c.commands.new.front (if_goes x rest)) e ∙ c.in_ok-to.ensures vs behind)))

@@ -7,13 +7,13 @@ use Rattle.bg_model.proofs.commands.commands.Goals as goal
 
 pub returns-then-not-branch : goal.returns-then-not-branch
 returns-then-not-branch c =
-    λ p rest. last_command (cmd_of p) c.args.trial c.args.ks.now c.loop-k.k-index c.k-item.result c.loop-k-test.true c.k-item.is c.loop-k.front c.command.new.front rest _ (c.loop-k.invariant p rest) c.in_ok-command.field-0 (search rules) (c.in_ok-command.ensures p)
+    λ vs p rest. last_command (cmd_of p) vs c.args.trial c.args.ks.now c.loop-k.k-index c.k-item.result c.loop-k-test.true c.k-item.is c.loop-k.front c.command.new.front rest _ (c.loop-k.invariant vs p rest) c.in_ok-command.field-0 (search rules) (c.in_ok-command.ensures vs p)
 
 pub loop-k-preserved : goal.loop-k-preserved
 loop-k-preserved c =
-    λ p rest. next_command (cmd_of p) c.args.trial c.args.ks.now c.loop-k.k-index c.k-item.result c.loop-k-test.true c.k-item.is c.loop-k.front c.command.new.front rest _ (c.loop-k.invariant p rest) c.in_ok-command.field-0 (search rules) (c.in_ok-command.ensures p)
+    λ vs p rest. next_command (cmd_of p) vs c.args.trial c.args.ks.now c.loop-k.k-index c.k-item.result c.loop-k-test.true c.k-item.is c.loop-k.front c.command.new.front rest _ (c.loop-k.invariant vs p rest) c.in_ok-command.field-0 (search rules) (c.in_ok-command.ensures vs p)
 
 pub returns : goal.returns
 returns c =
-    λ p rest. sym (c.loop-k.invariant p rest)
-    ∙ ap (λ l. made_by c.loop-k.front (next_by c.args.trial (map (cmd_of p) l) c.loop-k.front rest)) (drop_whole c.loop-k.k-index c.args.ks.now c.loop-k-test.false)
+    λ vs p rest. sym (c.loop-k.invariant vs p rest)
+    ∙ ap (λ l. made_by vs c.loop-k.front (next_by vs c.args.trial (map (cmd_of p) l) c.loop-k.front rest)) (drop_whole c.loop-k.k-index c.args.ks.now c.loop-k-test.false)

@@ -1,7 +1,9 @@
 use Rattle.std.proofs.Common.{◌≡◌, map, None, sym, ◌∙◌}
 use Rattle.std.proofs.lemmas.Result.{IfOk-weaker}
 use Rattle.bg_ast.specs.Views.{link_view, bracket_view}
-use Rattle.bg_scalar.specs.Along.{along, behind}
+use Rattle.bg_scalar.specs.Worths.{selected, updated}
+use Rattle.bg_scalar.specs.Lists.{listed}
+use Rattle.bg_scalar.specs.Along.{along, bracketed, behind}
 use Rattle.bg_scalar.specs.Views.{seen_of, worth_in}
 use Rattle.bg_scalar.proofs.Chains.{worth_of, apply_expr, chain_expr, prefix_expr, postfix_expr, link_step, link_end, bracket_step, bracket_end, select_bracket, update_bracket}
 use Rattle.bg_scalar.proofs.Listing.{list_step}
@@ -31,11 +33,11 @@ worth-returns-in_ok-values-in-Apply t c =
 
 pub worths-loop-e-preserved : goal.worths-loop-e-preserved
 worths-loop-e-preserved t c =
-    list_step c.args.es.now c.loop-e.e-index c.e-item.result (seen_of c.args.sight) c.loop-e.made.items c.push.new.self.items c.in-Is.x c.in_ok-value.value _ c.loop-e-test.true c.e-item.is c.in_ok-value.ensures c.in-Is.is c.in_ok-push-in-Is.ensures.items c.loop-e.invariant
+    list_step c.args.es.now c.loop-e.e-index c.e-item.result (seen_of c.args.sight) c.loop-e.made.items c.push.new.self.items c.in-Is.x c.in_ok-owned-in-Is.field-0 c.in_ok-value.value _ c.loop-e-test.true c.e-item.is c.in_ok-value.ensures c.in-Is.is c.in_ok-owned-in-Is.ensures c.in_ok-push-in-Is.ensures.items c.loop-e.invariant
 
 pub chain-loop-link-preserved : goal.chain-loop-link-preserved
 chain-loop-link-preserved t c =
-    link_step c.args.links.now c.loop-link.link-index c.link-item.result (seen_of c.args.sight) _ _ _ _ _ _ c.loop-link-test.true c.link-item.is c.in_ok-next.ensures c.premise_after-premise.ensures c.operand_after-operand.ensures c.loop-link.invariant
+    link_step c.args.links.now c.loop-link.link-index c.link-item.result (seen_of c.args.sight) _ _ _ _ _ _ c.loop-link-test.true c.link-item.is c.in_ok-next.ensures c.with_link-held.ensures.premise c.with_link-held.ensures.operand c.loop-link.invariant
 
 pub chain-returns : goal.chain-returns
 chain-returns t c =
@@ -51,8 +53,12 @@ behind-returns t c =
 
 pub bracketed-returns-in_ok-index-in-Select : goal.bracketed-returns-in_ok-index-in-Select
 bracketed-returns-in_ok-index-in-Select t c =
-    rw (c.selected.ensures, c.in_ok-index-in-Select.ensures, c.deref.ensures.value, c.in-Select.is) (sym (select_bracket c.in-Select.field-0 c.in-Select.es (worth_in c.args.value) (seen_of c.args.sight)))
+    let is : selected (worth_in c.args.value) (listed c.in_ok-index-in-Select.index) ≡ (let v = bracket_view c.args.bracket.now in bracketed (worth_in c.args.value) v.1 v.2 (seen_of c.args.sight)) =
+    rw (c.in_ok-index-in-Select.ensures, c.deref.ensures.value, c.in-Select.is) (sym (select_bracket c.in-Select.field-0 c.in-Select.es (worth_in c.args.value) (seen_of c.args.sight))) in
+    IfOk-weaker c.selected.result _ _ (λ x h. h ∙ is) c.selected.ensures
 
 pub bracketed-returns-in_ok-new-in-Update : goal.bracketed-returns-in_ok-new-in-Update
 bracketed-returns-in_ok-new-in-Update t c =
-    rw (c.updated.ensures, c.in_ok-index-in-Update.ensures, c.deref-in-Update.ensures.value, c.in_ok-new-in-Update.ensures, c.in-Update.is) (sym (update_bracket c.in-Update.field-0 c.in-Update.es c.in-Update.e (worth_in c.args.value) (seen_of c.args.sight)))
+    let is : updated (worth_in c.args.value) (listed c.in_ok-index-in-Update.index) (worth_in c.in_ok-new-in-Update.new) ≡ (let v = bracket_view c.args.bracket.now in bracketed (worth_in c.args.value) v.1 v.2 (seen_of c.args.sight)) =
+    rw (c.in_ok-index-in-Update.ensures, c.deref-in-Update.ensures.value, c.in_ok-new-in-Update.ensures, c.in-Update.is) (sym (update_bracket c.in-Update.field-0 c.in-Update.es c.in-Update.e (worth_in c.args.value) (seen_of c.args.sight))) in
+    IfOk-weaker c.updated.result _ _ (λ x h. h ∙ is) c.updated.ensures

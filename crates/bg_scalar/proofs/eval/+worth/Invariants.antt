@@ -2,14 +2,14 @@ use Rattle.std.proofs.Common.{◌≡◌, drop, map, None}
 use Rattle.bg_scalar.specs.Views.{seen_of, worth_in, premise_in}
 use Rattle.bg_ast.specs.Meaning.{exs_of}
 use Rattle.bg_ast.specs.Views.{link_view, bracket_view, exs_in}
-use Rattle.bg_scalar.specs.Values.{val_of}
+use Rattle.bg_scalar.specs.Values.{value_of}
 use Rattle.bg_scalar.specs.Lists.{worths, onto}
 use Rattle.bg_scalar.specs.Along.{along, behind}
 use Rattle.bg_scalar.proofs.eval.+worth.Given as goal
 
 abbrev pub invariant-chain-loop-link : goal.invariant-chain-loop-link
 invariant-chain-loop-link l =
-    along (premise_in l.premise) (worth_in l.operand) (map link_view (drop l.link-index l.links)) (seen_of l.sight) ≡ along None (worth_in l.fn.first) (map link_view l.links) (seen_of l.sight)
+    along (premise_in l.held.premise) (worth_in l.held.operand) (map link_view (drop l.link-index l.links)) (seen_of l.sight) ≡ along None (worth_in l.fn.first) (map link_view l.links) (seen_of l.sight)
 
 abbrev pub invariant-behind-loop-b : goal.invariant-behind-loop-b
 invariant-behind-loop-b l =
@@ -17,4 +17,4 @@ invariant-behind-loop-b l =
 
 abbrev pub invariant-worths-loop-e : goal.invariant-worths-loop-e
 invariant-worths-loop-e l =
-    onto (map val_of l.made.items) (worths (exs_of (exs_in (drop l.e-index l.es))) (seen_of l.sight)) ≡ worths (exs_of (exs_in l.es)) (seen_of l.sight)
+    onto (map value_of l.made.items) (worths (exs_of (exs_in (drop l.e-index l.es))) (seen_of l.sight)) ≡ worths (exs_of (exs_in l.es)) (seen_of l.sight)

@@ -1,11 +1,14 @@
-use Rattle.std.proofs.Common.{ap, ◌∙◌}
-use Rattle.std.specs.Prelude.{unwrap_or}
-use Rattle.bg_scalar.specs.Values.{val_of}
-use Rattle.bg_scalar.proofs.Found.{told_by}
+use Rattle.std.proofs.Common.{Bor, Option, Some, None, option_map, sym, ap, ◌∙◌}
+use Rattle.bg_scalar.specs.declared.value.Value.{Value}
+use Rattle.bg_scalar.proofs.LookedUp.{told_by}
 use Rattle.bg_scalar.proofs.table.told.Goals as goal
 
-pub returns-in-Some : goal.returns-in-Some
-returns-in-Some c =
+pub returns-in-None-get : goal.returns-in-None-get
+returns-in-None-get c =
     let t = c.in-Some.t.now in
-    ap val_of (c.unwrap_or.ensures ∙ ap (λ o. unwrap_or o t.default) (c.copied.ensures ∙ c.get-in-Some.ensures.value))
-    ∙ told_by c.args.tables.now c.args.function t c.args.args.now.items c.in-Some.ensures.lookup.3.0 c.in-Some.ensures.lookup.1
+    told_by c.args.tables.now c.args.function t c.args.args.now.items None c.in-Some.ensures.lookup.3.0 c.in-Some.ensures.lookup.1 (ap (option_map (λ (r : Bor Value). r.now)) (sym c.in-None-get.is) ∙ c.get-in-Some.ensures.value)
+
+pub returns-in-Some-get : goal.returns-in-Some-get
+returns-in-Some-get c =
+    let t = c.in-Some.t.now in
+    told_by c.args.tables.now c.args.function t c.args.args.now.items (Some c.in-Some-get.x.now) c.in-Some.ensures.lookup.3.0 c.in-Some.ensures.lookup.1 (ap (option_map (λ (r : Bor Value). r.now)) (sym c.in-Some-get.is) ∙ c.get-in-Some.ensures.value)

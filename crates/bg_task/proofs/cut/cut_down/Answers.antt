@@ -1,4 +1,4 @@
-use Rattle.std.proofs.Common.{◌≡◌, List, [], refl, sym, ap, ◌∙◌, subst}
+use Rattle.std.proofs.Common.{◌≡◌, List, [], map, refl, sym, ap, ◌∙◌, subst}
 use Rattle.bg_ast.specs.Meaning.{meaning_of, named_of, impl_of, proc_of}
 use Rattle.bg_ast.specs.Views.{program_of}
 use Rattle.bg_places.specs.Views.{spot_of}
@@ -9,7 +9,10 @@ use Rattle.bg_task.specs.Prepared.{IsPrepared, encoding_over}
 use Rattle.bg_task.specs.Cuts.{IsOwn}
 use Rattle.bg_block_types.specs.Typed.{incarnations_in}
 use Rattle.bg_termed.specs.Termed.{terms_in}
-use Rattle.bg_task.proofs.Prepares.{impl, proc, impl_at, proc_at}
+use Rattle.bg_flatten.specs.Plain.{are_mapless}
+use Rattle.bg_terms.specs.Typed.{type_of}
+use Rattle.bg_task.proofs.Mapless.{mapless_front}
+use Rattle.bg_task.proofs.Prepares.{impl, proc}
 use Rattle.bg_task.proofs.Sliced.{slice_for, no_terms, none_there, some_there}
 use Rattle.bg_task.proofs.cut.cut_down.Goals as goal
 
@@ -26,15 +29,16 @@ returns-then-is_empty c =
 pub atoms_behind-requires-clause-prepared : goal.atoms_behind-requires-clause-prepared
 atoms_behind-requires-clause-prepared c = (c.args.place.now.implementation, c.requires.prepared)
 
-pub atoms_behind-requires-clause-terms : goal.atoms_behind-requires-clause-terms
-atoms_behind-requires-clause-terms c =
+pub atoms_behind-requires-clause-kept : goal.atoms_behind-requires-clause-kept
+atoms_behind-requires-clause-kept c =
     let p = program_of c.args.program.now in
     let n = c.args.place.now.implementation in
     let w = c.args.prepared.now in
     let h = c.requires.prepared in
-    let mapless = c.implementations_over_scalars_have_no_maps.ensures.mapless (meaning_of p) n (impl p n w h) (proc p n w h) c.requires.typed c.requires.scalars (impl_at p n w h) (proc_at p n w h) in
-    λ none.
-    no_terms (incarnations_in (meaning_of p) n (impl p n w h) (proc p n w h)) (terms_in (meaning_of p) n (impl p n w h) (proc p n w h)) (lines_of c.args.lines.now) mapless (c.requires.there h) (some_there c.args.lines.now _ c.is_empty.ensures c.if-is_empty.false) (sym h.terms ∙ ap (table.terms_in (meaning_of p).functions) none)
+    let incs = incarnations_in (meaning_of p) n (impl p n w h) (proc p n w h) in
+    let ts = terms_in (meaning_of p) n (impl p n w h) (proc p n w h) in
+    λ bare.
+    no_terms incs ts (lines_of c.args.lines.now) (mapless_front incs (map type_of ts) (ap are_mapless (sym h.kinds) ∙ bare.1)) (c.requires.there h) (some_there c.args.lines.now _ c.is_empty.ensures c.if-is_empty.false) (sym h.terms ∙ ap (table.terms_in (meaning_of p).functions) bare.0)
 
 pub returns : goal.returns
 returns c =

@@ -4,6 +4,7 @@ use Rattle.std.proofs.lemmas.List.{length-map}
 use Rattle.bg_ast.specs.Meaning.{meaning_of, named_of}
 use Rattle.bg_ast.specs.Meaning as mean
 use Rattle.bg_ast.specs.Views.{program_of, impl_of}
+use Rattle.bg_flatten.specs.Plain.{are_mapless}
 use Rattle.bg_incarnate.specs.Views.{passive_block_of}
 use Rattle.bg_block_types.specs.Typed.{incarnations_in}
 use Rattle.bg_kinds.specs.Views.{ref_in}
@@ -27,7 +28,7 @@ unreachable-requires c =
     let q = mean.proc_of (named_of p.types) t.procedure in
     let im = impl_is p n t.implementation t.procedure t.impl_there t.proc_there in
     let pr = proc_is p n t.implementation t.procedure t.impl_there t.proc_there in
-    let evens = c.blocks_over_scalars_are_even.ensures in
+    let evens = c.blocks_over_values_are_even.ensures in
     let many_are : c.len.result ≡ length c.in_ok-frame.frame.items = omega (arith, c.len.ensures, c.in_ok-frame.frame.ok) in
     let made = c.in_ok-blocks.ensures t.implementation t.procedure t.impl_there t.proc_there in
     let frame = c.in_ok-frame.ensures t.implementation t.procedure t.impl_there t.proc_there in
@@ -35,18 +36,17 @@ unreachable-requires c =
     (λ rs k. (c.in_ok-passive.ensures.arrivals rs k, (c.in_ok-passive.ensures.counted rs k, record { blocks = c.in_ok-passive.ensures.blocks rs k; firsts = c.in_ok-passive.ensures.firsts rs k }))) c.in_ok-incarnations.ensures.types in
     let ps = map passive_block_of c.in_ok-passive.passive.blocks.items in
     let passives = passives_made p n t.implementation t.procedure t.impl_there t.proc_there evens c.requires.typed c.requires.scalars c.in_ok-blocks.blocks.items made c.in_ok-passive.passive x.0 in
-    let tabled = c.programs_over_scalars_are_tabled.ensures P c.requires.typed c.requires.scalars in
-    let mapless = c.implementations_over_scalars_have_no_maps.ensures.mapless P n m q c.requires.typed c.requires.scalars im pr in
-    let plain = λ (none : p.functions ≡ []). plain_here P n m q ps passives c.implementations_without_functions_stay.ensures.plain tabled im pr mapless (no_functions p none) in
+    let tabled = c.programs_over_values_are_tabled.ensures P c.requires.typed c.requires.scalars in
     let incs = map ref_in c.deref-4.result.now in
     let these : incs ≡ incarnations_in P n m q = ap (map ref_in) c.deref-4.ensures.value ∙ x.1.0 in
+    let plain = λ (none : p.functions ≡ []) (mapless : are_mapless incs ≡ true). plain_here P n m q ps passives c.implementations_without_functions_stay.ensures.plain tabled im pr (ap are_mapless (sym these) ∙ mapless) (no_functions p none) in
     let gives : map ref_in c.deref-5.result.now ≡ map result_ty P.functions = ap (map ref_in) c.deref-5.ensures.value ∙ c.in_ok-results.ensures in
     let terms = terms_are P n m q incs ps these passives (table.terms_in P.functions c.in_ok-terms.field-0.terms.items) (c.in_ok-terms.ensures.terms plain P.functions gives) in
     let flats = flats_are P n m q incs ps these passives (map passive_block_of c.in_ok-terms.field-0.blocks.items) (c.in_ok-terms.ensures.blocks plain P.functions gives) in
     let kinds = types_all P n m q (map ref_in c.in_ok-incarnations.incarnations.items) (table.terms_in P.functions c.deref-7.result.now) (map ref_in c.in_ok-kinds.kinds.items) x.1.0 (ap (table.terms_in P.functions) c.deref-7.ensures.value ∙ terms) (c.in_ok-kinds.ensures P.functions (ap (map ref_in) c.deref-6.ensures.value ∙ c.in_ok-results.ensures)) in
     let sorts = sorts_all P n m q (map ref_in c.deref-8.result.now) c.in_ok-sorts.sorts.items (ap (map ref_in) c.deref-8.ensures.value ∙ kinds) c.in_ok-sorts.ensures in
     let blocks = behind_none P n m q (map passive_block_of c.deref-10.result.now) (ap (map passive_block_of) c.deref-10.ensures.value ∙ flats) in
-    let law = sort_law c.programs_over_scalars_are_tabled.ensures c.implementations_over_scalars_have_no_maps.ensures.mapless c.passive_blocks_have_terms.ensures c.implementations_over_scalars_have_no_maps.ensures.linear c.blocks_behind_lines_are_sorted.ensures in
+    let law = sort_law c.passive_blocks_have_terms.ensures c.passive_blocks_are_linear.ensures c.blocks_behind_lines_are_sorted.ensures in
     let sorted = sorted_own law P n m q [] c.requires.typed c.requires.scalars im pr c.deref-9.result.now c.in_ok-candidates.candidates (map passive_block_of c.deref-10.result.now) (c.deref-9.ensures.value ∙ sorts) c.in_ok-candidates.ensures blocks in
     let bad : false ≡ true = sym (ap is_some c.in_default.is) ∙ (c.in_ok-atoms.ensures.none ∙ sorted) in
     cc
@@ -64,7 +64,7 @@ returns c =
     let q = mean.proc_of (named_of p.types) t.procedure in
     let im = impl_is p n t.implementation t.procedure t.impl_there t.proc_there in
     let pr = proc_is p n t.implementation t.procedure t.impl_there t.proc_there in
-    let evens = c.blocks_over_scalars_are_even.ensures in
+    let evens = c.blocks_over_values_are_even.ensures in
     let many_are : c.len.result ≡ length c.in_ok-frame.frame.items = omega (arith, c.len.ensures, c.in_ok-frame.frame.ok) in
     let made = c.in_ok-blocks.ensures t.implementation t.procedure t.impl_there t.proc_there in
     let frame = c.in_ok-frame.ensures t.implementation t.procedure t.impl_there t.proc_there in
@@ -72,11 +72,10 @@ returns c =
     (λ rs k. (c.in_ok-passive.ensures.arrivals rs k, (c.in_ok-passive.ensures.counted rs k, record { blocks = c.in_ok-passive.ensures.blocks rs k; firsts = c.in_ok-passive.ensures.firsts rs k }))) c.in_ok-incarnations.ensures.types in
     let ps = map passive_block_of c.in_ok-passive.passive.blocks.items in
     let passives = passives_made p n t.implementation t.procedure t.impl_there t.proc_there evens c.requires.typed c.requires.scalars c.in_ok-blocks.blocks.items made c.in_ok-passive.passive x.0 in
-    let tabled = c.programs_over_scalars_are_tabled.ensures P c.requires.typed c.requires.scalars in
-    let mapless = c.implementations_over_scalars_have_no_maps.ensures.mapless P n m q c.requires.typed c.requires.scalars im pr in
-    let plain = λ (none : p.functions ≡ []). plain_here P n m q ps passives c.implementations_without_functions_stay.ensures.plain tabled im pr mapless (no_functions p none) in
+    let tabled = c.programs_over_values_are_tabled.ensures P c.requires.typed c.requires.scalars in
     let incs = map ref_in c.deref-4.result.now in
     let these : incs ≡ incarnations_in P n m q = ap (map ref_in) c.deref-4.ensures.value ∙ x.1.0 in
+    let plain = λ (none : p.functions ≡ []) (mapless : are_mapless incs ≡ true). plain_here P n m q ps passives c.implementations_without_functions_stay.ensures.plain tabled im pr (ap are_mapless (sym these) ∙ mapless) (no_functions p none) in
     let gives : map ref_in c.deref-5.result.now ≡ map result_ty P.functions = ap (map ref_in) c.deref-5.ensures.value ∙ c.in_ok-results.ensures in
     let terms = terms_are P n m q incs ps these passives (table.terms_in P.functions c.in_ok-terms.field-0.terms.items) (c.in_ok-terms.ensures.terms plain P.functions gives) in
     let flats = flats_are P n m q incs ps these passives (map passive_block_of c.in_ok-terms.field-0.blocks.items) (c.in_ok-terms.ensures.blocks plain P.functions gives) in
@@ -97,9 +96,10 @@ returns c =
       firsts = x.0.firsts;
       count = x.1.1;
       terms = terms;
-      flats = λ some. ap (λ v. map passive_block_of v.items) (c.kept-flats.ensures (λ none. some (sym c.deref-11.ensures.value ∙ none))) ∙ flats;
+      flats =
+          λ some. ap (λ v. map passive_block_of v.items) (c.kept-flats.ensures (λ bare. some (sym c.deref-11.ensures.value ∙ bare.0, ap are_mapless (sym (ap (map ref_in) c.deref-12.ensures.value)) ∙ bare.1))) ∙ flats;
       kinds = kinds;
       sorts = sorts;
       own = own_here P n m q [] c.deref-9.result.now c.in_ok-candidates.candidates (map passive_block_of c.deref-10.result.now) c.in-Some.atoms (c.deref-9.ensures.value ∙ sorts) c.in_ok-candidates.ensures blocks encoding exact listed;
-      targets = targets_all P n m q (map ref_in c.deref-12.result.now) (table.terms_in P.functions c.deref-13.result.now) c.in_ok-targets.targets.items (ap (map ref_in) c.deref-12.ensures.value ∙ kinds) (ap (table.terms_in P.functions) c.deref-13.ensures.value ∙ terms) (c.in_ok-targets.ensures P.functions);
+      targets = targets_all P n m q (map ref_in c.deref-13.result.now) (table.terms_in P.functions c.deref-14.result.now) c.in_ok-targets.targets.items (ap (map ref_in) c.deref-13.ensures.value ∙ kinds) (ap (table.terms_in P.functions) c.deref-14.ensures.value ∙ terms) (c.in_ok-targets.ensures P.functions);
     }

@@ -5,5 +5,5 @@ use Rattle.bg_termed.proofs.laws.flat_blocks_of_programs_are_plain.Goals as goal
 
 pub returns : goal.returns
 returns c p k m q t o im pr =
-    let are = c.passive_blocks_have_terms.ensures p k m q (c.programs_over_scalars_are_tabled.ensures p t o) im pr (c.implementations_over_scalars_have_no_maps.ensures.mapless p k m q t o im pr) in
+    let are = c.passive_blocks_have_terms.ensures p k m q t o im pr in
     flats_plain (types_in p k m q) (count_in p k m q) (terms_in p k m q) (passives_in p k m q) (flats_in p k m q) are.blocks

@@ -1,8 +1,8 @@
-use Rattle.std.proofs.Common.{◌≡◌, ◌++◌, drop, flat_map, map}
-use Rattle.bg_scalar.specs.Values.{val_of}
-use Rattle.bg_told.specs.Lines.{part_text}
-use Rattle.bg_told.specs.Entries.{types_in}
+use Rattle.std.proofs.Common.{◌≡◌, ◌++◌, drop, map}
+use Rattle.bg_kinds.specs.Views.{ref_in}
+use Rattle.bg_told.specs.Lines.{texts}
+use Rattle.bg_told.specs.Entries.{types_in, part_behind}
 use Rattle.bg_told.proofs.functions.put_parts.Given as goal
 
-abbrev pub invariant-loop-part : goal.invariant-loop-part
-invariant-loop-part l = l.out.items ++ flat_map (part_text (types_in l.types)) (map val_of (drop l.part-index l.parts)) ≡ l.fn.out.items ++ flat_map (part_text (types_in l.types)) (map val_of l.parts)
+abbrev pub invariant-loop-i : goal.invariant-loop-i
+invariant-loop-i l = l.out.items ++ texts (part_behind (types_in l.types)) (map ref_in (drop l.i l.kinds)) (drop l.i l.parts) ≡ l.fn.out.items ++ texts (part_behind (types_in l.types)) (map ref_in l.kinds) l.parts

@@ -3,7 +3,7 @@ use Rattle.bg_ast.specs.Syntax.{Prog}
 use Rattle.bg_ast.specs.Meaning.{meaning_of}
 use Rattle.bg_sense.specs.Typed.{IsTyped}
 use Rattle.bg_sense.specs.Resolved.{IsResolved}
-use Rattle.bg_fits.specs.Scalars.{is_over_scalars}
+use Rattle.bg_fits.specs.Valued.{is_over_values}
 use Rattle.bg_expanded.specs.Chains.{most_bodies}
 use Rattle.bg_inference.specs.Outcomes.{judged_program}
 use Rattle.bg_inference.specs.Told.{outcome_of}
@@ -17,9 +17,9 @@ returns c = λ budget other p o q words openable x y m n.
     let f = c.true_outcomes_are_sound.ensures budget p o words openable x in
     let g = c.true_outcomes_are_sound.ensures other p q words openable y in
     let means = sym (program_means most_bodies p) in
-    let over = c.opened_programs_are_over_scalars.ensures in
+    let over = c.opened_programs_are_over_values.ensures in
     let typed : IsTyped (meaning_of (judged_program p)) = subst IsTyped means (over.typed most_bodies P openable) in
-    let scalars : is_over_scalars true (meaning_of (judged_program p)) ≡ true = subst (λ (s : Prog). is_over_scalars true s ≡ true) means (over.scalars most_bodies P openable) in
+    let scalars : is_over_values (meaning_of (judged_program p)) ≡ true = subst (λ (s : Prog). is_over_values s ≡ true) means (over.scalars most_bodies P openable) in
     let resolved : IsResolved (meaning_of (judged_program p)) = subst IsResolved means (over.resolved most_bodies P openable) in
     lines_agree budget other p o q words x y f g (parts (outcome_of words P o) m) (parts (outcome_of words P q) n)
     (λ a b. c.outcomes_agree.ensures budget other (judged_program p) o.judged q.judged typed scalars resolved x.judged y.judged a b)

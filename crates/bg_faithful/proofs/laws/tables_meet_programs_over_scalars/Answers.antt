@@ -1,5 +1,0 @@
-use Rattle.bg_faithful.proofs.Meets.{met}
-use Rattle.bg_faithful.proofs.laws.tables_meet_programs_over_scalars.Goals as goal
-
-pub returns : goal.returns
-returns c = met

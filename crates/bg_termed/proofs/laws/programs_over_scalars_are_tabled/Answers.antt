@@ -1,5 +1,0 @@
-use Rattle.bg_termed.proofs.Tabled.{tabled}
-use Rattle.bg_termed.proofs.laws.programs_over_scalars_are_tabled.Goals as goal
-
-pub returns : goal.returns
-returns c p t o = tabled p o t

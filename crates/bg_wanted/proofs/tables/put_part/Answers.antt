@@ -1,0 +1,5 @@
+use Rattle.std.proofs.lemmas.Int.{to_z-of_z}
+use Rattle.bg_wanted.proofs.tables.put_part.Goals as goal
+
+pub returns : goal.returns
+returns c = simp (to_z-of_z, c.ranges.z) at c.in_ok-push.ensures.items

@@ -1,0 +1,14 @@
+pub mod Scalars
+pub mod Settled
+pub mod Wanting
+pub mod Classes
+pub mod Rows
+pub mod Firsts
+pub mod Updates
+pub mod Telling
+pub mod Selects
+pub mod Asked
+pub mod Behind
+pub mod Alike
+pub mod Answers
+pub mod Chased
