@@ -5,21 +5,21 @@ usage: maps.py --bg COMMAND [--count N] [--seed N]
 
 Two variables get updates of unknown maps, behind a bracket or two, at indices that are parameters, which differ or not, or numbers, with
 values that are written out, parameters, or selects of the unknown maps; it is claimed that both are the same, that rows of them are, that
-they are at some indices, or that one of them has some value there. Which of this holds is seen by trying which parameters are the same, with maps
-that have another value at each index. A verdict against that is a failure; so is an unknown one,
-and a counterexample of which the judge says something wrong. Chains of updates come besides: eight are verified within ten seconds, and
-two hundred at indices of which nothing is known end in some way. The last line is `N passed, M failed`.
+they are at some indices, or that one of them has some value there. Which of this holds is seen by trying which parameters are the same,
+with maps that have another value at each index. A verdict against that is a failure; so is an unknown one, and a counterexample of which
+the judge says something wrong. Chains of updates come besides: eight are verified within ten seconds of processor time, and two hundred
+at indices of which nothing is known end in some way. The last line is `N passed, M failed`.
 """
 import argparse
 import itertools
 import os
 import random
 import re
+import resource
 import shlex
 import subprocess
 import sys
 import tempfile
-import time
 
 import judge
 
@@ -147,13 +147,19 @@ def chain(count, differ):
     return "\n".join([*lines, "  assert x == y;", "}", ""])
 
 
+def spent():
+    """The processor seconds of the programs that have ended."""
+    used = resource.getrusage(resource.RUSAGE_CHILDREN)
+    return used.ru_utime + used.ru_stime
+
+
 def reported(bg, path, text, words=()):
-    """What is reported of a program, its status, and how many seconds it took."""
+    """What is reported of a program, its status, and how many seconds of processor time it took."""
     with open(path, "w", encoding="ascii") as file:
         file.write(text)
-    start = time.monotonic()
+    start = spent()
     ran = subprocess.run([*shlex.split(bg), "verify", *words, path], capture_output=True, timeout=600)
-    return ran.stdout.decode("latin-1"), ran.returncode, time.monotonic() - start
+    return ran.stdout.decode("latin-1"), ran.returncode, spent() - start
 
 
 def fault_of(text, report, holds):
