@@ -4,6 +4,7 @@
 #![tactic(auto)]
 
 mod attempt;
+mod claimed;
 mod dropping;
 mod failing;
 mod fitting;
@@ -17,6 +18,7 @@ mod place;
 mod relevant;
 mod replayed;
 mod rounds;
+mod spoken;
 mod verdict;
 
 pub use implementation::{judge_ordinary, judge_places};

@@ -22,8 +22,8 @@ use crate::attempt::attempt;
 use crate::failing::{Met, failing};
 use crate::found::Found;
 use crate::leaf::{leaf_scalars, leaf_truths};
-use crate::relevant::relevant;
 use crate::replayed::replayed;
+use crate::spoken::{hints_of, spoken_of};
 use crate::verdict::{Cause, Round};
 use bg_faithful::laws::clauses_of_encodings_are_whole;
 use bg_finish::{Finish, finish};
@@ -36,7 +36,6 @@ use bg_termed::laws::{
     programs_over_values_are_tabled, types_over_values_are_indexed,
 };
 use bg_tree::{Budget, Leaf, Outcome};
-use bg_wanted::Hints;
 use std::alloc::{AllocError, Global};
 
 /// What a complete leaf of a place's clauses behind lines comes to.
@@ -70,12 +69,14 @@ fn leaf_found(
         incarnations: lined.incarnations,
         results: &lined.results,
     };
-    let marks = relevant(alloc, f, &lined.sorts, &lined.terms)?;
-    let hints = Hints {
-        beside: &question.prepared.beside,
-        marks: &marks,
-    };
-    match finish(alloc, around, &lined.terms, &scalars, hints)? {
+    let spoken = spoken_of(alloc, question, lines, f, &lined)?;
+    match finish(
+        alloc,
+        around,
+        &lined.terms,
+        &scalars,
+        hints_of(question, &spoken),
+    )? {
         Finish::Tables(values, tables) => {
             let met = Met {
                 clauses: f,

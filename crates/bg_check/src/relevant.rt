@@ -6,14 +6,14 @@ use bg_term_table::{Head, Term, local};
 use std::alloc::{AllocError, Global};
 
 /// Marks what has this number, if it is there.
-fn mark(marks: &mut [bool], j: usize) {
+pub fn mark(marks: &mut [bool], j: usize) {
     if j < marks.len() {
         marks[j] = true;
     }
 }
 
 /// Whether what has this number is there and marked.
-fn is_marked(marks: &[bool], j: usize) -> bool {
+pub fn is_marked(marks: &[bool], j: usize) -> bool {
     match marks.get(j) {
         None => false,
         Some(b) => *b,
@@ -92,7 +92,7 @@ fn mark_reads(marks: &mut [bool], es: &[Expr]) {
 }
 
 /// Whether a term is an update.
-fn is_update(t: &Term) -> bool {
+pub fn is_update(t: &Term) -> bool {
     match t.head {
         Head::Updates(_, _) => true,
         _ => false,

@@ -12,7 +12,6 @@ use Rattle.bg_terms.specs.Alike.{scalar_ty}
 use Rattle.bg_terms.specs.Typed.{TermsTyped, types_with}
 use Rattle.bg_terms.specs.Instances as i
 use Rattle.bg_terms.specs.Instances.{term, equal, all_equal, congruent, instance_ex}
-use Rattle.bg_terms.specs.Built.{built}
 use Rattle.bg_terms.specs.Closed.{IsFinished}
 use Rattle.bg_terms.proofs.Heads.{head_refl}
 use Rattle.bg_terms.proofs.True.{equal_back}
@@ -30,7 +29,7 @@ use Rattle.bg_wanted.specs.Rows.{RowOf, AreRows}
 use Rattle.bg_wanted.specs.Firsts.{IsApart}
 use Rattle.bg_wanted.specs.Updates.{AreSettled}
 use Rattle.bg_wanted.specs.Wanting.{Each, IsWanted, IsWanting}
-use Rattle.bg_wanted.specs.Alike.{AreApart, IsAlike}
+use Rattle.bg_wanted.specs.Alike.{AreApart, AreOfOne, IsAlike}
 use Rattle.bg_wanted.proofs.ClassLaws.{one_class}
 use Rattle.bg_wanted.proofs.Settlement.{Its, of_row, functions, here, elsewhere, rows_settled}
 use Rattle.bg_wanted.proofs.Settling.{finished, settled}
@@ -177,19 +176,31 @@ indexed_at (u ∷ tys) zero t h e =
     ap is_indexed (sym same) ∙ and_left (is_indexed u) (are_indexed tys) h
 indexed_at (u ∷ tys) (suc j) t h e = indexed_at tys j t (and_right (is_indexed u) (are_indexed tys) h) e
 
-pub names_wanted : (incs : List Ty) (ts : List Term) (s : List Val) (pair : Pair) (one two : ℕ) → are_indexed (types_with incs ts) ≡ true → IsAlike s (length incs) ts (types_with incs ts) pair → one ≡ length ts + pair.parts → two ≡ one + 1 → IsWanting incs ts s (Names pair.first pair.second ∷ Says (i.Apart one two) ∷ [])
-names_wanted incs ts s pair one two indexed w at next =
+pub names_wanted : (incs : List Ty) (ts : List Term) (s : List Val) (a b parts one two : ℕ) → are_indexed (types_with incs ts) ≡ true → AreOfOne (types_with incs ts) a b parts → one ≡ length ts + parts → two ≡ one + 1 → (IsFinished s (length incs) ts (types_with incs ts) → ⊥) → IsWanting incs ts s (Names a b ∷ Says (i.Apart one two) ∷ [])
+names_wanted incs ts s a b parts one two indexed w at next unfinished =
     by w.keys refl
   where
-    by : (keys : List KeyType) → w.keys ≡ keys → IsWanting incs ts s (Names pair.first pair.second ∷ Says (i.Apart one two) ∷ [])
+    by : (keys : List KeyType) → w.keys ≡ keys → IsWanting incs ts s (Names a b ∷ Says (i.Apart one two) ∷ [])
     by [] e =
-        let none : is_indexed (MapTy w.keys w.gives) ≡ true = indexed_at (types_with incs ts) pair.first (MapTy w.keys w.gives) indexed w.first in
+        let none : is_indexed (MapTy w.keys w.gives) ≡ true = indexed_at (types_with incs ts) a (MapTy w.keys w.gives) indexed w.first in
         let bad : false ≡ true = sym (ap (λ ks. is_indexed (MapTy ks w.gives)) e) ∙ none in
         absurd (let no : ⊥ = cc in no)
     by (k ∷ ks) e =
-        let parts : pair.parts ≡ length (k ∷ ks) = w.parts ∙ ap length e in
-        wanted_names incs ts s k ks w.gives pair.first pair.second (w.first ∙ ap (λ l. Some (MapTy l w.gives)) e) (w.second ∙ ap (λ l. Some (MapTy l w.gives)) e) one two (omega (arith, at, parts)) (omega (arith, next)) w.differ
-        (ap (λ l. val_eq (built s (length incs) ts (MapTy l w.gives) (value_at s pair.first)) (built s (length incs) ts (MapTy l w.gives) (value_at s pair.second))) (sym e) ∙ w.alike)
+        let many : parts ≡ length (k ∷ ks) = w.its_parts ∙ ap length e in
+        wanted_names incs ts s k ks w.gives a b (w.first ∙ ap (λ l. Some (MapTy l w.gives)) e) (w.second ∙ ap (λ l. Some (MapTy l w.gives)) e) one two (omega (arith, at, many)) (omega (arith, next)) unfinished
+
+-- two maps with different numbers and one table are of one type, and the terms aren't finished
+module _ (s : List Val) (n : ℕ) (ts : List Term) (tys : List Ty) (pair : Pair) (w : IsAlike s n ts tys pair) where
+  pub alike_of_one : AreOfOne tys pair.first pair.second pair.parts
+  alike_of_one =
+      record { keys = w.keys; gives = w.gives; first = w.first; second = w.second; its_parts = w.parts }
+
+  pub alike_unfinished : IsFinished s n ts tys → ⊥
+  alike_unfinished done =
+      let apart = done.apart pair.first pair.second w.keys w.gives w.first w.second w.differ in
+      let bad : false ≡ true = sym apart ∙ w.alike in
+      let no : ⊥ = cc in
+      no
 
 -- ---- lists as the code has them
 

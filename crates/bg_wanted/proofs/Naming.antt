@@ -1,14 +1,13 @@
--- Names of an index at which two maps with one table differ.
+-- Names of an index at which two maps differ.
 use Rattle.std.proofs.Common.{◌≡◌, ℕ, zero, suc, ◌+◌, ◌-◌, ◌<◌, ◌≤◌, Bool, true, false, List, [], ◌∷◌, ◌++◌, length, Some, refl, sym, ap, ◌∙◌, subst, arith, inl, inr, ⊎_elim}
 use Rattle.std.specs.Prelude.{slice_get, nat_lt, ◌&&◌, ◌||◌, ◌==◌, ◌⊎◌}
 use Rattle.std.proofs.lemmas.Bool.{eq-eqb}
 use Rattle.std.proofs.lemmas.Bool.Decides.{nat_tests}
-use Rattle.bg_ast.specs.Values.{Val, Ty, MapTy, KeyType, val_eq}
-use Rattle.bg_sense.specs.Eval.{value_at}
+use Rattle.bg_ast.specs.Values.{Val, Ty, MapTy, KeyType}
 use Rattle.bg_terms.specs.Terms.{Term}
 use Rattle.bg_terms.specs.Typed.{types_with}
 use Rattle.bg_terms.specs.Instances.{Apart}
-use Rattle.bg_terms.specs.Built.{built}
+use Rattle.bg_terms.specs.Closed.{IsFinished}
 use Rattle.bg_terms.proofs.Heads.{kinds_refl}
 use Rattle.bg_terms.proofs.Typed.{at_back}
 use Rattle.bg_numbered.specs.Lines.{Names, Says, select_from, parts_from, reads_from, names_at, if_fit, names_by, named, is_any, is_within, are_there}
@@ -115,17 +114,16 @@ module _ (incs : List Ty) (ts : List Term) (s : List Val) (k : KeyType) (ks : Li
                 on true q = inl (grind (arith, nat_tests, q))
                 on false q = let off : (b ≡ one → ⊥) = λ z. let y = eq-eqb b one z in let bad : false ≡ true = sym q ∙ y in let no : ⊥ = cc in no in inr (omega (arith, g, h, also, off))
 
-    -- such names are wanted where both maps have one table
-    pub wanted_names : val_eq (value_at s m) (value_at s o) ≡ false → val_eq (built s (length incs) ts (MapTy (k ∷ ks) t) (value_at s m)) (built s (length incs) ts (MapTy (k ∷ ks) t) (value_at s o)) ≡ true → IsWanting incs ts s (Names m o ∷ Says (Apart one two) ∷ [])
-    wanted_names differ alike =
+    -- such names are wanted where the terms aren't finished
+    pub wanted_names : (IsFinished s (length incs) ts (types_with incs ts) → ⊥) → IsWanting incs ts s (Names m o ∷ Says (Apart one two) ∷ [])
+    wanted_names unfinished =
         record {
           there = there;
           some = omega arith;
           wanted = (inr fresh, tt);
           used =
               λ a. subst (λ l. length ts ≤ a → a < length l → are_naming (length incs) l a (Apart one two ∷ []) ≡ true) (sym (none us)) (named_all a);
-          unfinished =
-              λ done. let apart = done.apart m o (k ∷ ks) t first second differ in let bad : false ≡ true = sym apart ∙ alike in let no : ⊥ = cc in no;
+          unfinished = unfinished;
         }
       where
         none : {A : Type 0} (xs : List A) → xs ++ [] ≡ xs

@@ -22,6 +22,14 @@ abbrev pub map_type_in : Ty → Option (List KeyType × Ty)
 map_type_in (MapTy ks t) = Some (ks, t)
 map_type_in _ = None
 
+-- maps of one type, whose index has so many parts
+pub record AreOfOne (tys : List Ty) (a b parts : ℕ) : Type 0 where
+  pub keys : List KeyType
+  pub gives : Ty
+  pub first : slice_get tys a ≡ Some (MapTy keys gives)
+  pub second : slice_get tys b ≡ Some (MapTy keys gives)
+  pub its_parts : parts ≡ length keys
+
 module _ (s : List Val) (n : ℕ) (ts : List Term) (tys : List Ty) where
   -- maps of one type with different numbers are built different
   abbrev pub AreApart : Type 0

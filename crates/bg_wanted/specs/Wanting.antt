@@ -54,3 +54,7 @@ pub record IsWanting (incs : List Ty) (ts : List Term) (s : List Val) (ls : List
       (a : ℕ) → length ts ≤ a → a < length (after_lines incs ts ls) →
       are_naming (length incs) (after_lines incs ts ls) a (instances_in ls) ≡ true
   pub unfinished : IsFinished s (length incs) ts (types_with incs ts) → ⊥
+
+-- lines that are wanted where the terms aren't finished
+abbrev pub WantsUnlessFinished : List Ty → List Term → List Val → List Line → Type 0
+WantsUnlessFinished incs ts s ls = (IsFinished s (length incs) ts (types_with incs ts) → ⊥) → IsWanting incs ts s ls

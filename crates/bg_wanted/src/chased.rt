@@ -1,5 +1,5 @@
 //! What a leaf wants along updates.
-ghost use Rattle.std.specs.Prelude.{◌≡◌, ◌++◌, List, length, IfOk, OnOk};
+ghost use Rattle.std.specs.Prelude.{◌≡◌, ◌++◌, List, IfOk, OnOk};
 ghost use Rattle.bg_ast.specs.Values.{Ty};
 ghost use Rattle.bg_ast.specs.Syntax.{Fun};
 ghost use Rattle.bg_term_table.specs.Lines.{lines_of};
@@ -8,56 +8,72 @@ ghost use Rattle.bg_wanted.specs.Scalars.{scalars_in};
 ghost use Rattle.bg_wanted.specs.Wanting.{IsWanting};
 ghost use Rattle.bg_wanted.specs.Chased.{IsSighted, Keeps, KeepsLost};
 
-use crate::class::number;
+use crate::class::{Class, number};
 use crate::false_here::is_pair_lost;
+use crate::paths::later;
 use crate::way::{Sighted, Way, along, no_step};
 use bg_term_table::Line;
 use std::alloc::{AllocError, Global};
 
-/// Whether a place's clauses speak of the term at this place.
-fn is_marked(sight: Sighted<'_>, a: usize) -> bool {
+/// Whether the term at this place is marked.
+fn is_marked(sight: Sighted<'_>, marks: &[bool], a: usize) -> bool {
     match a.checked_add(sight.count as usize) {
         None => false,
-        Some(j) => match sight.hints.marks.get(j) {
+        Some(j) => match marks.get(j) {
             None => false,
             Some(b) => *b,
         },
     }
 }
 
-/// Whether a place's clauses speak of the term at this place, or, where that is asked, whether they don't.
-fn is_asked(sight: Sighted<'_>, a: usize, marked: bool) -> bool {
-    is_marked(sight, a) == marked
+/// Whether the term at this place is marked, or, where that is asked, whether it isn't.
+fn is_asked(sight: Sighted<'_>, marks: &[bool], marked: bool, a: usize) -> bool {
+    is_marked(sight, marks, a) == marked
 }
 
-/// Along all updates from the select at this place, if a place's clauses speak of it, or if they don't.
+/// Along all updates from the select at this place, if it is marked, or if it isn't.
 fn along_marked(
     alloc: Global,
     sight: Sighted<'_>,
     way: &mut Way,
+    marks: &[bool],
     marked: bool,
     a: usize,
 ) -> Result<(), AllocError>
     ensures { OnOk result (Keeps sight.entry way.old way.new) }
 {
-    if !is_asked(sight, a, marked) {
+    if !is_asked(sight, marks, marked, a) {
         return Ok(());
     }
     along(alloc, sight, way, number(a)?)?;
     Ok(())
 }
 
-/// Along all updates from each select of which a place's clauses speak, or of which they don't.
+/// Along all updates from each select that is marked, or from each that isn't.
 fn along_all(
     alloc: Global,
     sight: Sighted<'_>,
     way: &mut Way,
+    marks: &[bool],
     marked: bool,
 ) -> Result<(), AllocError>
     ensures { OnOk result (Keeps sight.entry way.old way.new) }
 {
     for a in 0..sight.rows.len() {
-        along_marked(alloc, sight, way, marked, a)?;
+        along_marked(alloc, sight, way, marks, marked, a)?;
+    }
+    Ok(())
+}
+
+/// Along all updates from each select that a new value reads which was met, and so on.
+fn along_later(alloc: Global, sight: Sighted<'_>, way: &mut Way) -> Result<(), AllocError>
+    ensures { OnOk result (Keeps sight.entry way.old way.new) }
+{
+    for _ in 0..sight.rows.len() {
+        match later(&mut way.paths) {
+            None => return Ok(()),
+            Some(a) => along(alloc, sight, way, a)?,
+        }
     }
     Ok(())
 }
@@ -68,27 +84,69 @@ fn is_silent(way: &Way) -> bool {
 }
 
 /// Along all updates from the selects of which a place's clauses speak, and, where nothing is told of these, from the others.
-fn all_ways(alloc: Global, sight: Sighted<'_>, way: &mut Way) -> Result<(), AllocError>
+fn along_clauses(alloc: Global, sight: Sighted<'_>, way: &mut Way) -> Result<(), AllocError>
     ensures { OnOk result (Keeps sight.entry way.old way.new) }
 {
-    along_all(alloc, sight, way, true)?;
+    along_all(alloc, sight, way, sight.hints.marks, true)?;
     if is_silent(way) {
-        along_all(alloc, sight, way, false)?;
+        along_all(alloc, sight, way, sight.hints.marks, false)?;
         return Ok(());
     }
     Ok(())
 }
 
-/// This line, if it is the congruence of a function and false.
-fn put_function(sight: Sighted<'_>, lost: &mut Vec<Line>, l: Line) -> Result<(), AllocError>
+/// The same where nothing is told yet, and else nothing.
+fn along_rest(alloc: Global, sight: Sighted<'_>, way: &mut Way) -> Result<(), AllocError>
+    ensures { OnOk result (Keeps sight.entry way.old way.new) }
+{
+    if is_silent(way) {
+        along_clauses(alloc, sight, way)?;
+        return Ok(());
+    }
+    Ok(())
+}
+
+/// Along all updates from the selects of which a place's claim speaks, and from what the new values read that are met there.
+fn along_claim(alloc: Global, sight: Sighted<'_>, way: &mut Way) -> Result<(), AllocError>
+    ensures { OnOk result (Keeps sight.entry way.old way.new) }
+{
+    along_all(alloc, sight, way, sight.hints.first, true)?;
+    along_later(alloc, sight, way)?;
+    Ok(())
+}
+
+/// Whether the term at this place is of a function, or the place's claim speaks of it.
+fn is_near(sight: Sighted<'_>, a: u32) -> bool {
+    match sight.rows.get(a as usize) {
+        None => false,
+        Some(row) => match row.class {
+            Class::Function(_) => true,
+            _ => is_marked(sight, sight.hints.first, a as usize),
+        },
+    }
+}
+
+/// The congruence of these terms, if it is false.
+fn put_pair(sight: Sighted<'_>, lost: &mut Vec<Line>, a: u32, b: u32) -> Result<(), AllocError>
+    ensures { OnOk result (KeepsLost sight.entry lost.old.items lost.new.items) }
+{
+    if is_pair_lost(sight.rows, a, b) {
+        lost.push(Line::Congruent(a, b))?;
+        return Ok(());
+    }
+    Ok(())
+}
+
+/// This line, if it is a congruence that is false, of functions or of what the place's claim speaks of.
+fn put_near(sight: Sighted<'_>, lost: &mut Vec<Line>, l: Line) -> Result<(), AllocError>
     ensures { OnOk result (KeepsLost sight.entry lost.old.items lost.new.items) }
 {
     match l {
         Line::Pick(_, _) => Ok(()),
         Line::Names(_, _) => Ok(()),
         Line::Congruent(a, b) => {
-            if is_pair_lost(sight.rows, a, b) {
-                lost.push(Line::Congruent(a, b))?;
+            if is_near(sight, a) || is_near(sight, b) {
+                put_pair(sight, lost, a, b)?;
                 return Ok(());
             }
             Ok(())
@@ -99,12 +157,12 @@ fn put_function(sight: Sighted<'_>, lost: &mut Vec<Line>, l: Line) -> Result<(),
     }
 }
 
-/// The congruences of functions among lines.
-fn put_functions(sight: Sighted<'_>, lost: &mut Vec<Line>, lines: &[Line]) -> Result<(), AllocError>
+/// The congruences of functions and of what the place's claim speaks of among lines.
+fn put_all_near(sight: Sighted<'_>, lost: &mut Vec<Line>, lines: &[Line]) -> Result<(), AllocError>
     ensures { OnOk result (KeepsLost sight.entry lost.old.items lost.new.items) }
 {
     for l in lines {
-        put_function(sight, lost, *l)?;
+        put_near(sight, lost, *l)?;
     }
     Ok(())
 }
@@ -118,18 +176,17 @@ fn all_told(way: Way) -> Result<Vec<Line>, AllocError>
     Ok(made)
 }
 
-/// What is wanted at a leaf that isn't finished, at which these lines are wanted: from each select of which the place's clauses speak along
-/// the updates that make its map, what is false or comes in there, with what is false of functions; where that is nothing the same of the
-/// other selects; and else the lines.
+/// What is wanted at a leaf that isn't finished, at which these lines are wanted: from each select of which the place's claim speaks, and
+/// from those that new values on the way read, along the updates that make its map, what is false or comes in there, with those of the lines
+/// that are congruences of functions and of what the claim speaks of; where that is nothing, the same along the updates from the selects of
+/// which the place's clauses speak, then from the others; and else the lines.
 pub fn chased(alloc: Global, sight: Sighted<'_>, lines: Vec<Line>) -> Result<Vec<Line>, AllocError>
     ensures { IfOk result (λ made. (fs : List Fun) (incs : List Ty) → IsSighted fs incs sight.entry → IsWanting incs (terms_in fs sight.entry.terms.now) (scalars_in sight.entry.values.now) (lines_of lines.items) → IsWanting incs (terms_in fs sight.entry.terms.now) (scalars_in sight.entry.values.now) (lines_of made.items)) }
 {
     let mut way = no_step(alloc, sight)?;
-    all_ways(alloc, sight, &mut way)?;
-    if is_silent(&way) {
-        return Ok(lines);
-    }
-    put_functions(sight, &mut way.lost, &lines)?;
+    along_claim(alloc, sight, &mut way)?;
+    put_all_near(sight, &mut way.lost, &lines)?;
+    along_rest(alloc, sight, &mut way)?;
     let made = all_told(way)?;
     if made.is_empty() {
         return Ok(lines);

@@ -1,6 +1,6 @@
 //! Which instances of terms are false at a leaf.
 ghost use Rattle.std.specs.Prelude.{◌≡◌, ◌==◌, true, MatchOption};
-ghost use Rattle.bg_wanted.specs.declared.class.Class.TheVariants.{Function, Select};
+ghost use Rattle.bg_wanted.specs.declared.class.Class.TheVariants.{Select};
 ghost use Rattle.bg_wanted.specs.Rows.{row_of, rows_of};
 ghost use Rattle.bg_wanted.specs.Asked.{IsOf};
 ghost use Rattle.bg_wanted.specs.Chased.{IsSelect, IsSelectAt, IsNewWrong, IsOldWrong, IsNewLost, IsOldLost, AreWrong, IsPairLost};
@@ -148,42 +148,44 @@ pub fn is_old_lost(rows: &[Row], u: u32, s: u32, r: u32) -> bool
     }
 }
 
-/// The function of a row, if it is of one.
-fn function_of(row: &Row) -> Option<u32>
-    ensures { MatchOption result (Unit {0}) (λ f. row.now.class ≡ Function f) }
+/// Whether these are one function, or the selects or updates of maps of one type.
+fn is_one_class(a: Class, b: Class) -> bool
+    ensures { result ≡ true → a ≡ b }
 {
-    match row.class {
-        Class::Function(f) => Some(f),
-        Class::Select(_) => None,
-        Class::Update(_) => None,
-        Class::Part(_, _) => None,
+    match a {
+        Class::Function(f) => match b {
+            Class::Function(g) => is_one(f, g),
+            Class::Select(_) => false,
+            Class::Update(_) => false,
+            Class::Part(_, _) => false,
+        },
+        Class::Select(m) => match b {
+            Class::Function(_) => false,
+            Class::Select(n) => is_one(m, n),
+            Class::Update(_) => false,
+            Class::Part(_, _) => false,
+        },
+        Class::Update(m) => match b {
+            Class::Function(_) => false,
+            Class::Select(_) => false,
+            Class::Update(n) => is_one(m, n),
+            Class::Part(_, _) => false,
+        },
+        Class::Part(_, _) => false,
     }
 }
 
-/// Whether rows of these functions, with one row of arguments, differ.
-fn is_value_wrong(f: u32, g: u32, x: &Row, y: &Row) -> bool
-    ensures { result ≡ true → x.now.class ≡ Function f → y.now.class ≡ Function g → AreWrong (row_of x.now) (row_of y.now) }
+/// Whether two rows are of one function, or are selects or updates of maps of one type, with one row of arguments, and differ.
+fn is_pair_wrong(x: &Row, y: &Row) -> bool
+    ensures { result ≡ true → AreWrong (row_of x.now) (row_of y.now) }
 {
-    if !is_one(f, g) {
+    if !is_one_class(x.class, y.class) {
         return false;
     }
     if !are_same(&x.args, &y.args) {
         return false;
     }
     !is_same(x.value, y.value)
-}
-
-/// Whether two rows are of one function with one row of arguments, and differ.
-fn is_pair_wrong(x: &Row, y: &Row) -> bool
-    ensures { result ≡ true → AreWrong (row_of x.now) (row_of y.now) }
-{
-    match function_of(x) {
-        None => false,
-        Some(f) => match function_of(y) {
-            None => false,
-            Some(g) => is_value_wrong(f, g, x, y),
-        },
-    }
 }
 
 /// The same of the rows at these places.

@@ -56,7 +56,7 @@ fn whole_map(t: TypeRef<'_>) -> Option<(&Keys, TypeRef<'_>)>
 }
 
 /// The index types and the result type of maps of a type, if it is one of maps.
-fn map_type(ty: Seen<'_>) -> Option<(&Keys, TypeRef<'_>)>
+pub fn map_type(ty: Seen<'_>) -> Option<(&Keys, TypeRef<'_>)>
     ensures { MatchOption result (map_type_in (seen_ty ty.entry) ≡ None) (λ m. map_type_in (seen_ty ty.entry) ≡ Some (keys_of m.0.now, ref_of m.1)) }
 {
     match ty {

@@ -1,9 +1,11 @@
-//! Which maps were met on the way along updates, and which wait.
+//! Which maps were met on the way along updates, which wait, and what is gone along later.
 use crate::class::number;
 use crate::false_here::{Selected, select_at};
 use crate::first::is_same;
+use crate::reads::read_by;
 use crate::updates::first_read;
 use crate::way::Sighted;
+use bg_ast::resolved::Expr;
 use bg_scalar::Scalar;
 use std::alloc::{AllocError, Global};
 use std::collections::{BTreeMap, BTreeSet};
@@ -11,14 +13,16 @@ use std::collections::{BTreeMap, BTreeSet};
 /// A map, and an index at which it is selected from.
 type Spot = (u32, Vec<Scalar>);
 
-/// The selects that are there; the maps that were looked at, at which index; what is equal besides; and the maps that wait, each with its
-/// select.
+/// The selects that are there; the maps that were looked at, at which index; what is equal besides; the maps that wait, each with its
+/// select; the terms that are gone along later; and all that were put among these.
 #[derive(Drop)]
 pub struct Paths {
     known: BTreeMap<Spot, u32>,
     done: BTreeSet<Spot>,
     equal: BTreeMap<u32, Vec<u32>>,
     waiting: Vec<(u32, u32)>,
+    later: Vec<u32>,
+    put: BTreeSet<u32>,
 }
 
 /// The number of the map that a term selects from, if it reads one.
@@ -59,6 +63,8 @@ pub fn no_paths(alloc: Global, sight: Sighted<'_>) -> Result<Paths, AllocError> 
         done: BTreeSet::new(alloc),
         equal: BTreeMap::new(alloc),
         waiting: Vec::new(alloc),
+        later: Vec::new(alloc),
+        put: BTreeSet::new(alloc),
     })
 }
 
@@ -222,4 +228,42 @@ pub fn equals(
         }
     }
     Ok(made)
+}
+
+/// The term at this place is gone along later, unless it was put there before.
+fn put_later(paths: &mut Paths, a: u32) -> Result<(), AllocError> {
+    let is_first = paths.put.insert(a)?;
+    if !is_first {
+        return Ok(());
+    }
+    paths.later.push(a)?;
+    Ok(())
+}
+
+/// What has this number is gone along later, if it is a term.
+fn put_number(sight: Sighted<'_>, paths: &mut Paths, j: u32) -> Result<(), AllocError> {
+    match j.checked_sub(sight.count) {
+        None => Ok(()),
+        Some(a) => put_later(paths, a),
+    }
+}
+
+/// The terms that an expression reads are gone along later.
+pub fn put_reads(
+    alloc: Global,
+    sight: Sighted<'_>,
+    paths: &mut Paths,
+    e: &Expr,
+) -> Result<(), AllocError> {
+    let mut read = Vec::new(alloc);
+    read_by(e, &mut read)?;
+    for j in &read {
+        put_number(sight, paths, *j)?;
+    }
+    Ok(())
+}
+
+/// The last term that is gone along later.
+pub fn later(paths: &mut Paths) -> Option<u32> {
+    paths.later.pop()
 }

@@ -1,5 +1,5 @@
 //! What is wanted at a leaf.
-ghost use Rattle.std.specs.Prelude.{◌≡◌, ◌+◌, true, List, length, IfOk};
+ghost use Rattle.std.specs.Prelude.{◌≡◌, true, List, length, IfOk};
 ghost use Rattle.bg_ast.specs.Values.{Val, Ty};
 ghost use Rattle.bg_ast.specs.Syntax.{Fun};
 ghost use Rattle.bg_terms.specs.Terms as meant;
@@ -8,6 +8,7 @@ ghost use Rattle.bg_numbered.specs.Indexed.{are_indexed};
 ghost use Rattle.bg_term_table.specs.Lines.{lines_of};
 ghost use Rattle.bg_wanted.specs.Alike.{IsAlike};
 ghost use Rattle.bg_wanted.specs.Asked.{IsLooked};
+ghost use Rattle.bg_wanted.specs.Chased.{IsSighted};
 ghost use Rattle.bg_wanted.specs.Wanting.{IsWanting};
 ghost use Rattle.bg_term_table.specs.Views.{terms_in, incs_of, GiveThese};
 ghost use Rattle.bg_wanted.specs.Scalars.{scalars_in};
@@ -21,6 +22,7 @@ use crate::guessed::guessed;
 use crate::hints::Hints;
 use crate::looked::Looked;
 use crate::maps::all_selects;
+use crate::named::{named_first, names_of};
 use crate::names::{Pair, alike};
 use crate::row::{Row, Rows};
 use crate::rows::leaf_rows;
@@ -50,26 +52,11 @@ pub enum Told {
     Lines(Vec<Line>),
 }
 
-/// So many more; 2^32 count as want of memory.
-fn more(n: usize, k: usize) -> Result<u32, AllocError>
-    ensures { IfOk result (λ m. m ≡ n + k) }
-{
-    match n.checked_add(k) {
-        None => Err(AllocError),
-        Some(m) => number(m),
-    }
-}
-
 /// The names of an index at which two maps with one table differ, and that they do there, behind so many terms.
 fn apart(alloc: Global, count: usize, pair: Pair) -> Result<Vec<Line>, AllocError>
     ensures { IfOk result (λ made. (incs : List Ty) (ts : List meant.Term) (s : List Val) → count ≡ length ts → are_indexed (types_with incs ts) ≡ true → IsAlike s (length incs) ts (types_with incs ts) pair → IsWanting incs ts s (lines_of made.items)) }
 {
-    let s = more(count, pair.parts)?;
-    let r = more(s as usize, 1)?;
-    let mut made = Vec::new(alloc);
-    made.push(Line::Names(pair.first, pair.second))?;
-    made.push(Line::Apart(s, r))?;
-    Ok(made)
+    names_of(alloc, count, pair.first, pair.second, pair.parts)
 }
 
 /// What is wanted of what is looked at, where no congruence is false.
@@ -127,6 +114,22 @@ fn of_rows(
     of_looked(alloc, around, looked, values)
 }
 
+/// What is told first of what is wanted.
+fn told_first(
+    alloc: Global,
+    around: Around<'_>,
+    sight: Sighted<'_>,
+    lines: Vec<Line>,
+) -> Result<Vec<Line>, AllocError>
+    ensures { IfOk result (λ made. (fs : List Fun) → GiveThese fs around.entry → are_indexed (types_with (incs_of around.entry) (terms_in fs sight.entry.terms.now)) ≡ true → IsSighted fs (incs_of around.entry) sight.entry → IsWanting (incs_of around.entry) (terms_in fs sight.entry.terms.now) (scalars_in sight.entry.values.now) (lines_of lines.items) → IsWanting (incs_of around.entry) (terms_in fs sight.entry.terms.now) (scalars_in sight.entry.values.now) (lines_of made.items)) }
+{
+    let first = named_first(alloc, around, sight)?;
+    match first {
+        Some(made) => Ok(made),
+        None => chased(alloc, sight, lines),
+    }
+}
+
 /// What is wanted at a leaf at which incarnations, and the terms behind them, have these scalars: congruences that are false; where none
 /// is, of each update its select at its index, and its selects and those of its map at other indices, where selects there don't say what
 /// they should; and where nothing of this is wanted, names of an index at which two maps differ that have one table. Where the leaf is
@@ -159,7 +162,7 @@ pub fn lines_wanted(
                         rows: &rows,
                         hints,
                     };
-                    let lines = chased(alloc, sight, made)?;
+                    let lines = told_first(alloc, around, sight, made)?;
                     let (tried, guesses) = guessed(alloc, around, terms, values)?;
                     Ok(Wanted::Lines(lines, tried, guesses))
                 }

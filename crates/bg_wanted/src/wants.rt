@@ -69,6 +69,7 @@ pub fn select(wants: &mut Wants, map: u32, a: u32) -> Result<u32, AllocError>
 pub fn tell_here(wants: &mut Wants, u: u32, s: u32) -> Result<(), AllocError>
     ensures some { OnOk result (wants.new.made.items ≡ [] → ⊥) }
     ensures told { OnOk result ((incs : List Ty) (ts : List Term) → u < length ts → length ts ≤ s → s < wants.old.next → AreTold incs ts wants.old (s ∷ []) → AreTold incs ts wants.new []) }
+    ensures same { OnOk result (wants.new.next ≡ wants.old.next) }
 {
     wants.made.push(Line::AtIndex(u, s))?;
     Ok(())

@@ -12,13 +12,14 @@ use crate::false_here::{Selected, is_new_lost, is_old_lost, is_one, select_at, u
 use crate::hints::Hints;
 use crate::looked::Update;
 use crate::paths::{
-    Paths, begin, equals, is_new, known_at, next, no_paths, put_terms, put_two, wait,
+    Paths, begin, equals, is_new, known_at, next, no_paths, put_reads, put_terms, put_two, wait,
 };
 use crate::row::Row;
 use crate::updates::{are_same, first_read};
 use crate::wants::{Wants, nothing, select, tell_elsewhere, tell_here};
+use bg_ast::resolved::Expr;
 use bg_scalar::Scalar;
-use bg_term_table::{Line, Term};
+use bg_term_table::{Line, Term, local};
 use std::alloc::{AllocError, Global};
 
 /// The terms of a leaf behind so many incarnations, what all are worth, the rows, and where to look first.
@@ -92,6 +93,17 @@ fn are_there(sight: Sighted<'_>, s: u32, r: u32) -> bool
     false
 }
 
+/// What the new value of an update reads is gone along later.
+fn stored(alloc: Global, sight: Sighted<'_>, paths: &mut Paths, u: u32) -> Result<(), AllocError> {
+    match sight.terms.get(u as usize) {
+        None => Ok(()),
+        Some(t) => match t.args.get(1) {
+            None => Ok(()),
+            Some(v) => put_reads(alloc, sight, paths, v),
+        },
+    }
+}
+
 /// The select of an update at its index.
 fn at_index(
     alloc: Global,
@@ -100,7 +112,8 @@ fn at_index(
     u: u32,
     s: u32,
 ) -> Result<(), AllocError>
-    ensures { OnOk result ((fs : List Fun) (incs : List Ty) → IsSighted fs incs sight.entry → u < length (terms_in fs sight.entry.terms.now) → s < way.old.wants.next → IsWay fs incs sight.entry way.old [] → IsWay fs incs sight.entry way.new []) }
+    ensures told { OnOk result ((fs : List Fun) (incs : List Ty) → IsSighted fs incs sight.entry → u < length (terms_in fs sight.entry.terms.now) → s < way.old.wants.next → IsWay fs incs sight.entry way.old [] → IsWay fs incs sight.entry way.new []) }
+    ensures same { OnOk result (way.new.wants.next ≡ way.old.wants.next) }
 {
     if !is_there(sight, s) {
         tell_here(&mut way.wants, u, s)?;
@@ -224,6 +237,96 @@ fn is_below(s: u32, next: u32) -> bool
     s < next
 }
 
+/// Whether a select comes in of which all is told at once.
+fn is_asked_too(sight: Sighted<'_>, s: u32) -> bool
+    ensures { (fs : List Fun) → result ≡ true → length (terms_in fs sight.entry.terms.now) ≤ s }
+{
+    if is_there(sight, s) {
+        return false;
+    }
+    sight.hints.further
+}
+
+/// The select of an update at its index, if it comes in and all of it is told at once.
+fn at_new(sight: Sighted<'_>, way: &mut Way, u: u32, s: u32) -> Result<(), AllocError>
+    ensures told { OnOk result ((fs : List Fun) (incs : List Ty) → IsSighted fs incs sight.entry → u < length (terms_in fs sight.entry.terms.now) → s < way.old.wants.next → IsWay fs incs sight.entry way.old [] → IsWay fs incs sight.entry way.new []) }
+    ensures same { OnOk result (way.new.wants.next ≡ way.old.wants.next) }
+{
+    if is_asked_too(sight, s) {
+        tell_here(&mut way.wants, u, s)?;
+        return Ok(());
+    }
+    Ok(())
+}
+
+/// Whether two expressions are one incarnation or term, or one number.
+fn is_one_leaf(a: &Expr, b: &Expr) -> bool {
+    match (local(a), local(b)) {
+        (Some(j), Some(k)) => j == k,
+        (None, None) => match (a, b) {
+            (Expr::Number(_, m), Expr::Number(_, n)) => *m == *n,
+            _ => false,
+        },
+        _ => false,
+    }
+}
+
+/// Whether these are the same, one by one.
+fn are_one_by_one(xs: &[Expr], ys: &[Expr]) -> bool {
+    if xs.len() != ys.len() {
+        return false;
+    }
+    for (i, x) in xs.iter().enumerate() {
+        match ys.get(i) {
+            None => return false,
+            Some(y) => {
+                if !is_one_leaf(x, y) {
+                    return false;
+                }
+            }
+        }
+    }
+    true
+}
+
+/// Whether the index of an update is written as that of a select.
+fn is_written(sight: Sighted<'_>, u: u32, a: u32) -> bool {
+    match (sight.terms.get(u as usize), sight.terms.get(a as usize)) {
+        (Some(t), Some(s)) => match (t.args.get(2..), s.args.get(1..)) {
+            (Some(i), Some(k)) => are_one_by_one(i, k),
+            _ => false,
+        },
+        _ => false,
+    }
+}
+
+/// Whether a way from a select ends at an update whose index is the select's at the leaf.
+fn ends(sight: Sighted<'_>, u: u32, a: u32) -> bool {
+    !sight.hints.further || is_written(sight, u, a)
+}
+
+/// The select of an update, which has this number, at its index, if it is there at the leaf or comes in; whether no way goes on behind
+/// the update, as both indices are written alike.
+fn at_its_index(
+    alloc: Global,
+    sight: Sighted<'_>,
+    way: &mut Way,
+    update: Update<'_>,
+    s: u32,
+    x: Selected<'_>,
+) -> Result<bool, AllocError>
+    ensures told { OnOk result (IsOf (rows_of sight.entry.rows.now) update.entry → s < way.old.wants.next → Keeps sight.entry way.old way.new) }
+    ensures same { OnOk result (way.new.wants.next ≡ way.old.wants.next) }
+{
+    if !are_same(x.index, update.index) {
+        at_new(sight, way, update.number, s)?;
+        return Ok(false);
+    }
+    stored(alloc, sight, &mut way.paths, update.number)?;
+    at_index(alloc, sight, way, update.number, s)?;
+    Ok(ends(sight, update.number, x.number))
+}
+
 /// The select of an update, which has this number, at the index of a select.
 fn at_update(
     alloc: Global,
@@ -241,8 +344,8 @@ fn at_update(
     if !is_one(x.maps, update.maps) {
         return Ok(());
     }
-    if are_same(x.index, update.index) {
-        at_index(alloc, sight, way, update.number, s)?;
+    let is_last = at_its_index(alloc, sight, way, update, s, x)?;
+    if is_last {
         return Ok(());
     }
     match map_of(sight, update.number) {

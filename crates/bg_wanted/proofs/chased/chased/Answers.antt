@@ -6,9 +6,6 @@ use Rattle.bg_wanted.proofs.Answering.{not_empty}
 use Rattle.bg_wanted.proofs.Leading.{chase_wanted}
 use Rattle.bg_wanted.proofs.chased.chased.Goals as goal
 
-pub returns-then-is_silent : goal.returns-then-is_silent
-returns-then-is_silent c = λ fs incs si wanting. wanting
-
 pub returns-then-is_empty : goal.returns-then-is_empty
 returns-then-is_empty c = λ fs incs si wanting. wanting
 
@@ -18,6 +15,7 @@ returns c =
     let made = c.in_ok-made.made.items in
     let some : 0 < length made = let h = c.is_empty.ensures in let k = c.if-is_empty.false in grind (arith, nat_tests, h, k) in
     λ fs incs si wanting.
-    let way = c.in_ok-all_ways.ensures fs incs si (c.in_ok-way.ensures fs incs) in
-    let lost = c.in_ok-put_functions.ensures fs incs si way.0 in
-    chase_wanted incs (terms_in fs x.terms.now) (scalars_in x.values.now) _ _ made lost way.1 c.in_ok-made.ensures (not_empty made some) wanting.unfinished
+    let way = c.in_ok-along_claim.ensures fs incs si (c.in_ok-way.ensures fs incs) in
+    let lost = c.in_ok-put_all_near.ensures fs incs si way.0 in
+    let all = c.in_ok-along_rest.ensures fs incs si (lost, way.1) in
+    chase_wanted incs (terms_in fs x.terms.now) (scalars_in x.values.now) _ _ made all.0 all.1 c.in_ok-made.ensures (not_empty made some) wanting.unfinished

@@ -1,11 +1,12 @@
-use Rattle.std.proofs.Common.{◌+◌, ap, sym, ◌∙◌, subst}
-use Rattle.bg_term_table.specs.Lines.{lines_of}
-use Rattle.bg_wanted.specs.Wanting.{IsWanting}
-use Rattle.bg_wanted.proofs.Answering.{names_wanted, two_pushed}
+use Rattle.std.proofs.Common.{length}
+use Rattle.std.proofs.lemmas.Result.{IfOk-weaker}
+use Rattle.bg_terms.specs.Typed.{types_with}
+use Rattle.bg_wanted.proofs.Answering.{alike_of_one, alike_unfinished}
 use Rattle.bg_wanted.proofs.wanted.apart.Goals as goal
 
 pub returns : goal.returns
 returns c =
-    λ incs ts s len indexed alike.
-    subst (λ ls. IsWanting incs ts s (lines_of ls)) (sym (two_pushed _ _ _ _ _ c.new-made.ensures.items c.in_ok-push.ensures.items c.in_ok-push-2.ensures.items))
-    (names_wanted incs ts s c.args.pair c.in_ok-s.s c.in_ok-r.r indexed alike (c.in_ok-s.ensures ∙ ap (λ n. n + c.args.pair.parts) len) c.in_ok-r.ensures)
+    IfOk-weaker c.names_of.result _ _
+    (λ made h. λ incs ts s len indexed alike.
+    h incs ts s len indexed (alike_of_one s (length incs) ts (types_with incs ts) c.args.pair alike) (alike_unfinished s (length incs) ts (types_with incs ts) c.args.pair alike))
+    c.names_of.ensures

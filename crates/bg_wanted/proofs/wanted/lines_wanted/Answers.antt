@@ -30,7 +30,7 @@ returns-in_ok-tried-in-Lines c =
     let are = subst (λ n. AreRows values n ts 0 ts (rows_of c.in-Are.rows.items)) count rows.0 in
     let told = subst (IsTold incs ts (scalars_in values)) c.in-Lines.is
     (c.in_ok-told-in-Are.ensures fs give leaf (subst (λ rs. AreRows values (length incs) ts 0 ts (rows_of rs)) (sym c.deref.ensures.value) are, subst (λ m. AreMet ts (length ts) m) (sym c.deref-in-Are.ensures.value) rows.1)) in
-    c.in_ok-lines-in-Lines.ensures fs incs
+    c.in_ok-lines-in-Lines.ensures fs give leaf.types
     (record {
       count = c.in_ok-count-in-Lines.ensures ∙ count;
       terms = leaf.terms;
