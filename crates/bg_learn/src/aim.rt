@@ -1,14 +1,18 @@
 //! Where the values of terms begin: at their targets.
 
-use bg_simplex::{mark, set_bound, take_back};
+use bg_simplex::{Bound, mark, set_bound, take_back};
 use bg_trail::Engine;
 use std::alloc::AllocError;
 
 /// Brings a column to a value, by two bounds that are taken back.
 fn bring(e: &mut Engine<'_>, column: u32, target: i128) -> Result<(), AllocError> {
     let stands = mark(&e.simplex);
+    let bound = Bound {
+        value: target,
+        by: 0,
+    };
     for upper in [false, true] {
-        let _clash = set_bound(&mut e.simplex, column, upper, target, 0)?;
+        let _clash = set_bound(e.alloc, &mut e.simplex, column, upper, bound, false)?;
     }
     take_back(&mut e.simplex, stands);
     Ok(())

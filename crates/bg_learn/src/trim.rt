@@ -3,7 +3,7 @@
 use bg_simplex::Lit;
 use bg_solved::{Deriver, add_multiple, clear, reduced_row};
 use bg_trail::{
-    Engine, Link, Reason, Span, is_positive, items, needed, place_of, reduced_of, size_of,
+    Engine, Link, Reason, clause_at, is_positive, items, negated, place_of, reduced_of,
 };
 use std::alloc::AllocError;
 
@@ -14,15 +14,38 @@ pub struct Needs {
     pub lemmas: Vec<bool>,
 }
 
-/// Derives the false row of a reason, from the rows of literals as they are given.
-pub fn derive(e: &Engine<'_>, d: &mut Deriver, span: Span) -> Result<(), AllocError> {
+/// Adds so many times the row of a literal, as it is given, to a sum, if there is one yet. Answers the number of the sum.
+fn add_part(
+    e: &Engine<'_>,
+    d: &mut Deriver,
+    sum: Option<u128>,
+    lit: Lit,
+    times: i128,
+) -> Result<Option<u128>, AllocError> {
+    match reduced_of(e, lit) {
+        Some(r) => {
+            let number = reduced_row(d, &e.solved, lit, r, !is_positive(lit))?;
+            Ok(Some(add_multiple(d, sum, number, times)?))
+        }
+        None => Ok(sum),
+    }
+}
+
+/// Derives the false row of a reason that adds rows up, from the rows of literals as they are given.
+pub fn derive(e: &Engine<'_>, d: &mut Deriver, r: Reason) -> Result<(), AllocError> {
     clear(d);
     let mut sum = None;
-    for part in items(&e.lemmas.parts, span) {
-        if let Some(r) = reduced_of(e, part.lit) {
-            let number = reduced_row(d, &e.solved, part.lit, r, !is_positive(part.lit))?;
-            sum = Some(add_multiple(d, sum, number, part.times)?);
+    match r {
+        Reason::Both(a, b) => {
+            sum = add_part(e, d, sum, a, 1)?;
+            sum = add_part(e, d, sum, b, 1)?;
         }
+        Reason::Rows(span) => {
+            for part in items(&e.lemmas.parts, span) {
+                sum = add_part(e, d, sum, part.lit, part.times)?;
+            }
+        }
+        Reason::Clause(_) | Reason::Decision | Reason::Unit(_, _) => {}
     }
     Ok(())
 }
@@ -55,20 +78,21 @@ fn need_reason(
     r: Reason,
     before: usize,
 ) -> Result<(), AllocError> {
-    for i in 0..size_of(&e.base, r) {
-        if let Some(l) = needed(&e.base, &e.lemmas.parts, r, i) {
-            need(e, n, l, before);
-        }
-    }
     match r {
-        Reason::Clause(c) => need_lemma(e, n, c),
-        Reason::Rows(span) => {
-            derive(e, d, span)?;
+        Reason::Clause(c) => {
+            need_lemma(e, n, c);
+            for l in clause_at(&e.base, c) {
+                need(e, n, negated(*l), before);
+            }
+        }
+        Reason::Both(_, _) | Reason::Rows(_) => {
+            derive(e, d, r)?;
             for l in &d.uses {
                 need(e, n, *l, before);
             }
         }
-        Reason::Decision | Reason::Unit(_, _) => {}
+        Reason::Unit(_, l) => need(e, n, negated(l), before),
+        Reason::Decision => {}
     }
     Ok(())
 }

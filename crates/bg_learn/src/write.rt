@@ -79,8 +79,8 @@ fn leaf(e: &Engine<'_>, w: &mut Writer, r: Reason) -> Result<Node, AllocError> {
     match r {
         Reason::Clause(c) => Ok(clause_leaf(e, w, c)),
         Reason::Unit(c, _) => Ok(Node::Unit(c as u128)),
-        Reason::Rows(span) => {
-            derive(e, &mut w.deriver, span)?;
+        Reason::Both(_, _) | Reason::Rows(_) => {
+            derive(e, &mut w.deriver, r)?;
             Ok(Node::Rows(numbered(e, w)?))
         }
         Reason::Decision => Ok(Node::Rows(Vec::new(e.alloc))),

@@ -104,10 +104,10 @@ fn is_small(entries: &[Entry]) -> bool {
 }
 
 /// Whether a sum has one value here already.
-fn is_fixed(e: &Engine<'_>, form: &[Entry]) -> Result<bool, AllocError> {
-    match find_column(e.alloc, &e.columns, form)? {
-        Some(c) => Ok(only_value(&e.simplex, c).is_some()),
-        None => Ok(false),
+fn is_fixed(e: &Engine<'_>, form: &[Entry]) -> bool {
+    match find_column(&e.columns, form, false) {
+        Some(c) => only_value(&e.simplex, c).is_some(),
+        None => false,
     }
 }
 
@@ -131,7 +131,7 @@ fn push_equality(
     entries: Vec<Entry>,
     bound: i128,
 ) -> Result<(), AllocError> {
-    if !is_small(&entries) || is_fixed(e, &entries)? {
+    if !is_small(&entries) || is_fixed(e, &entries) {
         return Ok(());
     }
     let (Some(down), Some(other)) = (opposite(e.alloc, &entries)?, bound.checked_neg()) else {

@@ -113,7 +113,7 @@ fn push_differences(
     later: &[u32],
 ) -> Result<(), AllocError> {
     let form = [Entry { variable: x, by: 1 }];
-    made.push(column_of(e.alloc, &mut e.columns, &mut e.simplex, &form)?)?;
+    made.push(column_of(e.alloc, &mut e.columns, &mut e.simplex, &form, false)?)?;
     for y in later {
         let form = [
             Entry { variable: x, by: 1 },
@@ -122,7 +122,7 @@ fn push_differences(
                 by: -1,
             },
         ];
-        made.push(column_of(e.alloc, &mut e.columns, &mut e.simplex, &form)?)?;
+        made.push(column_of(e.alloc, &mut e.columns, &mut e.simplex, &form, false)?)?;
     }
     Ok(())
 }

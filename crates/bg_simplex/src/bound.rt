@@ -52,6 +52,17 @@ pub fn bound_at(b: &Bounds, column: u32, upper: bool) -> Option<Bound> {
     }
 }
 
+/// Whether a side of a column has a bound.
+pub fn is_bound(b: &Bounds, column: u32, upper: bool) -> bool {
+    let side = if upper { &b.highs } else { &b.lows };
+    matches!(side.get(column as usize), Some(Some(_)))
+}
+
+/// Whether a column has a bound.
+pub fn has_bounds(b: &Bounds, column: u32) -> bool {
+    is_bound(b, column, false) || is_bound(b, column, true)
+}
+
 /// Puts a bound, or none, at a column.
 fn put_at(side: &mut Vec<Option<Bound>>, column: u32, bound: Option<Bound>) {
     if let Some(place) = side.get_mut(column as usize) {
@@ -76,11 +87,9 @@ pub fn change(b: &mut Bounds, column: u32, upper: bool, bound: Bound) -> Result<
     Ok(())
 }
 
-/// Takes back all changes but the first few. Takes time for each that is taken back.
-pub fn restore(b: &mut Bounds, mark: usize) {
-    for _ in mark..b.undo.len() {
-        if let Some(undo) = b.undo.pop() {
-            put(b, undo.column, undo.upper, undo.old);
-        }
-    }
+/// Takes back the last change. Answers its column.
+pub fn restore(b: &mut Bounds) -> Option<u32> {
+    let undo = b.undo.pop()?;
+    put(b, undo.column, undo.upper, undo.old);
+    Some(undo.column)
 }

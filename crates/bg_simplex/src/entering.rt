@@ -3,7 +3,7 @@ use crate::bound::{Bound, Bounds, bound_at};
 use crate::fraction::{Fraction, is_above, is_below};
 use crate::numbers::{Numbers, let_go};
 use crate::simplex::Simplex;
-use crate::tableau::{Tableau, count_users, line_at, value_at};
+use crate::tableau::{Tableau, awake, count_users, value_at};
 
 /// A basic column outside its bounds: its line, whether it is above its upper one, and the bound.
 #[derive(Clone, Copy)]
@@ -25,7 +25,7 @@ fn is_beyond(v: Fraction, bound: Bound, upper: bool) -> bool {
 
 /// How a column is outside its bounds, if it is basic and is.
 fn out_of(b: &Bounds, t: &Tableau, column: u32) -> Option<Out> {
-    let line = line_at(t, column)?;
+    let line = awake(t, column)?;
     let v = value_at(t, column);
     for above in [false, true] {
         if let Some(bound) = bound_at(b, column, above) {

@@ -4,7 +4,7 @@ use crate::fraction::whole;
 use crate::multiple::Multiple;
 use crate::pivot::pivot;
 use crate::refute::refute;
-use crate::simplex::Simplex;
+use crate::simplex::{Simplex, rest_without_bounds};
 use std::alloc::{AllocError, Global};
 
 /// How many pivots a check takes at most.
@@ -29,13 +29,11 @@ pub fn check(
             return Ok(false);
         };
         match entering(s, out, turn >= FROM_BLAND) {
-            Some(column) => pivot(
-                alloc,
-                &mut s.tableau,
-                out.line,
-                column,
-                whole(out.bound.value),
-            )?,
+            Some(column) => {
+                let v = whole(out.bound.value);
+                pivot(alloc, &mut s.tableau, out.line, column, v)?;
+                rest_without_bounds(s, column);
+            }
             None => return refute(s, out, clash),
         }
     }

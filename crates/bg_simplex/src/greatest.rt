@@ -4,6 +4,7 @@ use crate::fraction::{Fraction, ceiling, floor, minus, plus, whole};
 use crate::pivot::pivot;
 use crate::ratio::limit_of;
 use crate::simplex::Simplex;
+use crate::sums::wake;
 use crate::tableau::{line_at, shift, value_at};
 use std::alloc::{AllocError, Global};
 
@@ -61,6 +62,7 @@ pub fn most(
     column: u32,
     up: bool,
 ) -> Result<Option<i128>, AllocError> {
+    wake(alloc, &mut s.tableau, column)?;
     for _ in 0..MOST_MOVES {
         if s.tableau.broken {
             return Ok(None);

@@ -1,12 +1,13 @@
 //! What lines tell of their columns' bounds.
-use crate::bound::{Lit, bound_at};
+use crate::bound::{Lit, bound_at, is_bound};
 use crate::fraction::{
     Fraction, ceiling, floor, inverse, is_lost, minus, negated, plus, times, whole,
 };
-use crate::line::{Line, Part, count_parts, part_at};
+use crate::line::{Part, Zero, count_parts, part_at};
 use crate::multiple::{Multiple, common_denominator, push_multiple};
 use crate::numbers::let_go;
 use crate::simplex::Simplex;
+use crate::tableau::zero_of;
 use std::alloc::AllocError;
 
 /// A bound that a line tells of a column, rounded to the whole number within, with the line, and whether it is told by the greatest
@@ -20,13 +21,25 @@ pub struct Told {
     pub greatest: bool,
 }
 
-/// How many of a sum's parts have no bound on the side that counts.
+/// How many of a sum's parts have no bound on the side that counts, and the column of the last of these.
 #[derive(Clone, Copy)]
-enum Missing {
-    Nothing,
-    One(u32),
-    Several,
+struct Missing {
+    count: u32,
+    column: u32,
 }
+
+/// The parts without a bound in the greatest value of a sum, and in the least.
+#[derive(Clone, Copy)]
+struct Sides {
+    greatest: Missing,
+    least: Missing,
+}
+
+/// Each part has a bound.
+const NOTHING: Missing = Missing {
+    count: 0,
+    column: 0,
+};
 
 /// The bound that a part has in the greatest value of a sum, or in the least: its number and who set it.
 fn bound_in(s: &Simplex, part: Part, greatest: bool) -> Option<(i128, Lit)> {
@@ -34,26 +47,38 @@ fn bound_in(s: &Simplex, part: Part, greatest: bool) -> Option<(i128, Lit)> {
     Some((bound.value, bound.by))
 }
 
-/// The line's parts without a bound.
-fn missing_of(s: &Simplex, line: &Line, greatest: bool) -> Missing {
-    let mut found = Missing::Nothing;
-    for at in 0..count_parts(line) {
-        let part = part_at(line, at);
-        if bound_in(s, part, greatest).is_none() {
-            match found {
-                Missing::Nothing => found = Missing::One(part.column),
-                _ => return Missing::Several,
-            }
-        }
+/// Counts a part's column, if it has no bound on this side.
+fn miss(s: &Simplex, missing: &mut Missing, column: u32, upper: bool) {
+    if !is_bound(&s.bounds, column, upper) {
+        missing.count = missing.count.saturating_add(1);
+        missing.column = column;
     }
-    found
+}
+
+/// The parts without a bound; not all, where several on each side have none.
+fn missing_of(s: &Simplex, zero: Zero<'_>) -> Sides {
+    let mut sides = Sides {
+        greatest: NOTHING,
+        least: NOTHING,
+    };
+    miss(s, &mut sides.greatest, zero.basic, false);
+    miss(s, &mut sides.least, zero.basic, true);
+    for part in zero.parts {
+        if sides.greatest.count > 1 && sides.least.count > 1 {
+            return sides;
+        }
+        let rises = part.by.num > 0;
+        miss(s, &mut sides.greatest, part.column, rises);
+        miss(s, &mut sides.least, part.column, !rises);
+    }
+    sides
 }
 
 /// The greatest, or the least, value of the sum of the parts that have a bound.
-fn total(s: &Simplex, line: &Line, greatest: bool) -> Fraction {
+fn total(s: &Simplex, zero: Zero<'_>, greatest: bool) -> Fraction {
     let mut sum = whole(0);
-    for at in 0..count_parts(line) {
-        let part = part_at(line, at);
+    for at in 0..count_parts(zero) {
+        let part = part_at(zero, at);
         if let Some((value, _)) = bound_in(s, part, greatest) {
             sum = plus(sum, times(part.by, whole(value)));
         }
@@ -98,38 +123,37 @@ fn is_wanted(wanted: &[u32], column: u32) -> bool {
 }
 
 /// Whether a column is wanted of which a line tells: of this one, where it tells of one alone.
-fn is_asked(line: &Line, only: Option<u32>, wanted: &[u32]) -> bool {
+fn is_asked(zero: Zero<'_>, only: Option<u32>, wanted: &[u32]) -> bool {
     if let Some(column) = only {
         return is_wanted(wanted, column);
     }
-    for at in 0..count_parts(line) {
-        if is_wanted(wanted, part_at(line, at).column) {
+    for at in 0..count_parts(zero) {
+        if is_wanted(wanted, part_at(zero, at).column) {
             return true;
         }
     }
     false
 }
 
-/// What a line tells by the greatest value of its parts' sum, or by the least, of the columns that are wanted.
+/// What a line tells by the greatest value of its parts' sum, or by the least, of the columns that are wanted: of this one, if it tells of
+/// one alone.
 fn tell_side(
     s: &Simplex,
     number: u32,
-    line: &Line,
     greatest: bool,
+    only: Option<u32>,
     wanted: &[u32],
     out: &mut Vec<Told>,
 ) -> Result<(), AllocError> {
-    let only = match missing_of(s, line, greatest) {
-        Missing::Nothing => None,
-        Missing::One(column) => Some(column),
-        Missing::Several => return Ok(()),
+    let Some(zero) = zero_of(&s.tableau, number) else {
+        return Ok(());
     };
-    if !is_asked(line, only, wanted) {
+    if !is_asked(zero, only, wanted) {
         return Ok(());
     }
-    let sum = total(s, line, greatest);
-    for at in 0..count_parts(line) {
-        let part = part_at(line, at);
+    let sum = total(s, zero, greatest);
+    for at in 0..count_parts(zero) {
+        let part = part_at(zero, at);
         if is_wanted(wanted, part.column) && is_or_any(only, part.column) {
             if let Some(told) = told_of(s, number, part, sum, greatest) {
                 out.push(told)?;
@@ -137,6 +161,15 @@ fn tell_side(
         }
     }
     Ok(())
+}
+
+/// Of which column alone is told, if one part has no bound; None where several have none.
+fn only_of(missing: Missing) -> Option<Option<u32>> {
+    match missing.count {
+        0 => Some(None),
+        1 => Some(Some(missing.column)),
+        _ => None,
+    }
 }
 
 /// What a line tells, if it has at most so many parts.
@@ -147,13 +180,17 @@ fn tell_line(
     wanted: &[u32],
     out: &mut Vec<Told>,
 ) -> Result<(), AllocError> {
-    match s.tableau.lines.get(number as usize) {
-        Some(line) if line.parts.len() <= longest => {
-            tell_side(s, number, line, true, wanted, out)?;
-            tell_side(s, number, line, false, wanted, out)
-        }
-        _ => Ok(()),
+    let sides = match zero_of(&s.tableau, number) {
+        Some(zero) if zero.parts.len() <= longest => missing_of(s, zero),
+        _ => return Ok(()),
+    };
+    if let Some(only) = only_of(sides.greatest) {
+        tell_side(s, number, true, only, wanted, out)?;
     }
+    if let Some(only) = only_of(sides.least) {
+        tell_side(s, number, false, only, wanted, out)?;
+    }
+    Ok(())
 }
 
 /// Bounds that lines of at most `longest` parts tell of columns with `wanted[column] > 0`, put behind those in `out`. Only lines are
@@ -189,14 +226,14 @@ fn lit_of(s: &Simplex, part: Part, told: Told, denied: Lit) -> Option<Lit> {
 /// Puts the multiples of a line's parts behind those in `why`. False where one has no bound or leaves 128 bits.
 fn push_parts(
     s: &Simplex,
-    line: &Line,
+    zero: Zero<'_>,
     told: Told,
     denied: Lit,
     why: &mut Vec<Multiple>,
 ) -> Result<bool, AllocError> {
-    let by = common_denominator(&line.parts);
-    for at in 0..count_parts(line) {
-        let part = part_at(line, at);
+    let by = common_denominator(zero.parts);
+    for at in 0..count_parts(zero) {
+        let part = part_at(zero, at);
         let Some(lit) = lit_of(s, part, told, denied) else {
             return Ok(false);
         };
@@ -217,8 +254,8 @@ pub fn explain(
     why: &mut Vec<Multiple>,
 ) -> Result<bool, AllocError> {
     let from = why.len();
-    if let Some(line) = s.tableau.lines.get(told.line as usize) {
-        if push_parts(s, line, told, denied, why)? {
+    if let Some(zero) = zero_of(&s.tableau, told.line) {
+        if push_parts(s, zero, told, denied, why)? {
             return Ok(true);
         }
     }

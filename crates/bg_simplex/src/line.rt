@@ -9,11 +9,20 @@ pub struct Part {
     pub by: Fraction,
 }
 
-/// That a basic column is the sum of these parts, which stand by column, each column once and none 0 times.
+/// That a basic column is the sum of these parts, which stand by column, each column once and none 0 times. A line that *rests* has no
+/// parts: its basic column stands for a sum that was given, and has no bounds, and its value isn't kept.
 #[derive(Drop)]
 pub struct Line {
     pub basic: u32,
     pub parts: Vec<Part>,
+    pub rests: bool,
+}
+
+/// Parts that add up to 0: these, and a basic column -1 times.
+#[derive(Clone, Copy)]
+pub struct Zero<'a> {
+    pub parts: &'a [Part],
+    pub basic: u32,
 }
 
 /// How many times a column stands in these parts, if it does.
@@ -27,17 +36,17 @@ pub fn by_of(parts: &[Part], column: u32) -> Option<Fraction> {
     }
 }
 
-/// How many parts there are that add up to 0: those of the line, and behind them its basic column -1 times.
-pub fn count_parts(line: &Line) -> usize {
-    line.parts.len().saturating_add(1)
+/// How many parts there are that add up to 0.
+pub fn count_parts(zero: Zero<'_>) -> usize {
+    zero.parts.len().saturating_add(1)
 }
 
-/// One of the parts that add up to 0.
-pub fn part_at(line: &Line, at: usize) -> Part {
-    match line.parts.get(at) {
+/// One of the parts that add up to 0; the basic column's is the last.
+pub fn part_at(zero: Zero<'_>, at: usize) -> Part {
+    match zero.parts.get(at) {
         Some(part) => *part,
         None => Part {
-            column: line.basic,
+            column: zero.basic,
             seat: 0,
             by: whole(-1),
         },

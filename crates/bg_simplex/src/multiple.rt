@@ -26,14 +26,20 @@ pub fn common_multiple(a: i128, b: i128) -> i128 {
 pub fn common_denominator(parts: &[Part]) -> i128 {
     let mut all = 1;
     for part in parts {
-        all = common_multiple(all, part.by.den);
+        if part.by.den != 1 {
+            all = common_multiple(all, part.by.den);
+        }
     }
     all
 }
 
-/// So many times a fraction without its sign, where that is a whole number.
+/// So many times a fraction without its sign, where that is a whole number. Mostly the fraction is one, and counts once.
 fn scaled(f: Fraction, by: i128) -> Option<i128> {
-    f.num.checked_abs()?.checked_mul(by.checked_div(f.den)?)
+    let num = f.num.checked_abs()?;
+    if f.den == 1 && by == 1 {
+        return Some(num);
+    }
+    num.checked_mul(by.checked_div(f.den)?)
 }
 
 /// Puts so many times a literal's row behind the others. False where the number leaves 128 bits.

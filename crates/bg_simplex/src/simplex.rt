@@ -1,8 +1,10 @@
 //! The simplex: bounds over a tableau.
-use crate::bound::{Bound, Bounds, Lit, add_column, bound_at, change, new_bounds, restore};
+use crate::bound::{
+    Bound, Bounds, Lit, add_column, bound_at, change, has_bounds, new_bounds, restore,
+};
 use crate::fraction::{Fraction, is_above, is_below, whole};
 use crate::numbers::let_all_go;
-use crate::sums::push_line;
+use crate::sums::{push_line, rest, wake};
 use crate::tableau::{Tableau, line_at, new_tableau, push_column, shift, touch, value_at};
 use bg_rows::Entry;
 use std::alloc::{AllocError, Global};
@@ -40,21 +42,18 @@ fn number(length: usize) -> Result<u32, AllocError> {
 pub fn new_column(alloc: Global, s: &mut Simplex) -> Result<u32, AllocError> {
     let column = number(s.tableau.values.len())?;
     add_column(&mut s.bounds)?;
-    push_column(alloc, &mut s.tableau, whole(0), None)?;
+    push_column(alloc, &mut s.tableau, Vec::new(alloc), None)?;
     Ok(column)
 }
 
-/// One column more that is worth this sum of columns (the variables of the entries are columns), and has no bounds. Answers its number,
-/// or none where a number leaves 128 bits: then there is none more. Only want of memory is an error.
-pub fn new_line(alloc: Global, s: &mut Simplex, sum: &[Entry]) -> Result<Option<u32>, AllocError> {
+/// One column more that is worth this sum of columns (the variables of the entries are columns, each of them once), and has no bounds.
+/// Answers its number. Only want of memory is an error.
+pub fn new_line(alloc: Global, s: &mut Simplex, sum: &[Entry]) -> Result<u32, AllocError> {
     let column = number(s.tableau.values.len())?;
     let line = number(s.tableau.lines.len())?;
-    if push_line(alloc, &mut s.tableau, column, line, sum)? {
-        add_column(&mut s.bounds)?;
-        Ok(Some(column))
-    } else {
-        Ok(None)
-    }
+    push_line(alloc, &mut s.tableau, column, line, sum)?;
+    add_column(&mut s.bounds)?;
+    Ok(column)
 }
 
 /// The lower bound of a column, if it has one.
@@ -67,7 +66,7 @@ pub fn high(s: &Simplex, column: u32) -> Option<Bound> {
     bound_at(&s.bounds, column, true)
 }
 
-/// The value of a column: one within its bounds behind a check that finds no clash.
+/// The value of a column that was made alone: one within its bounds behind a check that finds no clash.
 pub fn value(s: &Simplex, column: u32) -> Fraction {
     value_at(&s.tableau, column)
 }
@@ -77,9 +76,20 @@ pub fn mark(s: &Simplex) -> usize {
     s.bounds.undo.len()
 }
 
-/// Takes back the changes of bounds behind a mark. Values stay: they are within wider bounds too.
+/// The line of a column rests, if the column has no bounds and its line may rest.
+pub fn rest_without_bounds(s: &mut Simplex, column: u32) {
+    if !has_bounds(&s.bounds, column) {
+        rest(&mut s.tableau, column);
+    }
+}
+
+/// Takes back the changes of bounds behind a mark. Values stay: they are within wider bounds too. Takes time for each change.
 pub fn take_back(s: &mut Simplex, mark: usize) {
-    restore(&mut s.bounds, mark);
+    for _ in mark..s.bounds.undo.len() {
+        if let Some(column) = restore(&mut s.bounds) {
+            rest_without_bounds(s, column);
+        }
+    }
     let_all_go(&mut s.tableau.touched);
 }
 
@@ -109,14 +119,17 @@ fn settle(t: &mut Tableau, column: u32, upper: bool, bound: i128) {
 }
 
 /// Sets a bound of a column. Where it clashes with the opposite bound it isn't set, and the literal that set that one is the answer:
-/// the two literals' rows add up to a false one. Only want of memory is an error.
+/// the two literals' rows add up to a false one. A line that rests doesn't wake for a bound that the bounds of its sum imply. Only want of
+/// memory is an error.
 pub fn set_bound(
+    alloc: Global,
     s: &mut Simplex,
     column: u32,
     upper: bool,
-    value: i128,
-    by: Lit,
+    bound: Bound,
+    is_implied: bool,
 ) -> Result<Option<Lit>, AllocError> {
+    let value = bound.value;
     if let Some(mine) = bound_at(&s.bounds, column, upper) {
         if is_as_near(upper, mine.value, value) {
             return Ok(None);
@@ -127,7 +140,10 @@ pub fn set_bound(
             return Ok(Some(other.by));
         }
     }
-    change(&mut s.bounds, column, upper, Bound { value, by })?;
+    change(&mut s.bounds, column, upper, bound)?;
+    if !is_implied {
+        wake(alloc, &mut s.tableau, column)?;
+    }
     settle(&mut s.tableau, column, upper, value);
     Ok(None)
 }

@@ -1,18 +1,23 @@
 //! The tableau: columns with their values, lines, and which columns stand in which lines.
 use crate::fraction::{Fraction, is_lost, minus, plus, times, whole};
-use crate::line::{Line, Part, by_of};
+use crate::line::{Line, Part, Zero, by_of};
 use crate::numbers::{Numbers, hold, no_numbers, widen};
 use crate::users::{Users, no_users};
 use std::alloc::{AllocError, Global};
 
-/// Each column's value, the line in which it is basic, and, if it isn't, the lines in which it stands; the lines; the lines that
-/// changed since they last told, or of which a bound did; the basic columns that may be outside their bounds; and room in which the
-/// next parts of a line are made. Values meet all lines.
+/// Each column's value, the line in which it is basic, and, if it isn't, the lines in which it stands; the parts of the sum for which
+/// it was made to stand, none where it was made alone, and the columns that stand for sums in which it is a part, and how many of
+/// these have a line that rests; the lines; the lines
+/// that changed since they last told, or of which a bound did; the basic columns that may be outside their bounds; and room in which the
+/// next parts of a line are made. Values meet all lines that don't rest.
 #[derive(Drop)]
 pub struct Tableau {
     pub values: Vec<Fraction>,
     pub line_of: Vec<Option<u32>>,
     pub users: Vec<Users>,
+    pub given: Vec<Vec<Part>>,
+    pub sums: Vec<Vec<u32>>,
+    pub at_rest: Vec<usize>,
     pub lines: Vec<Line>,
     pub touched: Numbers,
     pub suspects: Numbers,
@@ -27,6 +32,9 @@ pub fn new_tableau(alloc: Global) -> Tableau {
         values: Vec::new(alloc),
         line_of: Vec::new(alloc),
         users: Vec::new(alloc),
+        given: Vec::new(alloc),
+        sums: Vec::new(alloc),
+        at_rest: Vec::new(alloc),
         lines: Vec::new(alloc),
         touched: no_numbers(alloc),
         suspects: no_numbers(alloc),
@@ -35,17 +43,32 @@ pub fn new_tableau(alloc: Global) -> Tableau {
     }
 }
 
-/// One column more, which has this value and is basic in this line or in none.
+/// One column more, which stands for the sum of these parts and is basic in this line, or for none and in none.
 pub fn push_column(
     alloc: Global,
     t: &mut Tableau,
-    value: Fraction,
+    given: Vec<Part>,
     line: Option<u32>,
 ) -> Result<(), AllocError> {
-    t.values.push(value)?;
+    t.values.push(whole(0))?;
     t.line_of.push(line)?;
     t.users.push(no_users(alloc))?;
+    t.given.push(given)?;
+    t.sums.push(Vec::new(alloc))?;
+    t.at_rest.push(0)?;
     widen(&mut t.suspects)
+}
+
+/// The parts that add up to 0 by a line: where it rests, those of the sum that was given.
+pub fn zero_of(t: &Tableau, line: u32) -> Option<Zero<'_>> {
+    let line = t.lines.get(line as usize)?;
+    let basic = line.basic;
+    let parts = if line.rests {
+        t.given.get(basic as usize)?.as_slice()
+    } else {
+        line.parts.as_slice()
+    };
+    Some(Zero { parts, basic })
 }
 
 /// The value of a column; 0 where there is no such column.
@@ -89,11 +112,28 @@ pub fn user_at(t: &Tableau, column: u32, seat: usize) -> Option<u32> {
     }
 }
 
-/// How many lines a column stands in.
+/// How many lines a column stands in, with those that rest and in whose sums it is a part.
 pub fn count_users(t: &Tableau, column: u32) -> usize {
-    match t.users.get(column as usize) {
-        Some(users) => users.count,
-        None => 0,
+    let at = column as usize;
+    match (t.users.get(at), t.at_rest.get(at)) {
+        (Some(users), Some(more)) => users.count.saturating_add(*more),
+        _ => 0,
+    }
+}
+
+/// Notes, at the columns of a column's sum, that its line rests, or doesn't any more.
+pub fn note_rest(t: &mut Tableau, column: u32, rests: bool) {
+    let Some(given) = t.given.get(column as usize) else {
+        return;
+    };
+    for part in given {
+        if let Some(n) = t.at_rest.get_mut(part.column as usize) {
+            *n = if rests {
+                n.saturating_add(1)
+            } else {
+                n.saturating_sub(1)
+            };
+        }
     }
 }
 
@@ -112,8 +152,45 @@ pub fn use_of(t: &Tableau, line: u32, column: u32) -> Option<(u32, Fraction)> {
     Some((line.basic, by))
 }
 
+/// The line in which a column is basic, if it doesn't rest.
+pub fn awake(t: &Tableau, column: u32) -> Option<u32> {
+    let line = line_at(t, column)?;
+    match t.lines.get(line as usize) {
+        Some(place) if !place.rests => Some(line),
+        _ => None,
+    }
+}
+
+/// The line of a column, if it rests.
+pub fn resting(t: &Tableau, column: u32) -> Option<u32> {
+    let line = line_at(t, column)?;
+    match t.lines.get(line as usize) {
+        Some(place) if place.rests => Some(line),
+        _ => None,
+    }
+}
+
+/// Touches the lines that rest and in whose sums a column is a part.
+fn touch_resting(t: &mut Tableau, column: u32) {
+    let Some(sums) = t.sums.get(column as usize) else {
+        return;
+    };
+    for i in 0..sums.len() {
+        if let Some(line) = resting_sum(t, column, i) {
+            hold(&mut t.touched, line);
+        }
+    }
+}
+
+/// The line of one of the columns in whose sums a column is a part, if it rests.
+fn resting_sum(t: &Tableau, column: u32, at: usize) -> Option<u32> {
+    let sums = t.sums.get(column as usize)?;
+    resting(t, *sums.get(at)?)
+}
+
 /// Touches the lines in which a column stands, or the one in which it is basic. A basic column may be outside its bounds from now on.
 pub fn touch(t: &mut Tableau, column: u32) {
+    touch_resting(t, column);
     if let Some(line) = line_at(t, column) {
         hold(&mut t.touched, line);
         hold(&mut t.suspects, column);

@@ -2,7 +2,7 @@
 use std::alloc::{AllocError, Global};
 
 /// The lines in which a column stands, in the order in which they came, each at its seat, and how many they are. A seat that was left
-/// is empty until the lines get new ones, so that a line leaves without a search.
+/// is empty until the lines get new ones, so that a line leaves without a search; the last seat isn't empty.
 #[derive(Drop)]
 pub struct Users {
     pub seats: Vec<Option<u32>>,
@@ -36,6 +36,17 @@ pub fn leave(users: &mut [Users], column: u32, seat: u32) {
         if let Some(place) = mine.seats.get_mut(seat as usize) {
             *place = None;
             mine.count = mine.count.saturating_sub(1);
+            close_up(&mut mine.seats);
+        }
+    }
+}
+
+/// Takes the empty seats from the end.
+fn close_up(seats: &mut Vec<Option<u32>>) {
+    for _ in 0..seats.len() {
+        match seats.last() {
+            Some(None) => seats.truncate(seats.len().saturating_sub(1)),
+            _ => return,
         }
     }
 }

@@ -19,5 +19,5 @@ pub use assign::complete;
 pub use derive::{Deriver, add_multiple, clear, new_deriver, push_step, reduced_row};
 pub use equality::{Dep, Equality, Solved, new_solved};
 pub use equation::{Equation, made_row};
-pub use rewrite::{Reduced, reduce};
+pub use rewrite::{Reduced, as_given, is_reduced, reduce};
 pub use solve::{are_opposite, learn_equality};

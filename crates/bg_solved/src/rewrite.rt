@@ -12,10 +12,9 @@ pub struct Rewritten {
     pub deps: Vec<Dep>,
 }
 
-/// A row without terms that are eliminated, tightened; the equalities that were taken from it, in order; and by what it was divided.
+/// How a row was brought over the terms that stay: the equalities that were taken from it, in order, and by what the rest was divided.
 #[derive(Drop)]
 pub struct Reduced {
-    pub row: Row,
     pub deps: Vec<Dep>,
     pub divisor: u128,
 }
@@ -231,8 +230,29 @@ pub fn denied(alloc: Global, a: &Rewritten) -> Result<Option<Rewritten>, AllocEr
     }
 }
 
-/// The row over the terms that stay, tightened; none where a number leaves 128 bits. Only want of memory is an error.
-pub fn reduce(alloc: Global, s: &Solved, row: &Row) -> Result<Option<Reduced>, AllocError> {
+/// Whether a row is over the terms that stay, and tight, as it is given.
+pub fn is_reduced(s: &Solved, row: &Row) -> bool {
+    let mut has_unit = false;
+    for t in &row.entries {
+        if solved_for(s, t.variable).is_some() {
+            return false;
+        }
+        has_unit = has_unit || t.by.unsigned_abs() == 1;
+    }
+    has_unit || common_divisor(&row.entries) <= 1
+}
+
+/// Nothing was done to a row.
+pub fn as_given(alloc: Global) -> Reduced {
+    Reduced {
+        deps: Vec::new(alloc),
+        divisor: 1,
+    }
+}
+
+/// The row over the terms that stay, tightened, and how it was brought over them; none where a number leaves 128 bits. Only want of memory
+/// is an error.
+pub fn reduce(alloc: Global, s: &Solved, row: &Row) -> Result<Option<(Row, Reduced)>, AllocError> {
     match rewrite(alloc, s, row)? {
         Some(Rewritten { row, deps }) => {
             let divisor = common_divisor(&row.entries).max(1);
@@ -241,7 +261,7 @@ pub fn reduce(alloc: Global, s: &Solved, row: &Row) -> Result<Option<Reduced>, A
             } else {
                 row
             };
-            Ok(Some(Reduced { row, deps, divisor }))
+            Ok(Some((row, Reduced { deps, divisor })))
         }
         None => Ok(None),
     }

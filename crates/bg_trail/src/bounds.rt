@@ -1,62 +1,60 @@
 //! The trail's bounds: each goes to the simplex, and decides the other atoms of its column.
 
-use crate::columns::{Limit, atoms_of, implied, limit_of, open_on};
+use crate::columns::{Limit, Mark, count_marks, implied, limit_of, mark_at, open_on};
 use crate::engine::{Engine, assign};
 use crate::literals::{literal, negated};
-use crate::reason::Reason;
-use crate::span::Span;
+use crate::reason::{Reason, reason_of};
 use crate::trail::{at_place, is_open};
-use bg_simplex::{Lit, Multiple, set_bound};
+use bg_simplex::{Bound, Lit, set_bound};
 use std::alloc::AllocError;
 
-/// The reason that the rows of two literals, once each, add up to a false row.
-fn clash_of(parts: &mut Vec<Multiple>, a: Lit, b: Lit) -> Result<Reason, AllocError> {
-    let from = parts.len();
-    let both = [Multiple { lit: a, times: 1 }, Multiple { lit: b, times: 1 }];
-    parts.extend_from_slice(&both)?;
-    Ok(Reason::Rows(Span { from, len: 2 }))
-}
-
 /// Decides an atom of the column by what a true literal says of it, if it does.
-fn decide_atom(e: &mut Engine<'_>, l: Lit, limit: Limit, a: u32) -> Result<(), AllocError> {
-    let p = literal(a, true);
-    if !is_open(&e.trail, p) {
-        return Ok(());
+fn decide_atom(e: &mut Engine<'_>, l: Lit, limit: Limit, mark: Mark) {
+    if !is_open(&e.trail, literal(mark.atom, true)) {
+        return;
     }
-    let Some(other) = limit_of(&e.columns, p) else {
-        return Ok(());
-    };
-    if let Some(value) = implied(limit, other) {
-        let p = literal(a, value);
-        let why = clash_of(&mut e.reasons.parts, l, negated(p))?;
-        assign(e, p, why);
+    if let Some(value) = implied(limit.upper, limit.value, mark) {
+        let p = literal(mark.atom, value);
+        assign(e, p, Reason::Both(l, negated(p)));
     }
-    Ok(())
 }
 
 /// Decides the atoms of the column by what a true literal says of it.
-fn decide_column(e: &mut Engine<'_>, l: Lit, limit: Limit) -> Result<(), AllocError> {
-    if open_on(&e.columns, limit.column) == 0 {
-        return Ok(());
-    }
-    for i in 0..atoms_of(&e.columns, limit.column).len() {
-        if let Some(a) = atoms_of(&e.columns, limit.column).get(i) {
-            let a = *a;
-            decide_atom(e, l, limit, a)?;
+fn decide_column(e: &mut Engine<'_>, l: Lit, limit: Limit) {
+    for i in 0..count_marks(&e.columns, limit.column) {
+        if open_on(&e.columns, limit.column) == 0 {
+            return;
+        }
+        if let Some(mark) = mark_at(&e.columns, limit.column, i) {
+            decide_atom(e, l, limit, mark);
         }
     }
-    Ok(())
 }
 
-/// Sets the bound of a true literal. Answers why it can't hold.
+/// Sets the bound of a true literal, unless another one of its column, which is set, implies it. Answers why it can't hold.
 fn set(e: &mut Engine<'_>, l: Lit) -> Result<Option<Reason>, AllocError> {
+    let why = reason_of(&e.reasons, l);
+    if matches!(why, Reason::Both(_, _)) {
+        return Ok(None);
+    }
     let Some(limit) = limit_of(&e.columns, l) else {
         return Ok(None);
     };
-    match set_bound(&mut e.simplex, limit.column, limit.upper, limit.value, l)? {
-        Some(other) => Ok(Some(clash_of(&mut e.reasons.parts, l, other)?)),
+    let bound = Bound {
+        value: limit.value,
+        by: l,
+    };
+    match set_bound(
+        e.alloc,
+        &mut e.simplex,
+        limit.column,
+        limit.upper,
+        bound,
+        matches!(why, Reason::Rows(_)),
+    )? {
+        Some(other) => Ok(Some(Reason::Both(l, other))),
         None => {
-            decide_column(e, l, limit)?;
+            decide_column(e, l, limit);
             Ok(None)
         }
     }

@@ -7,7 +7,6 @@ use bg_rows::{Entry, Row};
 use bg_simplex::{Lit, Simplex, new_column, new_line};
 use bg_solved::Reduced;
 use std::alloc::{AllocError, Global};
-use std::collections::BTreeMap;
 
 /// That a column's sum is at most a number, or at least.
 #[derive(Clone, Copy)]
@@ -17,18 +16,30 @@ pub struct Limit {
     pub value: i128,
 }
 
+/// An atom of a column, and the bound that it says of it.
+#[derive(Clone, Copy)]
+pub struct Mark {
+    pub atom: u32,
+    pub upper: bool,
+    pub value: i128,
+}
+
+/// By what a sum's number is mixed with each entry.
+const MIX: usize = 0x9E37_79B9_7F4A_7C15;
+
 /// Of each column the sum that it stands for, the atoms that bound it, and how many of these have no value. The column of each term
-/// alone, and those of longer sums by their entries. Of each atom what it says of its column. The rows over the terms that aren't solved
-/// away, in the order in which their atoms took their seats, and of each atom the place of its row. And whether a number left 128 bits on
-/// the way.
+/// alone; those of longer sums are in chains, of those whose entries give one number: the first column of each chain, and behind each
+/// column the next one. Of each atom what it says of its column. How rows were brought over the terms that stay, in the order in which
+/// their atoms took their seats, and of each atom the place there. And whether a number left 128 bits on the way.
 #[derive(Drop)]
 pub struct Columns {
     pub entries: Vec<Entry>,
     pub forms: Vec<Span>,
-    pub atoms: Vec<Vec<u32>>,
+    pub atoms: Vec<Vec<Mark>>,
     pub open: Vec<u32>,
     pub terms: Vec<Option<u32>>,
-    pub ids: BTreeMap<Vec<(u32, i128)>, u32>,
+    pub chains: Vec<Option<u32>>,
+    pub behind: Vec<Option<u32>>,
     pub limits: Vec<Option<Limit>>,
     pub reduced: Vec<Reduced>,
     pub of_atom: Vec<Option<u32>>,
@@ -43,7 +54,8 @@ pub fn new_columns(alloc: Global, terms: u32, atoms: usize) -> Result<Columns, A
         atoms: Vec::new(alloc),
         open: Vec::new(alloc),
         terms: vec![in alloc; None; terms as usize]?,
-        ids: BTreeMap::new(alloc),
+        chains: vec![in alloc; None; atoms.saturating_add(1)]?,
+        behind: Vec::new(alloc),
         limits: vec![in alloc; None; atoms]?,
         reduced: Vec::new(alloc),
         of_atom: vec![in alloc; None; atoms]?,
@@ -58,11 +70,10 @@ pub fn grow_columns(columns: &mut Columns) -> Result<(), AllocError> {
     Ok(())
 }
 
-/// A row as a bound: of the sum whose first coefficient is positive.
-#[derive(Drop)]
+/// A row as a bound of the sum whose first coefficient is positive: the row's entries, or, where `turned`, the opposite ones.
+#[derive(Clone, Copy)]
 pub struct Facing {
-    pub form: Vec<Entry>,
-    pub upper: bool,
+    pub turned: bool,
     pub value: i128,
 }
 
@@ -81,38 +92,15 @@ pub fn opposite(alloc: Global, entries: &[Entry]) -> Result<Option<Vec<Entry>>, 
     Ok(Some(made))
 }
 
-/// A row as a bound, if it has entries and no number leaves 128 bits.
-pub fn face(alloc: Global, row: &Row) -> Result<Option<Facing>, AllocError> {
-    let Some(t) = row.entries.first() else {
-        return Ok(None);
+/// A row as a bound, if it has entries and its bound's negation is within 128 bits.
+pub fn face(row: &Row) -> Option<Facing> {
+    let turned = row.entries.first()?.by < 0;
+    let value = if turned {
+        row.bound.checked_neg()?
+    } else {
+        row.bound
     };
-    if t.by > 0 {
-        return Ok(Some(Facing {
-            form: row.entries.to_vec(alloc)?,
-            upper: true,
-            value: row.bound,
-        }));
-    }
-    let Some(value) = row.bound.checked_neg() else {
-        return Ok(None);
-    };
-    match opposite(alloc, &row.entries)? {
-        Some(form) => Ok(Some(Facing {
-            form,
-            upper: false,
-            value,
-        })),
-        None => Ok(None),
-    }
-}
-
-/// The entries as a key.
-fn pairs(alloc: Global, entries: &[Entry]) -> Result<Vec<(u32, i128)>, AllocError> {
-    let mut made = Vec::new(alloc);
-    for t in entries {
-        made.push((t.variable, t.by))?;
-    }
-    Ok(made)
+    Some(Facing { turned, value })
 }
 
 /// The sum that a column stands for.
@@ -133,6 +121,7 @@ fn push_form(alloc: Global, columns: &mut Columns, form: &[Entry]) -> Result<(),
     })?;
     columns.atoms.push(Vec::new(alloc))?;
     columns.open.push(0)?;
+    columns.behind.push(None)?;
     Ok(())
 }
 
@@ -177,49 +166,108 @@ fn sum_column(
     form: &[Entry],
 ) -> Result<u32, AllocError> {
     let sum = over_columns(alloc, columns, simplex, form)?;
-    let c = match new_line(alloc, simplex, &sum)? {
-        Some(c) => c,
-        None => {
-            columns.broken = true;
-            new_column(alloc, simplex)?
-        }
-    };
+    let c = new_line(alloc, simplex, &sum)?;
     push_form(alloc, columns, form)?;
     Ok(c)
 }
 
-/// The column of a sum, if there is one.
-pub fn find_column(
-    alloc: Global,
-    columns: &Columns,
-    form: &[Entry],
-) -> Result<Option<u32>, AllocError> {
-    if let [t] = form {
-        return match columns.terms.get(t.variable as usize) {
-            Some(c) => Ok(*c),
-            None => Ok(None),
-        };
+/// The place of a sum's chain: the same for the opposite sum.
+fn chain_of(columns: &Columns, form: &[Entry]) -> usize {
+    let mut mixed: usize = 0;
+    for t in form {
+        let by = usize::try_from(t.by.unsigned_abs()).unwrap_or(0);
+        mixed = (mixed ^ (t.variable as usize)).wrapping_mul(MIX) ^ by;
     }
-    let key = pairs(alloc, form)?;
-    Ok(columns.ids.get(&key).copied())
+    mixed.checked_rem(columns.chains.len()).unwrap_or(0)
 }
 
-/// The column of a sum whose coefficients have no divisor in common and whose first one is positive; it is made where there was none.
+/// Whether these are the entries of a sum, or, where `turned`, the opposite ones.
+fn is_form(form: &[Entry], entries: &[Entry], turned: bool) -> bool {
+    if form.len() != entries.len() {
+        return false;
+    }
+    for i in 0..form.len() {
+        if let (Some(t), Some(u)) = (form.get(i), entries.get(i)) {
+            let is_same = if turned {
+                t.by.checked_neg() == Some(u.by)
+            } else {
+                t.by == u.by
+            };
+            if t.variable != u.variable || !is_same {
+                return false;
+            }
+        }
+    }
+    true
+}
+
+/// The column of a sum, or, where `turned`, of the opposite one, if there is one.
+pub fn find_column(columns: &Columns, entries: &[Entry], turned: bool) -> Option<u32> {
+    if let [t] = entries {
+        return columns.terms.get(t.variable as usize).copied().flatten();
+    }
+    let place = chain_of(columns, entries);
+    let mut at = columns.chains.get(place).copied().flatten();
+    for _ in 0..columns.behind.len() {
+        let c = at?;
+        if is_form(form_of(columns, c), entries, turned) {
+            return Some(c);
+        }
+        at = columns.behind.get(c as usize).copied().flatten();
+    }
+    None
+}
+
+/// Puts a column in front of its chain.
+fn chain(columns: &mut Columns, c: u32, place: usize) {
+    let Some(first) = columns.chains.get_mut(place) else {
+        return;
+    };
+    let old = *first;
+    *first = Some(c);
+    if let Some(next) = columns.behind.get_mut(c as usize) {
+        *next = old;
+    }
+}
+
+/// A new column for a sum that has none, or, where `turned`, for the opposite one.
+fn made_column(
+    alloc: Global,
+    columns: &mut Columns,
+    simplex: &mut Simplex,
+    entries: &[Entry],
+    turned: bool,
+) -> Result<u32, AllocError> {
+    let c = if turned {
+        let Some(form) = opposite(alloc, entries)? else {
+            columns.broken = true;
+            return sum_column(alloc, columns, simplex, entries);
+        };
+        sum_column(alloc, columns, simplex, &form)?
+    } else {
+        sum_column(alloc, columns, simplex, entries)?
+    };
+    let place = chain_of(columns, entries);
+    chain(columns, c, place);
+    Ok(c)
+}
+
+/// The column of a sum whose coefficients have no divisor in common, or, where `turned`, of the opposite one; the first coefficient of
+/// the column's sum is positive. It is made where there was none.
 pub fn column_of(
     alloc: Global,
     columns: &mut Columns,
     simplex: &mut Simplex,
-    form: &[Entry],
+    entries: &[Entry],
+    turned: bool,
 ) -> Result<u32, AllocError> {
-    if let [t] = form {
+    if let [t] = entries {
         return term_column(alloc, columns, simplex, t.variable);
     }
-    if let Some(c) = find_column(alloc, columns, form)? {
-        return Ok(c);
+    match find_column(columns, entries, turned) {
+        Some(c) => Ok(c),
+        None => made_column(alloc, columns, simplex, entries, turned),
     }
-    let c = sum_column(alloc, columns, simplex, form)?;
-    columns.ids.insert(pairs(alloc, form)?, c)?;
-    Ok(c)
 }
 
 /// What a literal says of a column.
@@ -242,13 +290,13 @@ pub fn limit_of(columns: &Columns, l: Lit) -> Option<Limit> {
     })
 }
 
-/// The value of an atom that says `other` of a column, where `one` holds of it, if it is known.
-pub fn implied(one: Limit, other: Limit) -> Option<bool> {
-    match (one.upper, other.upper) {
-        (true, true) => if_so(one.value <= other.value, true),
-        (true, false) => if_so(one.value < other.value, false),
-        (false, false) => if_so(one.value >= other.value, true),
-        (false, true) => if_so(one.value > other.value, false),
+/// The value of an atom of a column, where a bound of the column holds, if it is known.
+pub fn implied(upper: bool, value: i128, mark: Mark) -> Option<bool> {
+    match (upper, mark.upper) {
+        (true, true) => if_so(value <= mark.value, true),
+        (true, false) => if_so(value < mark.value, false),
+        (false, false) => if_so(value >= mark.value, true),
+        (false, true) => if_so(value > mark.value, false),
     }
 }
 
@@ -271,11 +319,19 @@ pub fn count_open(columns: &mut Columns, l: Lit, more: bool) {
     }
 }
 
-/// The atoms of a column.
-pub fn atoms_of(columns: &Columns, column: u32) -> &[u32] {
+/// How many atoms a column has.
+pub fn count_marks(columns: &Columns, column: u32) -> usize {
     match columns.atoms.get(column as usize) {
-        Some(atoms) => atoms.as_slice(),
-        None => &[],
+        Some(atoms) => atoms.len(),
+        None => 0,
+    }
+}
+
+/// An atom of a column, by its place there.
+pub fn mark_at(columns: &Columns, column: u32, at: usize) -> Option<Mark> {
+    match columns.atoms.get(column as usize) {
+        Some(atoms) => atoms.get(at).copied(),
+        None => None,
     }
 }
 

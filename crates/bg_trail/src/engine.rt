@@ -135,8 +135,7 @@ pub fn decide(e: &mut Engine<'_>, l: Lit) {
         place: e.trail.len,
         mark: mark(&e.simplex),
         parts: e.reasons.parts.len(),
-        from: e.front.from,
-        seen: e.front.seen,
+        searched: e.front.searched,
     };
     rise(&mut e.trail, start);
     assign(e, l, Reason::Decision);
@@ -159,8 +158,7 @@ pub fn go_back(e: &mut Engine<'_>, level: usize) {
     e.trail.level = level;
     e.trail.head = start.place;
     e.trail.rows = e.trail.rows.min(start.place);
-    e.front.from = start.from;
-    e.front.seen = start.seen;
+    e.front.searched = start.searched;
     e.reasons.parts.truncate(start.parts);
     take_back(&mut e.simplex, start.mark);
 }

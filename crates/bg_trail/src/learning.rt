@@ -2,12 +2,12 @@
 //! there hangs (Silva and Sakallah 1996; Moskewicz and others 2001). The lemma denies it, and the literals of lower levels that were
 //! needed; then it goes back to the highest of these levels, where the lemma makes one literal true.
 
-use crate::base::{Base, add_clause};
+use crate::base::{Base, add_clause, clause_at};
 use crate::engine::{Desk, Engine, assign, go_back};
 use crate::lemmas::{Lemma, keep, push_link};
 use crate::literals::{atom_of, negated};
-use crate::reason::{Reason, needed, reason_of, size_of};
-use crate::span::Span;
+use crate::reason::{Reason, reason_of};
+use crate::span::{Span, items};
 use crate::trail::{Trail, at_place, level_of};
 use bg_simplex::{Lit, Multiple};
 use std::alloc::AllocError;
@@ -41,10 +41,23 @@ fn note_all(
     r: Reason,
     top: usize,
 ) {
-    for i in 0..size_of(base, r) {
-        if let Some(l) = needed(base, parts, r, i) {
-            note(desk, trail, l, top);
+    match r {
+        Reason::Clause(c) => {
+            for l in clause_at(base, c) {
+                note(desk, trail, negated(*l), top);
+            }
         }
+        Reason::Both(a, b) => {
+            note(desk, trail, a, top);
+            note(desk, trail, b, top);
+        }
+        Reason::Rows(span) => {
+            for part in items(parts, span) {
+                note(desk, trail, part.lit, top);
+            }
+        }
+        Reason::Unit(_, l) => note(desk, trail, negated(l), top),
+        Reason::Decision => {}
     }
 }
 

@@ -21,14 +21,14 @@ mod trail;
 mod unit;
 
 pub use base::{Base, add_clause, clause_at};
-pub use columns::{Columns, column_of, find_column, form_of, limit_of, opposite};
+pub use columns::{Columns, Limit, Mark, column_of, find_column, form_of, limit_of, opposite};
 pub use engine::{
     Counts, Desk, Engine, Limits, assign, decide, go_back, has_room, is_spent, new_engine,
 };
 pub use learning::learn;
 pub use lemmas::{Lemma, Lemmas, Link, keep};
 pub use literals::{atom_of, is_positive, literal, named, negated, numbered};
-pub use order::{Front, is_met, is_opening, is_reached, next_literal};
+pub use order::{Front, Searched, is_met, is_opening, is_reached, next_literal};
 pub use propagation::propagate;
 pub use reason::{Reason, Reasons, needed, reason_of, size_of, top_level};
 pub use seats::{reduced_of, row_atom, seat};

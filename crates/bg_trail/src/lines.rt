@@ -1,6 +1,6 @@
 //! What the simplex tells: that bounds clash, and bounds that its lines imply.
 
-use crate::columns::{Limit, atoms_of, implied, limit_of};
+use crate::columns::{Mark, count_marks, implied, mark_at, open_on};
 use crate::engine::{Engine, assign};
 use crate::literals::{literal, negated};
 use crate::reason::Reason;
@@ -23,21 +23,12 @@ pub fn clash(e: &mut Engine<'_>) -> Result<Option<Reason>, AllocError> {
 }
 
 /// Decides an atom of the column by a bound that a line tells, if it does.
-fn spread_to(e: &mut Engine<'_>, told: Told, a: u32) -> Result<(), AllocError> {
-    let p = literal(a, true);
-    if !is_open(&e.trail, p) {
+fn spread_to(e: &mut Engine<'_>, told: Told, mark: Mark) -> Result<(), AllocError> {
+    if !is_open(&e.trail, literal(mark.atom, true)) {
         return Ok(());
     }
-    let Some(other) = limit_of(&e.columns, p) else {
-        return Ok(());
-    };
-    let limit = Limit {
-        column: told.column,
-        upper: told.upper,
-        value: told.value,
-    };
-    if let Some(value) = implied(limit, other) {
-        let p = literal(a, value);
+    if let Some(value) = implied(told.upper, told.value, mark) {
+        let p = literal(mark.atom, value);
         let from = e.reasons.parts.len();
         if explain(&e.simplex, told, negated(p), &mut e.reasons.parts)? {
             let len = e.reasons.parts.len().saturating_sub(from);
@@ -49,10 +40,12 @@ fn spread_to(e: &mut Engine<'_>, told: Told, a: u32) -> Result<(), AllocError> {
 
 /// Decides the atoms of a column by a bound that a line tells.
 fn spread(e: &mut Engine<'_>, told: Told) -> Result<(), AllocError> {
-    for i in 0..atoms_of(&e.columns, told.column).len() {
-        if let Some(a) = atoms_of(&e.columns, told.column).get(i) {
-            let a = *a;
-            spread_to(e, told, a)?;
+    for i in 0..count_marks(&e.columns, told.column) {
+        if open_on(&e.columns, told.column) == 0 {
+            return Ok(());
+        }
+        if let Some(mark) = mark_at(&e.columns, told.column, i) {
+            spread_to(e, told, mark)?;
         }
     }
     Ok(())

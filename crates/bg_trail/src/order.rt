@@ -1,7 +1,7 @@
 //! Which literal is decided next.
 
 use crate::engine::Engine;
-use crate::literals::{atom_of, named};
+use crate::literals::{atom_of, is_positive, named};
 use crate::trail::{Trail, at_place, is_open, is_true, truth};
 use bg_formula::{Atom, Clauses, Literal};
 use bg_simplex::Lit;
@@ -57,13 +57,20 @@ fn open_in(trail: &Trail, clause: &[Literal]) -> Option<Lit> {
     None
 }
 
-/// Where the search for a clause to decide begins. A clause before `from` isn't both reached and open, unless it begins with the denial
-/// of an atom that became true behind the first `seen` literals of the trail. And of each atom the first clause that begins with its
-/// denial; a number behind all clauses where there is none. And of each clause, whether the entry goes on by it in one of several ways.
-#[derive(Drop)]
-pub struct Front {
+/// Where a clause to decide was searched. A clause before `from` isn't both reached and open, unless it begins with the denial of an atom
+/// that became true behind the first `seen` literals of the trail. None but the first `rest` clauses is open.
+#[derive(Clone, Copy)]
+pub struct Searched {
     pub from: usize,
     pub seen: usize,
+    pub rest: usize,
+}
+
+/// Where a clause to decide was searched; of each atom that stands for a truth the first clause that begins with its denial, a number
+/// behind all clauses where there is none; and of each clause, whether the entry goes on by it in one of several ways.
+#[derive(Drop)]
+pub struct Front {
+    pub searched: Searched,
     pub heads: Vec<usize>,
     pub openings: Vec<bool>,
 }
@@ -115,21 +122,33 @@ fn openings(alloc: Global, f: &Clauses) -> Result<Vec<bool>, AllocError> {
     Ok(made)
 }
 
-/// At the first clause of a formula.
+/// The atom of which a clause says something where it is true: the clause begins with its denial.
+fn head_of(f: &Clauses, clause: &[Literal]) -> Option<u32> {
+    let l = clause.first()?;
+    match f.atoms.get(l.atom as usize) {
+        Some(Atom::Truth(_)) if !l.sign => Some(l.atom),
+        _ => None,
+    }
+}
+
+/// Before the search for a clause of a formula.
 pub fn new_front(alloc: Global, f: &Clauses) -> Result<Front, AllocError> {
     let mut heads = vec![in alloc; usize::MAX; f.atoms.len()]?;
     for at in (0..f.clauses.len()).rev() {
         if let Some(clause) = f.clauses.get(at) {
-            if let Some(l) = clause.first() {
-                if let Some(head) = heads.get_mut(l.atom as usize) {
+            if let Some(a) = head_of(f, clause) {
+                if let Some(head) = heads.get_mut(a as usize) {
                     *head = at;
                 }
             }
         }
     }
     Ok(Front {
-        from: 0,
-        seen: 0,
+        searched: Searched {
+            from: 0,
+            seen: 0,
+            rest: f.clauses.len(),
+        },
         heads,
         openings: openings(alloc, f)?,
     })
@@ -137,21 +156,24 @@ pub fn new_front(alloc: Global, f: &Clauses) -> Result<Front, AllocError> {
 
 /// Begins no later than at the clauses that are reached by what became true since the last time.
 fn lower(front: &mut Front, trail: &Trail) {
-    for place in front.seen..trail.len {
-        if let Some(l) = at_place(trail, place) {
-            if let Some(head) = front.heads.get(atom_of(l)) {
-                front.from = front.from.min(*head);
+    for place in front.searched.seen..trail.len {
+        match at_place(trail, place) {
+            Some(l) if is_positive(l) => {
+                if let Some(head) = front.heads.get(atom_of(l)) {
+                    front.searched.from = front.searched.from.min(*head);
+                }
             }
+            _ => {}
         }
     }
-    front.seen = trail.len;
+    front.searched.seen = trail.len;
 }
 
 /// A literal of the open clause that is reached and stands last in the program: clauses stand from the last block back. So the search
 /// goes back from the claim, and decides nothing that it doesn't need. And the place of the clause; behind all where there is none.
 fn last_reached(e: &Engine<'_>) -> (usize, Option<Lit>) {
     let f = e.formula;
-    for at in e.front.from..f.clauses.len() {
+    for at in e.front.searched.from..f.clauses.len() {
         if let Some(clause) = f.clauses.get(at) {
             if is_reached(e, at) {
                 let found = open_in(&e.trail, clause);
@@ -164,21 +186,29 @@ fn last_reached(e: &Engine<'_>) -> (usize, Option<Lit>) {
     (f.clauses.len(), None)
 }
 
+/// A literal of the open clause that stands first in the program, and how many clauses stand no later there than it.
+fn first_open(e: &Engine<'_>) -> (usize, Option<Lit>) {
+    for at in (0..e.front.searched.rest).rev() {
+        if let Some(clause) = e.formula.clauses.get(at) {
+            let found = open_in(&e.trail, clause);
+            if found.is_some() {
+                return (at.saturating_add(1), found);
+            }
+        }
+    }
+    (0, None)
+}
+
 /// A literal to decide: of the last open clause of the program that is reached, or else of the first open one. None where no clause is
 /// open.
 pub fn next_literal(e: &mut Engine<'_>) -> Option<Lit> {
-    let f = e.formula;
     lower(&mut e.front, &e.trail);
     let (at, found) = last_reached(e);
-    e.front.from = at;
+    e.front.searched.from = at;
     if found.is_some() {
         return found;
     }
-    for clause in f.clauses.iter().rev() {
-        let found = open_in(&e.trail, clause);
-        if found.is_some() {
-            return found;
-        }
-    }
-    None
+    let (rest, found) = first_open(e);
+    e.front.searched.rest = rest;
+    found
 }

@@ -16,6 +16,8 @@ pub enum Reason {
     Clause(u32),
     /// The candidate of this number, a member of the set, asks for this literal.
     Unit(u32, Lit),
+    /// The rows of these two literals add up to a false row; the denial of what they imply is one of them.
+    Both(Lit, Lit),
     /// The rows of these literals, each so many times, add up to a false row; the denial of what they imply is one of them.
     Rows(Span),
 }
@@ -48,6 +50,7 @@ pub fn size_of(base: &Base, r: Reason) -> usize {
     match r {
         Reason::Clause(c) => clause_at(base, c).len(),
         Reason::Rows(span) => span.len,
+        Reason::Both(_, _) => 2,
         Reason::Unit(_, _) => 1,
         Reason::Decision => 0,
     }
@@ -64,6 +67,7 @@ pub fn needed(base: &Base, parts: &[Multiple], r: Reason, i: usize) -> Option<Li
             Some(part) => Some(part.lit),
             None => None,
         },
+        Reason::Both(a, b) => Some(if i == 0 { a } else { b }),
         Reason::Unit(_, l) => Some(negated(l)),
         Reason::Decision => None,
     }

@@ -2,6 +2,7 @@
 //! algorithm for satisfiability, 1996). The room of an atom is made with it, so that a value takes no memory.
 
 use crate::literals::{atom_of, is_positive};
+use crate::order::Searched;
 use bg_simplex::Lit;
 use std::alloc::{AllocError, Global};
 
@@ -13,15 +14,14 @@ pub struct Standing {
     pub place: usize,
 }
 
-/// Where a level begins: how long the trail was, the simplex's list of changes, and the list of rows that reasons add up; from which
-/// clause on one to decide was searched, and how many literals of the trail were seen for that.
+/// Where a level begins: how long the trail was, the simplex's list of changes, and the list of rows that reasons add up; and where a
+/// clause to decide was searched.
 #[derive(Clone, Copy)]
 pub struct Start {
     pub place: usize,
     pub mark: usize,
     pub parts: usize,
-    pub from: usize,
-    pub seen: usize,
+    pub searched: Searched,
 }
 
 /// The atoms' values; the true literals in their order, `len` of them; where each of the `level` levels above the root begins; and how
@@ -49,8 +49,11 @@ const NO_START: Start = Start {
     place: 0,
     mark: 0,
     parts: 0,
-    from: 0,
-    seen: 0,
+    searched: Searched {
+        from: 0,
+        seen: 0,
+        rest: 0,
+    },
 };
 
 /// The trail of no values, with room for so many atoms.
