@@ -21,8 +21,8 @@ MEASURED = {
     "straight": (100, 800), "counters": (10, 40), "machine": (80,), "settled": (200, 1000), "chain": (1000,),
     "implementations": (1000,), "ways": (8, 12, 32), "checked_ways": (8, 32), "sorter": (3, 5), "tickets": (3, 5, 7),
     "pigeons": (5,), "locals_alone": (1000, 4000), "globals_alone": (1000, 10000), "looked_up": (50, 150), "nested": (10, 40),
-    "nested_open": (10, 40), "read_back": (5, 20, 80), "filled_entries": (5, 20, 80), "deposits": (5, 20, 80), "fields": (5, 20, 80),
-    "two_orders": (5, 20, 80),
+    "nested_open": (10, 40), "read_back": (5, 20, 80), "one_misread": (4, 16), "misread": (4, 16), "filled_entries": (5, 20, 80),
+    "deposits": (5, 20, 80), "fields": (5, 20, 80), "two_orders": (5, 20, 80),
 }  # fmt: skip
 
 
@@ -212,8 +212,21 @@ def two_orders(n):
     return "\n".join(lines + ["  assert x == y;", "}", ""])
 
 
+def one_misread(n):
+    """Updates at n different indices, and what stands there behind them all, but for what the last one put there."""
+    last = f"  assert x[i{n - 1}] == {n - 1};"
+    return read_back(n).replace(last, last.replace(f"== {n - 1}", f"== {n}"))
+
+
+def misread(n):
+    """Updates at n indices of which nothing is known: but for the last one, each may have been put over."""
+    lines = [f"procedure P({', '.join(f'i{k}: int' for k in range(n))})", "{", "  var x: [int]int;"]
+    lines += [f"  x[i{k}] := {k};" for k in range(n)]
+    return "\n".join(lines + [f"  assert x[i{k}] == {k};" for k in range(n)] + ["}", ""])
+
+
 # those with maps
-OVER_MAPS = (read_back, filled_entries, deposits, fields, two_orders)
+OVER_MAPS = (read_back, one_misread, misread, filled_entries, deposits, fields, two_orders)
 
 FAMILIES = {f.__name__: f for f in (settled, counters, ways, checked_ways, machine, straight, chain, implementations, locals_alone, globals_alone, sorter, pigeons, tickets, looked_up, nested, nested_open, *OVER_MAPS)}
 

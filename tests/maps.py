@@ -7,7 +7,7 @@ Two variables get updates of unknown maps, behind a bracket or two, at indices t
 values that are written out, parameters, or selects of the unknown maps; it is claimed that both are the same, that rows of them are, that
 they are at some indices, or that one of them has some value there. Which of this holds is seen by trying which parameters are the same,
 with maps that have another value at each index. A verdict against that is a failure; so is an unknown one, and a counterexample of which
-the judge says something wrong. Chains of updates come besides: eight are verified within ten seconds of processor time, and two hundred
+the judge says something wrong. Chains of updates come besides: twenty are verified within ten seconds of processor time, and two hundred
 at indices of which nothing is known end in some way. The last line is `N passed, M failed`.
 """
 import argparse
@@ -185,7 +185,7 @@ def main():
             made = Maps(rng)
             report, _, _ = reported(args.bg, path, made.text())
             tried.append((f"program {number}", fault_of(made.text(), report, made.holds()), made.text() + report))
-        for count, differ in ((2, False), (2, True), (4, True), (8, True)):
+        for count, differ in ((2, False), (2, True), (4, True), (8, True), (20, True)):
             text = chain(count, differ)
             report, _, seconds = reported(args.bg, path, text)
             fault = fault_of(text, report, differ) or (f"{seconds:.0f} seconds" if seconds > 10 else None)
