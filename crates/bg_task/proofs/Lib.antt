@@ -11,6 +11,7 @@ pub mod Slices
 pub mod Sliced
 pub mod Preparing
 pub mod Sorting
+pub mod Ahead
 pub mod Onways
 pub mod Determined
 pub mod Mapless

@@ -50,11 +50,6 @@ PlainLaw =
     (p : s.Prog) (k : ℕ) (m : s.Impl) (q : s.Proc) → IsTabled p → p.functions ≡ [] → slice_get p.implementations k ≡ Some m →
     procedure_of p m.procedure ≡ Some q → are_mapless (incarnations_in p k m q) ≡ true → PlainBlocks (passives_in p k m q)
 
-abbrev pub PlainFlatLaw : Type 0
-PlainFlatLaw =
-    (p : s.Prog) (k : ℕ) (m : s.Impl) (q : s.Proc) → IsTyped p → is_over_values p ≡ true → slice_get p.implementations k ≡ Some m →
-    procedure_of p m.procedure ≡ Some q → PlainBlocks (flats_in p k m q)
-
 -- ---- what is made once
 
 module _ (p : s.Prog) (n : ℕ) (m : s.Impl) (q : s.Proc) (incs : List Ty) (ps : List PassiveBlock) (these : incs ≡ incarnations_in p n m q) (passives : ps ≡ passives_in p n m q) where
@@ -129,21 +124,3 @@ module _ (p : r.Program) (n : ℕ) (w : Prepared) (h : IsPrepared p n w) where
       ∙ ap (λ is. map flat_sort (types_with is ts)) a
       ∙ ap (λ us. map flat_sort (types_with incs us)) b
       ∙ sorts_flat (lined_types P n M Q ls)
-
-  module _ (t : IsTyped (meaning_of p)) (o : is_over_values (meaning_of p) ≡ true) (some : IsBare w.terms.items (map ref_in w.kinds.items) → ⊥) where
-    pub plain_flats : PlainFlatLaw → PlainBlocks (map passive_block_of w.flats.items)
-    plain_flats law = subst PlainBlocks (sym (h.flats some)) (law P n M Q t o (impl_at p n w h) (proc_at p n w h))
-
-    pub behind_is : (ls : List Line) (ts : List Term) (bs : List PassiveBlock) → ts ≡ lined_terms P n M Q ls → bs ≡ in_front (stated w.count ts (instances_in ls)) (map passive_block_of w.flats.items) → bs ≡ lined_behind P n M Q ls
-    behind_is ls ts bs same e =
-        e
-        ∙ (ap (λ k. in_front (stated k ts (instances_in ls)) (map passive_block_of w.flats.items)) h.count
-        ∙ (ap (λ us. in_front (stated (count_in P n M Q) us (instances_in ls)) (map passive_block_of w.flats.items)) same
-        ∙ ap (λ fs. in_front (stated (count_in P n M Q) (lined_terms P n M Q ls) (instances_in ls)) fs) (h.flats some)))
-
-    pub sorted_behind : SortLaw → (ls : List Line) (ss : List Sort) (k : ℕ) (bs : List PassiveBlock) → ss ≡ lined_sorts P n M Q ls → k ≡ P.candidates → bs ≡ lined_behind P n M Q ls → blocks_sorted ss k bs ≡ true
-    sorted_behind law ls ss k bs a b c =
-        sorted_own law P n M Q ls t o (impl_at p n w h) (proc_at p n w h) ss k bs a b c
-
-    pub own_behind : (ls : List Line) (ss : List Sort) (k : ℕ) (bs : List PassiveBlock) (a : Atoms) → ss ≡ lined_sorts P n M Q ls → k ≡ P.candidates → bs ≡ lined_behind P n M Q ls → Encodes ss k bs (encoding_over k a) → blocks_of a.blocks ≡ blocks_over ss a.first (rows_in a.rows) bs → rows_in a.rows ≡ rows_of ss bs → IsOwn P n M Q ls (encoding_over P.candidates a)
-    own_behind ls ss k bs a x y z encodes exact listed = own_here P n M Q ls ss k bs a x y z encodes exact listed

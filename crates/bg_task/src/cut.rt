@@ -71,7 +71,7 @@ pub fn forms_left(alloc: Global, cut: &Cut<'_>) -> Result<Vec<FormBlock>, AllocE
 }
 
 /// The blocks of forms of a prepared implementation behind these lines, cut down to what counts for a place. Without
-/// lines they are those that were prepared; else all are made anew.
+/// lines they are those that were prepared; else these with other numbers of atoms, behind what the lines say.
 ///
 /// Only want of memory is an error; 2^32 atoms count as such.
 pub fn cut_down<'q>(

@@ -1,6 +1,6 @@
 -- Terms of which each map has an index that is selected from or updated, and types of terms.
 use Rattle.std.proofs.Common.{◌≡◌, ℕ, zero, suc, ◌+◌, Bool, true, false, List, [], ◌∷◌, ◌++◌, length, map, Some, refl, sym, ap, ◌∙◌, subst, arith}
-use Rattle.std.specs.Prelude.{◌<◌, ◌&&◌, nat_lt, slice_get}
+use Rattle.std.specs.Prelude.{◌<◌, nat_lt, slice_get}
 use Rattle.std.proofs.lemmas.Bool.{ltb-true, ltb-false}
 use Rattle.bg_ast.specs.Values.{Ty, IntTy, MapTy, KeyType, IntKey, UserKey}
 use Rattle.bg_ast.specs.Syntax.{Ex, Exs, Number, Fact, Constant, Read, Local, Global, Not, Negative, Binary, Apply, Select, Update, Old, NoMore, More, Fun}
@@ -8,7 +8,7 @@ use Rattle.bg_sense.specs.Typing.{key_ty}
 use Rattle.bg_sense.proofs.Bools.{and_left, and_right, both}
 use Rattle.bg_terms.specs.Terms.{Head, Applies, Selects, Updates, Differs, Term, is_below, are_below, are_in_order}
 use Rattle.bg_terms.specs.Alike.{HasFlatType}
-use Rattle.bg_terms.specs.Typed.{HaveFlatTypes, HeadHasType, TermsTyped, type_of, types_with}
+use Rattle.bg_terms.specs.Typed.{HaveFlatTypes, HeadHasType, type_of, types_with}
 use Rattle.bg_terms.proofs.Typed.{at_back, at_map}
 use Rattle.bg_flat.specs.Fronts.{AreIndexed}
 use Rattle.bg_numbered.specs.Fair.{FairTerms}

@@ -1,5 +1,5 @@
 -- The clauses of places behind lines.
-use Rattle.std.specs.Prelude.{◌≡◌, ℕ, List, Some, Ok, slice_get}
+use Rattle.std.specs.Prelude.{◌≡◌, List, Some, Ok, slice_get}
 use Rattle.bg_ast.specs.Syntax.{Proc, Impl, Prog}
 use Rattle.bg_ast.specs.Execution.{Place}
 use Rattle.bg_sense.specs.Variables.{procedure_of}

@@ -97,14 +97,6 @@ pub fn implementations_without_functions_stay()
     plain_blocks_stay()
 }
 
-/// Flat blocks hold no application, select, update and `old`.
-pub fn flat_blocks_of_programs_are_plain()
-    ensures { (p : Prog) (k : ℕ) (m : Impl) (q : Proc) → IsTyped p → is_over_values p ≡ true → slice_get p.implementations k ≡ Some m →
-        procedure_of p m.procedure ≡ Some q → PlainBlocks (flats_in p k m q) }
-{
-    passive_blocks_have_terms()
-}
-
 /// Behind any lines passive blocks stay made flat, over fair terms of which each map that is selected from or updated has an index; and over
 /// the implementation's own terms they do, where incarnations and all terms have their types.
 pub fn blocks_behind_lines_stay_flat()

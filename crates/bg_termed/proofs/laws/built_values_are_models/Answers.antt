@@ -1,12 +1,6 @@
-use Rattle.std.proofs.Common.{◌≡◌, true, ◌++◌, length, map, sym, subst}
-use Rattle.bg_sense.specs.Types.{are_of}
-use Rattle.bg_terms.specs.Alike.{scalar_ty}
-use Rattle.bg_terms.specs.Closed.{IsFinished}
-use Rattle.bg_terms.specs.Tables.{IsReadOff}
-use Rattle.bg_terms.specs.Terms.{IsModel}
-use Rattle.bg_terms.specs.Typed.{TermsTyped, types_with}
+use Rattle.std.proofs.Common.{length}
 use Rattle.bg_block_types.specs.Typed.{incarnations_in, passives_in}
-use Rattle.bg_read_off.specs.Leaves.{AreBuilt, silent}
+use Rattle.bg_read_off.specs.Leaves.{silent}
 use Rattle.bg_termed.specs.Lined.{lined_terms, lined_types, lined_built}
 use Rattle.bg_termed.specs.Termed.{count_in, terms_in}
 use Rattle.bg_termed.proofs.Behind.{are_built}

@@ -1,4 +1,4 @@
-use Rattle.std.proofs.Common.{◌≡◌, ℕ, true, false, ◌++◌, length, map, sym, subst}
+use Rattle.std.proofs.Common.{◌≡◌, true, false, map, sym, subst}
 use Rattle.std.specs.Prelude.{slice_get}
 use Rattle.bg_sense.specs.Types.{are_of}
 use Rattle.bg_passive.specs.Equations.{is_well, equations}

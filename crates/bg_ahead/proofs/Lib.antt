@@ -1,0 +1,15 @@
+pub mod There
+pub mod Denials
+pub mod Fresh
+pub mod Named
+pub mod Sorts
+pub mod Turning
+pub mod Over
+pub mod Places
+pub mod Spines
+pub mod Knowing
+pub mod Copying
+pub mod Behind
+pub mod Exactly
+pub mod Worth
+pub mod Saying
