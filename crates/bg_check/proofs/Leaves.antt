@@ -1,19 +1,20 @@
--- The truth values of a path and the numbers of a point, as lists.
+-- The truth values of a path and the numbers of a point, xs lists.
 use Rattle.std.proofs.Common.{◌≡◌, ℕ, zero, suc, ◌+◌, ◌<◌, ◌≤◌, ℤ, pos, Bool, true, false, if◌then◌else◌, List, [], ◌∷◌, length, map, None, refl, sym, ap, ◌∙◌, subst, replicate, arith}
 use Rattle.std.specs.Prelude.{◌&&◌, ◌||◌, ◌==◌, nat_eq, slice_get, slice_set, unwrap_or}
 use Rattle.std.proofs.lemmas.Bool.Decides.{nat_tests}
+use Rattle.bg_rows.specs.declared.entry.Entry.{Entry}
+use Rattle.bg_formula.specs.Atoms.{AtomOf, IsTruth, IsRow}
 use Rattle.bg_cert.specs.declared.cert.Decision.{Decision}
 use Rattle.bg_cert.specs.declared.cert.Decision.TheVariants.{Atom, AtMost}
 use Rattle.bg_cert.specs.Paths.{decides}
 use Rattle.bg_point.specs.declared.spot.Spot.{Spot}
-use Rattle.bg_point.specs.Points.{value_of}
 use Rattle.bg_linear.specs.declared.scalar.Sort.{Sort}
 use Rattle.bg_linear.specs.declared.scalar.Sort.TheVariants as sort
 use Rattle.bg_linear.specs.Sorts.{scalar_value, scalar_values}
 use Rattle.bg_atoms.specs.Ranks.{one_for, rank}
 use Rattle.bg_forms.specs.Worth.{bools_at}
 use Rattle.bg_scalar.specs.Values.{val_of}
-use Rattle.bg_check.specs.Leaves.{marked, numbered, scalar_for, scalars_from}
+use Rattle.bg_check.specs.Leaves.{marked, names, speaks_of, value_or, leaf_number, noted_by, noted_in, noted, numbered, unnamed, unnamed_by, scalar_for, scalars_from}
 
 -- ---- lists with one item set
 
@@ -106,25 +107,119 @@ not_later k = grind (arith, nat_tests)
 same_later : (j k : ℕ) → nat_eq j k ≡ nat_eq (suc j) (suc k)
 same_later j k = grind (arith, nat_tests)
 
-number_set : (zs : List ℤ) (k j : ℕ) (z : ℤ) → j < length zs → unwrap_or (slice_get (slice_set zs k z) j) (pos 0) ≡ (if nat_eq j k then z else unwrap_or (slice_get zs j) (pos 0))
-number_set [] k j z l = absurd (omega arith)
-number_set (y ∷ zs) zero zero z l = refl
-number_set (y ∷ zs) zero (suc j) z l =
-    sym (ap (λ b. if b then z else unwrap_or (slice_get zs j) (pos 0)) (not_zero j))
-number_set (y ∷ zs) (suc k) zero z l = sym (ap (λ b. if b then z else y) (not_later k))
-number_set (y ∷ zs) (suc k) (suc j) z l =
-    number_set zs k j z (omega (arith, l))
-    ∙ ap (λ b. if b then z else unwrap_or (slice_get zs j) (pos 0)) (same_later j k)
+set_at : {A : Type 0} (zs : List A) (k j : ℕ) (z d : A) → j < length zs → unwrap_or (slice_get (slice_set zs k z) j) d ≡ (if nat_eq j k then z else unwrap_or (slice_get zs j) d)
+set_at [] k j z d l = absurd (omega arith)
+set_at (y ∷ zs) zero zero z d l = refl
+set_at (y ∷ zs) zero (suc j) z d l =
+    sym (ap (λ b. if b then z else unwrap_or (slice_get zs j) d) (not_zero j))
+set_at (y ∷ zs) (suc k) zero z d l = sym (ap (λ b. if b then z else y) (not_later k))
+set_at (y ∷ zs) (suc k) (suc j) z d l =
+    set_at zs k j z d (omega (arith, l))
+    ∙ ap (λ b. if b then z else unwrap_or (slice_get zs j) d) (same_later j k)
 
-numbered_length : (ss : List Spot) (zs : List ℤ) → length (numbered ss zs) ≡ length zs
+pub numbered_length : (ss : List Spot) (zs : List ℤ) → length (numbered ss zs) ≡ length zs
 numbered_length [] zs = refl
 numbered_length (s ∷ ss) zs = set_length (numbered ss zs) s.variable s.value ∙ numbered_length ss zs
 
-pub leaf_number : (ss : List Spot) (n j : ℕ) → j < n → unwrap_or (slice_get (numbered ss (replicate n (pos 0))) j) (pos 0) ≡ value_of ss j
-leaf_number [] n j l = all_same n j (pos 0)
-leaf_number (s ∷ ss) n j l =
-    number_set (numbered ss (replicate n (pos 0))) s.variable j s.value (subst (λ k. j < k) (sym (numbered_length ss (replicate n (pos 0)) ∙ long n (pos 0))) l)
-    ∙ ap (λ y. if nat_eq j s.variable then s.value else y) (leaf_number ss n j l)
+-- the number of what is in a list is that of its spot, or the one of the list
+spotted : (ss : List Spot) (zs : List ℤ) (j : ℕ) → j < length zs → unwrap_or (slice_get (numbered ss zs) j) (pos 0) ≡ value_or (unwrap_or (slice_get zs j) (pos 0)) ss j
+spotted [] zs j l = refl
+spotted (s ∷ ss) zs j l =
+    set_at (numbered ss zs) s.variable j s.value (pos 0) (subst (λ k. j < k) (sym (numbered_length ss zs)) l)
+    ∙ ap (λ y. if nat_eq j s.variable then s.value else y) (spotted ss zs j l)
+
+unnamed_length : (targets : ℕ → ℤ) (xs : List AtomOf) (k n : ℕ) → length (unnamed targets xs k n) ≡ n
+unnamed_length targets xs k zero = refl
+unnamed_length targets xs k (suc n) = ap (λ i. suc i) (unnamed_length targets xs (suc k) n)
+
+without_point : (targets : ℕ → ℤ) (xs : List AtomOf) (k n j : ℕ) → j < n → unwrap_or (slice_get (unnamed targets xs k n) j) (pos 0) ≡ (if speaks_of (k + j) xs then pos 0 else targets (k + j))
+without_point targets xs k zero j l = absurd (omega (arith, l))
+without_point targets xs k (suc n) zero l =
+    let here : k + 0 ≡ k = omega arith in
+    ap (λ i. if speaks_of i xs then pos 0 else targets i) (sym here)
+without_point targets xs k (suc n) (suc j) l =
+    let there : suc k + j ≡ k + suc j = omega arith in
+    without_point targets xs (suc k) n j (omega (arith, l))
+    ∙ ap (λ i. if speaks_of i xs then pos 0 else targets i) there
+
+-- the number of one of the first n
+pub number_at : (targets : ℕ → ℤ) (xs : List AtomOf) (ss : List Spot) (n j : ℕ) → j < n → unwrap_or (slice_get (numbered ss (unnamed targets xs 0 n)) j) (pos 0) ≡ leaf_number targets xs ss j
+number_at targets xs ss n j l =
+    let none : 0 + j ≡ j = omega arith in
+    spotted ss (unnamed targets xs 0 n) j (subst (λ k. j < k) (sym (unnamed_length targets xs 0 n)) l)
+    ∙ ap (λ z. value_or z ss j) (without_point targets xs 0 n j l ∙ ap (λ i. if speaks_of i xs then pos 0 else targets i) none)
+
+-- ---- marks of what rows name
+
+note_one : (bs : List Bool) (k x : ℕ) → x < length bs → unwrap_or (slice_get (slice_set bs k true) x) false ≡ (nat_eq x k || unwrap_or (slice_get bs x) false)
+note_one bs k x l = set_at bs k x true false l ∙ by (nat_eq x k) (unwrap_or (slice_get bs x) false)
+  where
+    by : (b c : Bool) → (if b then true else c) ≡ (b || c)
+    by true c = refl
+    by false c = refl
+
+later : (e t d : Bool) → ((e || t) || d) ≡ (t || (e || d))
+later true true d = refl
+later true false d = refl
+later false true d = refl
+later false false d = refl
+
+at_last : (t : Bool) → t ≡ (t || false)
+at_last true = refl
+at_last false = refl
+
+either : (t d e : Bool) → ((t || d) || e) ≡ (t || (d || e))
+either true d e = refl
+either false d e = refl
+
+by_length : (ts : List Entry) (bs : List Bool) → length (noted_by ts bs) ≡ length bs
+by_length [] bs = refl
+by_length (t ∷ ts) bs = by_length ts (slice_set bs t.variable true) ∙ set_length bs t.variable true
+
+in_length : (a : AtomOf) (bs : List Bool) → length (noted_in a bs) ≡ length bs
+in_length (IsTruth y) bs = refl
+in_length (IsRow r d) bs = by_length r.entries bs
+
+noted_length : (xs : List AtomOf) (bs : List Bool) → length (noted xs bs) ≡ length bs
+noted_length [] bs = refl
+noted_length (a ∷ xs) bs = noted_length xs (noted_in a bs) ∙ in_length a bs
+
+by_at : (ts : List Entry) (bs : List Bool) (x : ℕ) → x < length bs → unwrap_or (slice_get (noted_by ts bs) x) false ≡ (unwrap_or (slice_get bs x) false || names x ts)
+by_at [] bs x l = at_last (unwrap_or (slice_get bs x) false)
+by_at (t ∷ ts) bs x l =
+    by_at ts (slice_set bs t.variable true) x (subst (λ n. x < n) (sym (set_length bs t.variable true)) l)
+    ∙ (ap (λ b. b || names x ts) (note_one bs t.variable x l) ∙ later (nat_eq x t.variable) (unwrap_or (slice_get bs x) false) (names x ts))
+
+noted_at : (xs : List AtomOf) (bs : List Bool) (x : ℕ) → x < length bs → unwrap_or (slice_get (noted xs bs) x) false ≡ (unwrap_or (slice_get bs x) false || speaks_of x xs)
+noted_at [] bs x l = at_last (unwrap_or (slice_get bs x) false)
+noted_at (IsTruth y ∷ xs) bs x l = noted_at xs bs x l
+noted_at (IsRow r d ∷ xs) bs x l =
+    noted_at xs (noted_by r.entries bs) x (subst (λ n. x < n) (sym (by_length r.entries bs)) l)
+    ∙ (ap (λ b. b || speaks_of x xs) (by_at r.entries bs x l) ∙ either (unwrap_or (slice_get bs x) false) (names x r.entries) (speaks_of x xs))
+
+by_marks : (targets : ℕ → ℤ) (xs : List AtomOf) (bs : List Bool) (j : ℕ) → ((i : ℕ) → i < length bs → unwrap_or (slice_get bs i) false ≡ speaks_of (j + i) xs) → unnamed_by targets j bs ≡ unnamed targets xs j (length bs)
+by_marks targets xs [] j h = refl
+by_marks targets xs (b ∷ bs) j h =
+    let here : j + 0 ≡ j = omega arith in
+    let first = h 0 (omega arith) ∙ ap (λ i. speaks_of i xs) here in
+    ap (λ c. (if c then pos 0 else targets j) ∷ unnamed_by targets (suc j) bs) first
+    ∙ ap (λ zs. (if speaks_of j xs then pos 0 else targets j) ∷ zs) (by_marks targets xs bs (suc j) (λ i l. h (suc i) (omega (arith, l)) ∙ ap (λ k. speaks_of k xs) (moved i)))
+  where
+    moved : (i : ℕ) → j + suc i ≡ suc j + i
+    moved i = omega arith
+
+-- by marks of what the rows of atoms name
+pub unnamed_are : (targets : ℕ → ℤ) (xs : List AtomOf) (n : ℕ) → unnamed_by targets 0 (noted xs (replicate n false)) ≡ unnamed targets xs 0 n
+unnamed_are targets xs n =
+    let size = noted_length xs (replicate n false) ∙ long n false in
+    by_marks targets xs (noted xs (replicate n false)) 0 (λ i l. marked_so i (subst (λ k. i < k) size l))
+    ∙ ap (unnamed targets xs 0) size
+  where
+    marked_so : (i : ℕ) → i < n → unwrap_or (slice_get (noted xs (replicate n false)) i) false ≡ speaks_of (0 + i) xs
+    marked_so i l =
+        let none : i ≡ 0 + i = omega arith in
+        noted_at xs (replicate n false) i (subst (λ k. i < k) (sym (long n false)) l)
+        ∙ (ap (λ b. b || speaks_of i xs) (all_same n i false) ∙ ap (λ k. speaks_of k xs) none)
 
 -- ---- scalars
 

@@ -4,6 +4,7 @@ pub mod Safe
 pub mod Leaves
 pub mod Points
 pub mod Alike
+pub mod Unnamed
 pub mod Worths
 pub mod Saying
 pub mod Firsts

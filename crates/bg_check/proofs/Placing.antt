@@ -1,5 +1,5 @@
 -- The clauses of a place that is asked.
-use Rattle.std.proofs.Common.{◌≡◌, ℕ, ◌+◌, pos, Bool, true, false, List, length, map, replicate, Result, Ok, Err, ap, ◌∙◌, subst, arith}
+use Rattle.std.proofs.Common.{◌≡◌, ℕ, ◌+◌, ℤ, pos, Bool, true, false, List, length, map, replicate, Result, Ok, Err, ap, ◌∙◌, subst, arith}
 use Rattle.std.specs.Prelude.{IfOk, slice_get, unwrap_or}
 use Rattle.std.specs.declared.alloc.AllocError.{AllocError}
 use Rattle.bg_ast.specs.Values.{Val, Ty}
@@ -11,7 +11,7 @@ use Rattle.bg_sense.specs.Typed.{IsTyped}
 use Rattle.bg_formula.specs.Formulas.{Formula}
 use Rattle.bg_cert.specs.declared.cert.Decision.{Decision}
 use Rattle.bg_point.specs.declared.spot.Spot as spots
-use Rattle.bg_point.specs.Points.{value_of}
+use Rattle.bg_point.specs.Points.{target_of}
 use Rattle.bg_tree.specs.declared.outcome.Budget.{Budget}
 use Rattle.bg_tree.specs.declared.outcome.Leaf.{Leaf}
 use Rattle.bg_kinds.specs.Views.{ref_in}
@@ -37,12 +37,12 @@ use Rattle.bg_task.specs.declared.lining.Lined.{Lined}
 use Rattle.bg_task.specs.declared.prepared.Prepared.{Prepared}
 use Rattle.bg_task.proofs.LawTypes.{TabledLaw}
 use Rattle.bg_task.proofs.Prepares.{impl, proc, impl_at, proc_at}
-use Rattle.bg_check.specs.Leaves.{marked, numbered, scalars_from}
-use Rattle.bg_check.specs.LeafRuns.{leaf_bools, numbers_in}
+use Rattle.bg_check.specs.Leaves.{marked, leaf_number, numbered, unnamed, scalars_from}
+use Rattle.bg_check.specs.LeafRuns.{leaf_bools, targets_for, numbers_in}
 use Rattle.bg_check.specs.declared.found.Found.{Found}
 use Rattle.bg_check.specs.Found.{IsFound}
 use Rattle.bg_check.proofs.LawTypes.{ResultLaw, IncarnationLaw, TermLaw, LinedLaw, StandInLaw}
-use Rattle.bg_check.proofs.Leaves.{leaf_number, scalars_are}
+use Rattle.bg_check.proofs.Leaves.{number_at, scalars_are}
 
 -- what holds for each budget holds for this one
 pub at_left : (left : Budget) (p : s.Prog) (set : ℕ → Bool) (t : Place) (es : List Line) (o : Result Found AllocError) → IfOk o (λ v. (n : Budget) → IsFound n p set t es v) → IfOk o (λ v. IsFound left p set t es v)
@@ -67,21 +67,28 @@ module _ (p : r.Program) (n : ℕ) (w : Prepared) (h : IsPrepared p n w) (ls : L
   abbrev S : List Sort
   S = lined_sorts P n M Q ls
 
-  scalars_there : map val_of (scalars_from (leaf_bools f leaf) (numbered leaf.spots.items (replicate (length S) (pos 0))) 0 0 S) ≡ numbers_in P n M Q ls f leaf
+  abbrev G : ℕ → ℤ
+  G = targets_for P n M Q
+
+  abbrev X : List ℤ
+  X = unnamed G f.atoms 0 (length S)
+
+  scalars_there : map val_of (scalars_from (leaf_bools f leaf) (numbered leaf.spots.items X) 0 0 S) ≡ numbers_in P n M Q ls f leaf
   scalars_there =
-      scalars_are (leaf_bools f leaf) (numbered leaf.spots.items (replicate (length S) (pos 0))) (value_of leaf.spots.items) (λ j. T (rank S j)) 0 0 S
-      (λ i l. ap (λ k. unwrap_or (slice_get (numbered leaf.spots.items (replicate (length S) (pos 0))) k) (pos 0)) (zero_plus i) ∙ leaf_number leaf.spots.items (length S) i l)
+      scalars_are (leaf_bools f leaf) (numbered leaf.spots.items X) (leaf_number G f.atoms leaf.spots.items) (λ j. T (rank S j)) 0 0 S
+      (λ i l. ap (λ k. unwrap_or (slice_get (numbered leaf.spots.items X) k) (pos 0)) (zero_plus i) ∙ number_at G f.atoms leaf.spots.items (length S) i l)
       (λ i l. ap T (zero_plus (rank S i)))
     where
       zero_plus : (i : ℕ) → 0 + i ≡ i
       zero_plus i = omega arith
 
   -- the scalars that are made
-  pub scalars_made : (ss : List Sort) (ts : List Bool) (sp : List spots.Spot) → ss ≡ S → ts ≡ leaf_bools f leaf → sp ≡ leaf.spots.items → map val_of (scalars_from ts (numbered sp (replicate (length ss) (pos 0))) 0 0 ss) ≡ numbers_in P n M Q ls f leaf
-  scalars_made ss ts sp a b c =
-      ap (λ x. map val_of (scalars_from ts (numbered sp (replicate (length x) (pos 0))) 0 0 x)) a
-      ∙ (ap (λ x. map val_of (scalars_from x (numbered sp (replicate (length S) (pos 0))) 0 0 S)) b
-      ∙ (ap (λ x. map val_of (scalars_from (leaf_bools f leaf) (numbered x (replicate (length S) (pos 0))) 0 0 S)) c ∙ scalars_there))
+  pub scalars_made : (ss : List Sort) (ts : List Bool) (sp : List spots.Spot) (gs : List ℤ) → ss ≡ S → ts ≡ leaf_bools f leaf → sp ≡ leaf.spots.items → gs ≡ w.targets.items → map val_of (scalars_from ts (numbered sp (unnamed (target_of gs) f.atoms 0 (length ss))) 0 0 ss) ≡ numbers_in P n M Q ls f leaf
+  scalars_made ss ts sp gs a b c d =
+      ap (λ x. map val_of (scalars_from ts (numbered sp (unnamed (target_of gs) f.atoms 0 (length x))) 0 0 x)) a
+      ∙ (ap (λ x. map val_of (scalars_from x (numbered sp (unnamed (target_of gs) f.atoms 0 (length S))) 0 0 S)) b
+      ∙ (ap (λ x. map val_of (scalars_from (leaf_bools f leaf) (numbered x (unnamed (target_of gs) f.atoms 0 (length S))) 0 0 S)) c
+      ∙ (ap (λ x. map val_of (scalars_from (leaf_bools f leaf) (numbered leaf.spots.items (unnamed (target_of x) f.atoms 0 (length S))) 0 0 S)) (d ∙ h.targets) ∙ scalars_there)))
 
   -- typed terms with scalars of their types
   number_leaf : TabledLaw → ResultLaw → IncarnationLaw → TermLaw → LinedLaw → StandInLaw → IsTyped P → is_over_values P ≡ true → IsScalarLeaf P.functions (incarnations_in P n M Q) (lined_terms P n M Q ls) (numbers_in P n M Q ls f leaf)
@@ -95,7 +102,7 @@ module _ (p : r.Program) (n : ℕ) (w : Prepared) (h : IsPrepared p n w) (ls : L
         incarnations = incarnations P n M Q t o im pr;
         terms = flats.terms;
         indexed = flats.indexed;
-        scalars = stand_ins P n M Q ls (value_of leaf.spots.items) (λ j. T (rank S j));
+        scalars = stand_ins P n M Q ls (leaf_number G f.atoms leaf.spots.items) (λ j. T (rank S j));
       }
 
   -- what is said of such terms with these scalars

@@ -1,5 +1,5 @@
 -- From a complete leaf to a run that fails.
-use Rattle.std.proofs.Common.{◌≡◌, ℕ, ◌+◌, Bool, true, false, List, [], ◌∷◌, ◌++◌, length, take, map, Option, Some, None, refl, sym, ap, ◌∙◌, subst}
+use Rattle.std.proofs.Common.{◌≡◌, ℕ, ◌+◌, ℤ, Bool, true, false, List, [], ◌∷◌, ◌++◌, length, take, map, Option, Some, None, refl, sym, ap, ◌∙◌, subst}
 use Rattle.std.specs.Prelude.{not, slice_get, Contains}
 use Rattle.std.proofs.lemmas.Option.{unwrap_or-slice_get}
 use Rattle.std.proofs.lemmas.List.{length-map, take-map}
@@ -28,8 +28,6 @@ use Rattle.bg_formula.specs.Atoms.{IsTruth, at}
 use Rattle.bg_formula.specs.Formulas.{Formula, is_whole}
 use Rattle.bg_formula.specs.Meaning.{Valuation, AtomsAgree, clauses_true}
 use Rattle.bg_cert.specs.Walks.{has}
-use Rattle.bg_point.specs.declared.spot.Spot as spots
-use Rattle.bg_point.specs.Points.{value_of}
 use Rattle.bg_tree.specs.declared.outcome.Leaf.{Leaf}
 use Rattle.bg_tree.specs.Ends.{IsLeaf}
 use Rattle.bg_blocks.specs.declared.block.Block.{Block}
@@ -77,11 +75,13 @@ use Rattle.bg_task.specs.Slices.{IsSliceFor, encoding_in}
 use Rattle.bg_task.specs.Made.{ClausesOf}
 use Rattle.bg_task.specs.Asked.{IsAsked}
 use Rattle.bg_check.specs.Verdicts.{IsFailure, HasTypes}
-use Rattle.bg_check.proofs.LawTypes.{WholeLaw, StandInLaw, FirstLaw, StartLaw, MeetLaw, HoldLaw, TermLaw, OwnLaw, FlatLaw, AlikeLaw, StandLaw, ModelLaw, DeniedLaw, WithinLaw, RowsLaw, LeafLaw, UnitLaw, SignLaw, SpotLaw, CheckLaw}
+use Rattle.bg_check.proofs.LawTypes.{WholeLaw, StandInLaw, FirstLaw, StartLaw, MeetLaw, HoldLaw, TermLaw, OwnLaw, FlatLaw, AlikeLaw, StandLaw, ModelLaw, DeniedLaw, WithinLaw, RowsLaw, SpotLaw, CheckLaw}
 use Rattle.bg_task.proofs.LawTypes.{BodyLaw, FitLaw, UnitAtomLaw, NamedUnitLaw, TabledLaw}
 use Rattle.bg_task.proofs.Formulas.{IsPlainFormula, plain_formula, plain_agree, own_number, unit_met}
 use Rattle.bg_check.proofs.Alike.{blocks_kept, blocks_fewer}
+use Rattle.bg_check.specs.Leaves.{leaf_number}
 use Rattle.bg_check.specs.LeafRuns.{leaf_bools, leaf_vals, vals_in, incarnation_vals, IsBuilt, HasLeaf, targets_for}
+use Rattle.bg_check.proofs.Unnamed.{LeavesMet, UnitsMet, SignsMet}
 use Rattle.bg_check.proofs.Worths.{leaf_valuation, truths_agree, worths_are}
 use Rattle.bg_check.proofs.Firsts.{first_at}
 use Rattle.bg_check.proofs.Saying.{said_alike, denied_behind, none_behind, below_behind}
@@ -110,9 +110,9 @@ pub record LeafLaws : Type 0 where
   pub rows : RowsLaw
   pub units_own : UnitAtomLaw
   pub units_named : NamedUnitLaw
-  pub leaves : LeafLaw
-  pub units : UnitLaw
-  pub signs : SignLaw
+  pub leaves : LeavesMet
+  pub units : UnitsMet
+  pub signs : SignsMet
   pub own_spots : SpotLaw
   pub checks : CheckLaw
   pub tabled : TabledLaw
@@ -187,8 +187,15 @@ module _ (laws : LeafLaws) (p : r.Program) (n : ℕ) (w : Prepared) (h : IsPrepa
     agree : AtomsAgree f.atoms
     agree = plain_agree A.first A.rows f encoding.denials plain
 
+    -- the targets, the numbers of the leaf, and what it makes of the atoms
+    abbrev G : ℕ → ℤ
+    G = targets_for P n M Q
+
+    abbrev numbers : ℕ → ℤ
+    numbers = leaf_number G f.atoms leaf.spots.items
+
     abbrev V : Valuation
-    V = leaf_valuation f leaf
+    V = leaf_valuation G f leaf
 
     abbrev T : ℕ → Bool
     T = bools_at (leaf_bools f leaf)
@@ -198,15 +205,15 @@ module _ (laws : LeafLaws) (p : r.Program) (n : ℕ) (w : Prepared) (h : IsPrepa
 
     is_met : clauses_true V f.atoms f.clauses ≡ true
     is_met =
-        laws.leaves (targets_for P n M Q) f (has set) leaf V is_whole_here agree is_leaf (λ x. refl) (truths_agree f leaf own is_leaf.once)
+        laws.leaves G f (has set) leaf V is_whole_here agree is_leaf (λ x. refl) (truths_agree G f leaf own is_leaf.once)
 
     worths : worth_in V f.atoms ≡ T
-    worths = worths_are laws.signs (targets_for P n M Q) f (has set) leaf agree is_leaf own
+    worths = worths_are laws.signs G f (has set) leaf agree is_leaf own
 
     -- named members of the set are there
     members : (b : ℕ) → bools_at A.named b ≡ true → set_of set b ≡ true → there_in f.candidates V.truths b ≡ true
     members b l s =
-        unit_met f A.named (laws.units_own A.first A.terms A.named A.rows spot A.blocks f made) (laws.units_named A.first A.terms A.named A.rows spot A.blocks f made) V (has set) (laws.units (targets_for P n M Q) f (has set) leaf V is_whole_here agree is_leaf (λ x. refl) (truths_agree f leaf own is_leaf.once)) b l (sym (ap (λ x. x b) (set_same set)) ∙ s)
+        unit_met f A.named (laws.units_own A.first A.terms A.named A.rows spot A.blocks f made) (laws.units_named A.first A.terms A.named A.rows spot A.blocks f made) V (has set) (laws.units G f (has set) leaf V is_whole_here agree is_leaf (λ x. refl) (truths_agree G f leaf own is_leaf.once)) b l (sym (ap (λ x. x b) (set_same set)) ∙ s)
 
     -- the check of the place is there under the set
     kept : (u : Place) → Contains (places P) u → u.spot ≡ spot → is_kept (set_of set) u.candidate ≡ true
@@ -218,7 +225,7 @@ module _ (laws : LeafLaws) (p : r.Program) (n : ℕ) (w : Prepared) (h : IsPrepa
 
     -- what stands for them
     abbrev Z : List Val
-    Z = leaf_vals f leaf S
+    Z = leaf_vals G f leaf S
 
     abbrev X : List Val
     X = vals_in P n M Q es f leaf
@@ -227,10 +234,10 @@ module _ (laws : LeafLaws) (p : r.Program) (n : ℕ) (w : Prepared) (h : IsPrepa
     Y = incarnation_vals P n M Q es f leaf
 
     stand_ins : are_of (map scalar_ty tys) Z ≡ true
-    stand_ins = laws.stand_ins P n M Q es (value_of leaf.spots.items) (λ j. T (rank S j))
+    stand_ins = laws.stand_ins P n M Q es numbers (λ j. T (rank S j))
 
     typed : are_of (incarnations_in P n M Q) Y ≡ true
-    typed = laws.first P n M Q es (value_of leaf.spots.items) (λ j. T (rank S j))
+    typed = laws.first P n M Q es numbers (λ j. T (rank S j))
 
     -- what is made of the implementation, with these values
     set_up : SetUp P (map (block_of p) w.blocks.items) w.frame w.firsts.items Y n M Q (first_state P (frame_decls M Q) Y) (arrivals_in P n M Q).made (arrivals_in P n M Q).arrivals
@@ -253,8 +260,8 @@ module _ (laws : LeafLaws) (p : r.Program) (n : ℕ) (w : Prepared) (h : IsPrepa
     said_flat : SaidBlocks T (over Z) (in_front F (flats_in P n M Q)) A.blocks
     said_flat =
         let r = laws.rows A.first A.terms A.named A.rows spot A.blocks f made encoding.below V encoding.rows in
-        let agrees = subst (λ (u : ℕ → Bool). RowsAgree (value_of leaf.spots.items) u A.first A.rows) worths r in
-        encoding.said (value_of leaf.spots.items) T (over Z) agrees (laws.holds S (value_of leaf.spots.items) (λ j. T (rank S j)))
+        let agrees = subst (λ (u : ℕ → Bool). RowsAgree numbers u A.first A.rows) worths r in
+        encoding.said numbers T (over Z) agrees (laws.holds S numbers (λ j. T (rank S j)))
 
     abbrev B : List FormBlock
     B = behind_front (length E) A.blocks

@@ -7,7 +7,6 @@ use Rattle.bg_formula.specs.Meaning.{Valuation, atom_true, same, signed, AtomsAg
 use Rattle.bg_cert.specs.declared.cert.Decision.{Decision}
 use Rattle.bg_cert.specs.Paths.{decides}
 use Rattle.bg_cert.specs.Causes.{is_decided, all_decided}
-use Rattle.bg_point.specs.Points.{value_of}
 use Rattle.bg_point.proofs.Near.{funext}
 use Rattle.bg_sense.proofs.Bools.{and_left, and_right}
 use Rattle.bg_tree.specs.declared.outcome.Leaf.{Leaf}
@@ -15,13 +14,14 @@ use Rattle.bg_tree.specs.Ends.{IsLeaf, TruthsAgree}
 use Rattle.bg_tree.specs.Once.{IsOnce}
 use Rattle.bg_forms.specs.Worth.{bools_at}
 use Rattle.bg_clause.specs.Valued.{worth_in}
+use Rattle.bg_check.specs.Leaves.{leaf_number}
 use Rattle.bg_check.specs.LeafRuns.{leaf_bools}
-use Rattle.bg_check.proofs.LawTypes.{SignLaw}
 use Rattle.bg_check.proofs.Leaves.{leaf_truth, no_truth}
+use Rattle.bg_check.proofs.Unnamed.{SignsMet}
 
--- the numbers of its point, and the truth values of its path
-abbrev pub leaf_valuation : Formula → Leaf → Valuation
-leaf_valuation f leaf = record { numbers = value_of leaf.spots.items; truths = bools_at (leaf_bools f leaf) }
+-- its numbers, where what no row names has these targets, and the truth values of its path
+abbrev pub leaf_valuation : (ℕ → ℤ) → Formula → Leaf → Valuation
+leaf_valuation targets f leaf = record { numbers = leaf_number targets f.atoms leaf.spots.items; truths = bools_at (leaf_bools f leaf) }
 
 at_below : (xs : List AtomOf) (a : ℕ) (x : AtomOf) → at xs a ≡ Some x → a < length xs
 at_below [] a x e = absurd (let bad : ⊥ = cc in bad)
@@ -46,8 +46,8 @@ decided_below (suc n) a ds h l =
     (either_side a n)
 
 -- the valuation agrees with the truth variables that the path decides
-pub truths_agree : (f : Formula) (leaf : Leaf) → ((a x : ℕ) → at f.atoms a ≡ Some (IsTruth x) → x ≡ a) → IsOnce leaf.path.items → TruthsAgree (leaf_valuation f leaf) f.atoms leaf.path.items
-truths_agree f leaf own once a x s e d =
+pub truths_agree : (targets : ℕ → ℤ) (f : Formula) (leaf : Leaf) → ((a x : ℕ) → at f.atoms a ≡ Some (IsTruth x) → x ≡ a) → IsOnce leaf.path.items → TruthsAgree (leaf_valuation targets f leaf) f.atoms leaf.path.items
+truths_agree targets f leaf own once a x s e d =
     ap (bools_at (leaf_bools f leaf)) (own a x e)
     ∙ (leaf_truth leaf.path.items (length f.atoms) a (at_below f.atoms a (IsTruth x) e) ∙ by s d)
   where
@@ -59,12 +59,12 @@ truths_agree f leaf own once a x s e d =
     by true d = d
     by false d = no_true (decides a true leaf.path.items) (decides a false leaf.path.items) (once a) d
 
-module _ (signs : SignLaw) (targets : ℕ → ℤ) (f : Formula) (set : ℕ → Bool) (leaf : Leaf) (agree : AtomsAgree f.atoms) (is_leaf : IsLeaf targets f set leaf) (own : (a x : ℕ) → at f.atoms a ≡ Some (IsTruth x) → x ≡ a) where
+module _ (signs : SignsMet) (targets : ℕ → ℤ) (f : Formula) (set : ℕ → Bool) (leaf : Leaf) (agree : AtomsAgree f.atoms) (is_leaf : IsLeaf targets f set leaf) (own : (a x : ℕ) → at f.atoms a ≡ Some (IsTruth x) → x ≡ a) where
   abbrev v : Valuation
-  v = leaf_valuation f leaf
+  v = leaf_valuation targets f leaf
 
   signed_at : (a : ℕ) (s : Bool) → a < length f.atoms → decides a s leaf.path.items ≡ true → signed v (at f.atoms a) s ≡ true
-  signed_at = signs targets f set leaf v agree is_leaf (λ x. refl) (truths_agree f leaf own is_leaf.once)
+  signed_at = signs targets f set leaf v agree is_leaf (λ x. refl) (truths_agree targets f leaf own is_leaf.once)
 
   not_true : (o : Option AtomOf) → signed v o false ≡ true → signed v o true ≡ false
   not_true None h = refl

@@ -8,7 +8,7 @@ use Rattle.bg_passive.specs.Incarnations.{first_state}
 use Rattle.bg_block_types.specs.Typed.{blocks_in, arrivals_in}
 use Rattle.bg_incarnate.specs.Walked.{next_in}
 use Rattle.bg_formula.specs.Formulas.{Formula}
-use Rattle.bg_point.specs.Points.{value_of, target_of}
+use Rattle.bg_point.specs.Points.{target_of}
 use Rattle.bg_tree.specs.declared.outcome.Leaf.{Leaf}
 use Rattle.bg_tree.specs.Ends.{IsLeaf}
 use Rattle.bg_forms.specs.Worth.{bools_at}
@@ -28,7 +28,7 @@ use Rattle.bg_model.specs.Over.{walk_over}
 use Rattle.bg_model.specs.Turns.{turns, taken}
 use Rattle.bg_model.specs.Interps.{interp_of}
 use Rattle.bg_model.specs.declared.failure.Counterexample.{Counterexample}
-use Rattle.bg_check.specs.Leaves.{marked}
+use Rattle.bg_check.specs.Leaves.{marked, leaf_number}
 use Rattle.bg_task.specs.Cuts.{HasOwnClauses}
 use Rattle.bg_task.specs.Targets.{targets_in}
 
@@ -41,13 +41,14 @@ abbrev pub targets_for : Prog → ℕ → Impl → Proc → ℕ → ℤ
 targets_for p k m q = target_of (targets_in p k m q)
 
 -- what stands for the values of incarnations and terms, of these sorts: a truth value is worth what its atom is, a number what the near
--- point says
-abbrev pub leaf_vals : Formula → Leaf → List Sort → List Val
-leaf_vals f leaf sorts = scalar_values (value_of leaf.spots.items) (λ j. bools_at (leaf_bools f leaf) (rank sorts j)) sorts
+-- point says, or, where no row names it, its target
+abbrev pub leaf_vals : (ℕ → ℤ) → Formula → Leaf → List Sort → List Val
+leaf_vals targets f leaf sorts =
+    scalar_values (leaf_number targets f.atoms leaf.spots.items) (λ j. bools_at (leaf_bools f leaf) (rank sorts j)) sorts
 
 -- that of the incarnations and terms of an implementation, and of the terms that lines bring
 abbrev pub numbers_in : Prog → ℕ → Impl → Proc → List Line → Formula → Leaf → List Val
-numbers_in p k m q ls f leaf = leaf_vals f leaf (lined_sorts p k m q ls)
+numbers_in p k m q ls f leaf = leaf_vals (targets_for p k m q) f leaf (lined_sorts p k m q ls)
 
 -- the values that are built for it, and those of the incarnations alone
 abbrev pub vals_in : Prog → ℕ → Impl → Proc → List Line → Formula → Leaf → List Val

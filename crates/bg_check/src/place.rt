@@ -64,7 +64,8 @@ fn leaf_found(
     built_values_are_typed();
     let truths = leaf_truths(alloc, f.atoms.len(), &leaf.path)?;
     let lined = with_lines(alloc, question.program, question.prepared, lines)?;
-    let scalars = leaf_scalars(alloc, &lined.sorts, &truths, &leaf.spots)?;
+    let targets = &question.prepared.targets;
+    let scalars = leaf_scalars(alloc, &lined.sorts, &truths, &leaf.spots, f, targets)?;
     let around = Around {
         incarnations: lined.incarnations,
         results: &lined.results,

@@ -157,7 +157,7 @@ const TEXTS: [Case; 34] = [
         &["bg", "verify", "--history", "a.bpl"],
         "const c: int; function g(x: int): int { x } function f(int): int; axiom f(g(c)) == 2;",
         Status::Verified,
-        "axioms: consistent\nretained set: greatest\nsummary: 0 retained, 0 dropped; 0 verified, 0 refuted, 0 unknown\nhistory:\ninterpretation:\n    const c = 0\n    function f = [0 := 2, else 0]\n",
+        "axioms: consistent\nretained set: greatest\nsummary: 0 retained, 0 dropped; 0 verified, 0 refuted, 0 unknown\nhistory:\ninterpretation:\n    const c = 1\n    function f = [1 := 2, else 0]\n",
         "",
     ),
     (

@@ -20,6 +20,7 @@ use Rattle.bg_model.specs.declared.failure.Counterexample.{Counterexample}
 use Rattle.bg_task.specs.Slices.{encoding_in}
 use Rattle.bg_task.proofs.Prepares.{impl, proc}
 use Rattle.bg_check.specs.LeafRuns.{IsBuilt}
+use Rattle.bg_check.proofs.Unnamed.{leaves_met, units_met, signs_met}
 use Rattle.bg_check.proofs.Refutes.{LeafLaws, IsRun, refutes}
 use Rattle.bg_check.proofs.failing.failing.Goals as goal
 
@@ -49,9 +50,9 @@ unreachable-requires c =
       rows = c.atoms_of_clauses.ensures.rows;
       units_own = c.atoms_of_clauses.ensures.units;
       units_named = c.atoms_of_clauses.ensures.named;
-      leaves = c.leaves_are_met.ensures.clauses;
-      units = c.leaves_are_met.ensures.units;
-      signs = c.leaves_are_met.ensures.atoms;
+      leaves = leaves_met c.leaves_are_met.ensures.clauses;
+      units = units_met c.leaves_are_met.ensures.units;
+      signs = signs_met c.leaves_are_met.ensures.atoms;
       own_spots = c.places_have_spots_of_their_own.ensures.candidate;
       checks = c.checks_of_passive_blocks_are_places.ensures;
       tabled = c.programs_over_values_are_tabled.ensures;
@@ -101,9 +102,9 @@ returns c =
       rows = c.atoms_of_clauses.ensures.rows;
       units_own = c.atoms_of_clauses.ensures.units;
       units_named = c.atoms_of_clauses.ensures.named;
-      leaves = c.leaves_are_met.ensures.clauses;
-      units = c.leaves_are_met.ensures.units;
-      signs = c.leaves_are_met.ensures.atoms;
+      leaves = leaves_met c.leaves_are_met.ensures.clauses;
+      units = units_met c.leaves_are_met.ensures.units;
+      signs = signs_met c.leaves_are_met.ensures.atoms;
       own_spots = c.places_have_spots_of_their_own.ensures.candidate;
       checks = c.checks_of_passive_blocks_are_places.ensures;
       tabled = c.programs_over_values_are_tabled.ensures;

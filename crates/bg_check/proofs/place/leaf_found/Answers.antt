@@ -34,9 +34,9 @@ unreachable-requires c =
     let many : c.len.result ≡ length f.atoms = omega (arith, c.len.ensures, c.args.f.now.atoms.ok.0, length-map c.args.f.now.atoms.items atom_of) in
     let truths = c.in_ok-truths.ensures ∙ truths_from f c.args.leaf c.deref.result.now c.len.result c.deref.ensures.value many in
     let has_lines = c.in_ok-lined.ensures n h in
-    let made = scalars_made p n w h ls f c.args.leaf c.deref-2.result.now c.deref-3.result.now c.deref-4.result.now (c.deref-2.ensures.value ∙ has_lines.sorts) (c.deref-3.ensures.value ∙ truths) c.deref-4.ensures.value in
-    let scalars = ap (map val_of) (c.deref-7.ensures.value ∙ c.in_ok-scalars.ensures) ∙ made in
-    let finish = finish_here p n w h ls f c.args.leaf c.programs_over_values_are_tabled.ensures c.types_over_values_are_indexed.ensures.functions c.types_over_values_are_indexed.ensures.incarnations c.passive_blocks_have_terms.ensures c.blocks_behind_lines_stay_flat.ensures.lined c.built_values_are_typed.ensures.scalars c.requires.typed c.requires.scalars c.in_ok-lined.lined has_lines (record { incarnations = c.in_ok-lined.lined.incarnations; results = c.deref-5.result }) refl c.deref-5.ensures.value c.deref-6.result.now c.deref-6.ensures.value c.deref-7.result.now scalars c.in_ok-values.field-0 c.in_ok-values.ensures in
+    let made = scalars_made p n w h ls f c.args.leaf c.deref-2.result.now c.deref-3.result.now c.deref-4.result.now c.deref-5.result.now (c.deref-2.ensures.value ∙ has_lines.sorts) (c.deref-3.ensures.value ∙ truths) c.deref-4.ensures.value c.deref-5.ensures.value in
+    let scalars = ap (map val_of) (c.deref-8.ensures.value ∙ c.in_ok-scalars.ensures) ∙ made in
+    let finish = finish_here p n w h ls f c.args.leaf c.programs_over_values_are_tabled.ensures c.types_over_values_are_indexed.ensures.functions c.types_over_values_are_indexed.ensures.incarnations c.passive_blocks_have_terms.ensures c.blocks_behind_lines_stay_flat.ensures.lined c.built_values_are_typed.ensures.scalars c.requires.typed c.requires.scalars c.in_ok-lined.lined has_lines (record { incarnations = c.in_ok-lined.lined.incarnations; results = c.deref-6.result }) refl c.deref-6.ensures.value c.deref-7.result.now c.deref-7.ensures.value c.deref-8.result.now scalars c.in_ok-values.field-0 c.in_ok-values.ensures in
     let came = subst (IsFinish (meaning_of p).functions (incarnations_in (meaning_of p) n (impl p n w h) (proc p n w h)) (lined_terms (meaning_of p) n (impl p n w h) (proc p n w h) ls) (numbers_in (meaning_of p) n (impl p n w h) (proc p n w h) ls f c.args.leaf)) c.in-NoScalars.is finish in
     came
 
@@ -57,9 +57,9 @@ failing-requires-clause-built c h =
     let many : c.len.result ≡ length f.atoms = omega (arith, c.len.ensures, c.args.f.now.atoms.ok.0, length-map c.args.f.now.atoms.items atom_of) in
     let truths = c.in_ok-truths.ensures ∙ truths_from f c.args.leaf c.deref.result.now c.len.result c.deref.ensures.value many in
     let has_lines = c.in_ok-lined.ensures n h in
-    let made = scalars_made p n w h ls f c.args.leaf c.deref-2.result.now c.deref-3.result.now c.deref-4.result.now (c.deref-2.ensures.value ∙ has_lines.sorts) (c.deref-3.ensures.value ∙ truths) c.deref-4.ensures.value in
-    let scalars = ap (map val_of) (c.deref-7.ensures.value ∙ c.in_ok-scalars.ensures) ∙ made in
-    let finish = finish_here p n w h ls f c.args.leaf c.programs_over_values_are_tabled.ensures c.types_over_values_are_indexed.ensures.functions c.types_over_values_are_indexed.ensures.incarnations c.passive_blocks_have_terms.ensures c.blocks_behind_lines_stay_flat.ensures.lined c.built_values_are_typed.ensures.scalars c.requires.typed c.requires.scalars c.in_ok-lined.lined has_lines (record { incarnations = c.in_ok-lined.lined.incarnations; results = c.deref-5.result }) refl c.deref-5.ensures.value c.deref-6.result.now c.deref-6.ensures.value c.deref-7.result.now scalars c.in_ok-values.field-0 c.in_ok-values.ensures in
+    let made = scalars_made p n w h ls f c.args.leaf c.deref-2.result.now c.deref-3.result.now c.deref-4.result.now c.deref-5.result.now (c.deref-2.ensures.value ∙ has_lines.sorts) (c.deref-3.ensures.value ∙ truths) c.deref-4.ensures.value c.deref-5.ensures.value in
+    let scalars = ap (map val_of) (c.deref-8.ensures.value ∙ c.in_ok-scalars.ensures) ∙ made in
+    let finish = finish_here p n w h ls f c.args.leaf c.programs_over_values_are_tabled.ensures c.types_over_values_are_indexed.ensures.functions c.types_over_values_are_indexed.ensures.incarnations c.passive_blocks_have_terms.ensures c.blocks_behind_lines_stay_flat.ensures.lined c.built_values_are_typed.ensures.scalars c.requires.typed c.requires.scalars c.in_ok-lined.lined has_lines (record { incarnations = c.in_ok-lined.lined.incarnations; results = c.deref-6.result }) refl c.deref-6.ensures.value c.deref-7.result.now c.deref-7.ensures.value c.deref-8.result.now scalars c.in_ok-values.field-0 c.in_ok-values.ensures in
     let came = subst (IsFinish (meaning_of p).functions (incarnations_in (meaning_of p) n (impl p n w h) (proc p n w h)) (lined_terms (meaning_of p) n (impl p n w h) (proc p n w h) ls) (numbers_in (meaning_of p) n (impl p n w h) (proc p n w h) ls f c.args.leaf)) c.in-Tables.is finish in
     let values = sym (ap (map value_of) c.deref-in-Tables-2.ensures.value) in
     subst (λ (vs : List Val). IsBuilt (meaning_of p) n (impl p n w h) (proc p n w h) ls f c.args.leaf vs (tables_in c.in-Tables.tables.items)) values
@@ -86,9 +86,9 @@ returns-in-None c left =
     let many : c.len.result ≡ length f.atoms = omega (arith, c.len.ensures, c.args.f.now.atoms.ok.0, length-map c.args.f.now.atoms.items atom_of) in
     let truths = c.in_ok-truths.ensures ∙ truths_from f c.args.leaf c.deref.result.now c.len.result c.deref.ensures.value many in
     let has_lines = c.in_ok-lined.ensures n h in
-    let made = scalars_made p n w h ls f c.args.leaf c.deref-2.result.now c.deref-3.result.now c.deref-4.result.now (c.deref-2.ensures.value ∙ has_lines.sorts) (c.deref-3.ensures.value ∙ truths) c.deref-4.ensures.value in
-    let scalars = ap (map val_of) (c.deref-7.ensures.value ∙ c.in_ok-scalars.ensures) ∙ made in
-    let finish = finish_here p n w h ls f c.args.leaf c.programs_over_values_are_tabled.ensures c.types_over_values_are_indexed.ensures.functions c.types_over_values_are_indexed.ensures.incarnations c.passive_blocks_have_terms.ensures c.blocks_behind_lines_stay_flat.ensures.lined c.built_values_are_typed.ensures.scalars c.requires.typed c.requires.scalars c.in_ok-lined.lined has_lines (record { incarnations = c.in_ok-lined.lined.incarnations; results = c.deref-5.result }) refl c.deref-5.ensures.value c.deref-6.result.now c.deref-6.ensures.value c.deref-7.result.now scalars c.in_ok-values.field-0 c.in_ok-values.ensures in
+    let made = scalars_made p n w h ls f c.args.leaf c.deref-2.result.now c.deref-3.result.now c.deref-4.result.now c.deref-5.result.now (c.deref-2.ensures.value ∙ has_lines.sorts) (c.deref-3.ensures.value ∙ truths) c.deref-4.ensures.value c.deref-5.ensures.value in
+    let scalars = ap (map val_of) (c.deref-8.ensures.value ∙ c.in_ok-scalars.ensures) ∙ made in
+    let finish = finish_here p n w h ls f c.args.leaf c.programs_over_values_are_tabled.ensures c.types_over_values_are_indexed.ensures.functions c.types_over_values_are_indexed.ensures.incarnations c.passive_blocks_have_terms.ensures c.blocks_behind_lines_stay_flat.ensures.lined c.built_values_are_typed.ensures.scalars c.requires.typed c.requires.scalars c.in_ok-lined.lined has_lines (record { incarnations = c.in_ok-lined.lined.incarnations; results = c.deref-6.result }) refl c.deref-6.ensures.value c.deref-7.result.now c.deref-7.ensures.value c.deref-8.result.now scalars c.in_ok-values.field-0 c.in_ok-values.ensures in
     let came = subst (IsFinish (meaning_of p).functions (incarnations_in (meaning_of p) n (impl p n w h) (proc p n w h)) (lined_terms (meaning_of p) n (impl p n w h) (proc p n w h) ls) (numbers_in (meaning_of p) n (impl p n w h) (proc p n w h) ls f c.args.leaf)) c.in-Lines.is finish in
     let is = clauses_here p n w h ls (spot_of c.args.question.place.now.spot) (option_of candidate_of c.args.question.place.now.candidate) c.args.cut.now f c.requires.slice c.requires.clauses in
     record { formula = f; is = is; is_leaf = subst (λ (zs : List ℤ). IsLeaf (target_of zs) f (has c.args.question.set.now) c.args.leaf) c.requires.prepared.targets c.requires.leaf; wanting = came }
@@ -104,9 +104,9 @@ returns-in-Leaves c left =
     let many : c.len.result ≡ length f.atoms = omega (arith, c.len.ensures, c.args.f.now.atoms.ok.0, length-map c.args.f.now.atoms.items atom_of) in
     let truths = c.in_ok-truths.ensures ∙ truths_from f c.args.leaf c.deref.result.now c.len.result c.deref.ensures.value many in
     let has_lines = c.in_ok-lined.ensures n h in
-    let made = scalars_made p n w h ls f c.args.leaf c.deref-2.result.now c.deref-3.result.now c.deref-4.result.now (c.deref-2.ensures.value ∙ has_lines.sorts) (c.deref-3.ensures.value ∙ truths) c.deref-4.ensures.value in
-    let scalars = ap (map val_of) (c.deref-7.ensures.value ∙ c.in_ok-scalars.ensures) ∙ made in
-    let finish = finish_here p n w h ls f c.args.leaf c.programs_over_values_are_tabled.ensures c.types_over_values_are_indexed.ensures.functions c.types_over_values_are_indexed.ensures.incarnations c.passive_blocks_have_terms.ensures c.blocks_behind_lines_stay_flat.ensures.lined c.built_values_are_typed.ensures.scalars c.requires.typed c.requires.scalars c.in_ok-lined.lined has_lines (record { incarnations = c.in_ok-lined.lined.incarnations; results = c.deref-5.result }) refl c.deref-5.ensures.value c.deref-6.result.now c.deref-6.ensures.value c.deref-7.result.now scalars c.in_ok-values.field-0 c.in_ok-values.ensures in
+    let made = scalars_made p n w h ls f c.args.leaf c.deref-2.result.now c.deref-3.result.now c.deref-4.result.now c.deref-5.result.now (c.deref-2.ensures.value ∙ has_lines.sorts) (c.deref-3.ensures.value ∙ truths) c.deref-4.ensures.value c.deref-5.ensures.value in
+    let scalars = ap (map val_of) (c.deref-8.ensures.value ∙ c.in_ok-scalars.ensures) ∙ made in
+    let finish = finish_here p n w h ls f c.args.leaf c.programs_over_values_are_tabled.ensures c.types_over_values_are_indexed.ensures.functions c.types_over_values_are_indexed.ensures.incarnations c.passive_blocks_have_terms.ensures c.blocks_behind_lines_stay_flat.ensures.lined c.built_values_are_typed.ensures.scalars c.requires.typed c.requires.scalars c.in_ok-lined.lined has_lines (record { incarnations = c.in_ok-lined.lined.incarnations; results = c.deref-6.result }) refl c.deref-6.ensures.value c.deref-7.result.now c.deref-7.ensures.value c.deref-8.result.now scalars c.in_ok-values.field-0 c.in_ok-values.ensures in
     let came = subst (IsFinish (meaning_of p).functions (incarnations_in (meaning_of p) n (impl p n w h) (proc p n w h)) (lined_terms (meaning_of p) n (impl p n w h) (proc p n w h) ls) (numbers_in (meaning_of p) n (impl p n w h) (proc p n w h) ls f c.args.leaf)) c.in-Leaves.is finish in
     let is = clauses_here p n w h ls (spot_of c.args.question.place.now.spot) (option_of candidate_of c.args.question.place.now.candidate) c.args.cut.now f c.requires.slice c.requires.clauses in
     record { formula = f; is = is; is_leaf = subst (λ (zs : List ℤ). IsLeaf (target_of zs) f (has c.args.question.set.now) c.args.leaf) c.requires.prepared.targets c.requires.leaf; leaves = came }
