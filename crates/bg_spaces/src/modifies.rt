@@ -1,7 +1,8 @@
 //! The globals that procedures modify.
-ghost use Rattle.std.specs.Prelude.{◌≡◌, ◌+◌, ◌++◌, map, flat_map, IfOk, IfErr, OnOk};
+ghost use Rattle.std.specs.Prelude.{◌≡◌, ◌<◌, ◌+◌, ◌++◌, ℕ, true, false, map, flat_map, length, get_or, slice_set, IfOk, IfErr, OnOk};
 ghost use Rattle.bg_text.specs.Views as v;
 ghost use Rattle.bg_spaces.specs.Declarations.{value_of, global_in, modified_in, rising, modifies_of, changes_of};
+ghost use Rattle.bg_names.specs.Inside.{has_number};
 ghost use Rattle.bg_names.specs.Views.{listed};
 ghost use Rattle.bg_names.specs.declared.error.ResolveError.TheVariants.{Memory};
 
@@ -9,7 +10,6 @@ use crate::values::Values;
 use bg_names::error::ResolveError;
 use bg_names::names::{number, place};
 use bg_names::scope::Meaning;
-use bg_names::walk::has_number;
 use bg_text::{Decl, Name, Spec};
 use std::alloc::Global;
 
@@ -59,16 +59,39 @@ fn push_modified(out: &mut Vec<u32>, values: &Values, spec: &Spec) -> Result<(),
     }
 }
 
+/// Marks a number, if there is a mark for it.
+fn mark(marks: &mut [bool], k: u32)
+    ensures { marks.new ≡ slice_set marks.old k true }
+{
+    let k = k as usize;
+    if k < marks.len() {
+        marks[k] = true;
+    }
+}
+
+/// For each number below this one whether it is among these.
+fn marks(alloc: Global, count: usize, ks: &[u32]) -> Result<Vec<bool>, ResolveError>
+    ensures long { IfOk result (λ made. length made.items ≡ count) }
+    ensures exact { IfOk result (λ made. (n : ℕ) → n < count → get_or made.items n false ≡ has_number ks.now n) }
+    ensures err { IfErr result (λ e. e ≡ Memory) }
+{
+    let mut marks = vec![in alloc; false; count]?;
+    for k in ks {
+        mark(&mut marks, *k);
+    }
+    Ok(marks)
+}
+
 /// The numbers below this one that are among these, rising.
 fn rising(alloc: Global, count: usize, ks: &[u32]) -> Result<Vec<u32>, ResolveError>
     ensures ok { IfOk result (λ xs. xs.items ≡ rising count ks.now) }
     ensures err { IfErr result (λ e. e ≡ Memory) }
 {
+    let marks = marks(alloc, count, ks)?;
     let mut out = Vec::new(alloc);
     for n in 0..count {
-        let k = number(n)?;
-        if has_number(ks, k) {
-            out.push(k)?;
+        if marks[n] {
+            out.push(number(n)?)?;
         }
     }
     Ok(out)
