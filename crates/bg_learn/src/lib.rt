@@ -4,12 +4,15 @@
 
 mod aim;
 mod answer;
+mod groups;
 mod leaf;
+mod near;
 mod pairs;
 mod path;
 mod search;
 mod start;
 mod trim;
+mod uses;
 mod write;
 
 pub use answer::{Proposal, propose};

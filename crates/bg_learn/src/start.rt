@@ -1,7 +1,8 @@
 //! The start: the clauses and units of the formula, the equalities that hold at the root, and the columns of its rows.
 
 use crate::aim::aim;
-use crate::pairs::solve_equalities;
+use crate::near::refute_near;
+use crate::pairs::{root_pairs, solve_pairs};
 use bg_formula::{Atom, Literal};
 use bg_simplex::{Lit, Multiple};
 use bg_trail::{
@@ -68,18 +69,36 @@ fn is_member(set: &[bool], c: usize) -> bool {
     }
 }
 
-/// Makes the atoms of the set's candidates true. Answers one that is false.
-fn add_members(e: &mut Engine<'_>, set: &[bool]) -> Option<Reason> {
-    let f = e.formula;
-    for (c, atom) in f.candidates.iter().enumerate() {
+/// A candidate that plays a part, and its atom.
+#[derive(Clone, Copy)]
+struct Part {
+    candidate: usize,
+    atom: u32,
+}
+
+/// The candidates that play a part, in their order.
+fn parts_of(e: &Engine<'_>) -> Result<Vec<Part>, AllocError> {
+    let mut made = Vec::new(e.alloc);
+    for (candidate, atom) in e.formula.candidates.iter().enumerate() {
         if let Some(a) = atom {
-            if is_member(set, c) {
-                let l = literal(*a, true);
-                let why = Reason::Unit(u32::try_from(c).unwrap_or(u32::MAX), l);
-                let found = require(e, l, why);
-                if found.is_some() {
-                    return found;
-                }
+            made.push(Part {
+                candidate,
+                atom: *a,
+            })?;
+        }
+    }
+    Ok(made)
+}
+
+/// Makes the atoms of the set's candidates true. Answers one that is false.
+fn add_members(e: &mut Engine<'_>, parts: &[Part], set: &[bool]) -> Option<Reason> {
+    for part in parts {
+        if is_member(set, part.candidate) {
+            let l = literal(part.atom, true);
+            let why = Reason::Unit(u32::try_from(part.candidate).unwrap_or(u32::MAX), l);
+            let found = require(e, l, why);
+            if found.is_some() {
+                return found;
             }
         }
     }
@@ -87,15 +106,13 @@ fn add_members(e: &mut Engine<'_>, set: &[bool]) -> Option<Reason> {
 }
 
 /// Makes the atoms of candidates outside the set false. They stand in clauses as denials alone, so nothing hangs on it.
-fn leave_out(e: &mut Engine<'_>, set: &[bool]) {
+fn leave_out(e: &mut Engine<'_>, parts: &[Part], set: &[bool]) {
     let f = e.formula;
-    for (c, atom) in f.candidates.iter().enumerate() {
-        if let Some(a) = atom {
-            let l = literal(*a, false);
-            let is_truth = matches!(f.atoms.get(*a as usize), Some(Atom::Truth(_)));
-            if is_truth && !is_member(set, c) && is_open(&e.trail, l) {
-                assign(e, l, Reason::Decision);
-            }
+    for part in parts {
+        let l = literal(part.atom, false);
+        let is_truth = matches!(f.atoms.get(part.atom as usize), Some(Atom::Truth(_)));
+        if is_truth && !is_member(set, part.candidate) && is_open(&e.trail, l) {
+            assign(e, l, Reason::Decision);
         }
     }
 }
@@ -148,7 +165,7 @@ fn know(e: &mut Engine<'_>, a: u32, value: bool) -> Result<Option<Reason>, Alloc
 }
 
 /// Seats an atom of the formula, if it has a row.
-fn seat_atom(e: &mut Engine<'_>, a: u32) -> Result<Option<Reason>, AllocError> {
+pub fn seat_atom(e: &mut Engine<'_>, a: u32) -> Result<Option<Reason>, AllocError> {
     let f = e.formula;
     let Some(Atom::Holds(both)) = f.atoms.get(a as usize) else {
         return Ok(None);
@@ -180,11 +197,12 @@ fn add_all(e: &mut Engine<'_>, set: &[bool]) -> Result<Option<Reason>, AllocErro
     if found.is_some() {
         return Ok(found);
     }
-    let found = add_members(e, set);
+    let parts = parts_of(e)?;
+    let found = add_members(e, &parts, set);
     if found.is_some() {
         return Ok(found);
     }
-    leave_out(e, set);
+    leave_out(e, &parts, set);
     match units(e) {
         Some(c) => Ok(Some(Reason::Clause(c))),
         None => Ok(None),
@@ -202,7 +220,12 @@ pub fn start(
     if found.is_some() {
         return Ok(found);
     }
-    let settled = solve_equalities(e)?;
+    let pairs = root_pairs(e)?;
+    let found = refute_near(e, &pairs)?;
+    if found.is_some() {
+        return Ok(found);
+    }
+    let settled = solve_pairs(e, &pairs)?;
     let found = seat_all(e, &settled)?;
     if found.is_some() {
         return Ok(found);

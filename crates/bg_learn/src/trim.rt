@@ -1,5 +1,6 @@
 //! Which of what was learned the end of a search needs: a pass from the back.
 
+use crate::groups::{Groups, close_groups, new_groups, note_uses};
 use bg_simplex::Lit;
 use bg_solved::{Deriver, add_multiple, clear, reduced_row};
 use bg_trail::{
@@ -7,11 +8,31 @@ use bg_trail::{
 };
 use std::alloc::AllocError;
 
-/// Of the literals that are true at the root, by their places, and of the lemmas whether they are needed.
+/// Of the literals that are true at the root, by their places, whether they are needed; of each lemma how many needed reasons name it;
+/// and which of the needed reasons use the same rows.
 #[derive(Drop)]
 pub struct Needs {
     pub facts: Vec<bool>,
-    pub lemmas: Vec<bool>,
+    pub lemmas: Vec<u32>,
+    pub groups: Groups,
+}
+
+/// A reason, with its number among all, and where it stands: before it so many literals were true at the root.
+#[derive(Clone, Copy)]
+struct Site {
+    reason: Reason,
+    number: usize,
+    before: usize,
+}
+
+/// The number of a link's reason: they stand behind those of the literals of the root.
+pub fn link_number(facts: &[Link], at: usize) -> usize {
+    facts.len().saturating_add(at)
+}
+
+/// The number of the reason that ends a lemma's proof; behind those of all lemmas stands that of the end of the search.
+pub fn end_number(e: &Engine<'_>, facts: &[Link], k: usize) -> usize {
+    link_number(facts, e.lemmas.chain.len()).saturating_add(k)
 }
 
 /// Adds so many times the row of a literal, as it is given, to a sum, if there is one yet. Answers the number of the sum.
@@ -60,38 +81,46 @@ fn need(e: &Engine<'_>, n: &mut Needs, l: Lit, before: usize) {
     }
 }
 
-/// Marks the lemma of a clause.
+/// Notes that a reason names the lemma of a clause.
 fn need_lemma(e: &Engine<'_>, n: &mut Needs, c: u32) {
     let Some(k) = (c as usize).checked_sub(e.formula.clauses.len()) else {
         return;
     };
-    if let Some(lemma) = n.lemmas.get_mut(k) {
-        *lemma = true;
+    if let Some(count) = n.lemmas.get_mut(k) {
+        *count = count.saturating_add(1);
     }
 }
 
-/// Marks what a reason needs of what was true before this place.
+/// How many needed reasons name a lemma.
+pub fn times_named(n: &Needs, k: usize) -> u32 {
+    match n.lemmas.get(k) {
+        Some(count) => *count,
+        None => 0,
+    }
+}
+
+/// Marks what a reason needs of what was true before it.
 fn need_reason(
     e: &Engine<'_>,
     d: &mut Deriver,
     n: &mut Needs,
-    r: Reason,
-    before: usize,
+    site: Site,
 ) -> Result<(), AllocError> {
-    match r {
+    match site.reason {
         Reason::Clause(c) => {
             need_lemma(e, n, c);
             for l in clause_at(&e.base, c) {
-                need(e, n, negated(*l), before);
+                need(e, n, negated(*l), site.before);
             }
         }
         Reason::Both(_, _) | Reason::Rows(_) => {
-            derive(e, d, r)?;
+            derive(e, d, site.reason)?;
+            note_uses(&mut n.groups, site.number, &d.uses)?;
             for l in &d.uses {
-                need(e, n, *l, before);
+                need(e, n, *l, site.before);
             }
         }
-        Reason::Unit(_, l) => need(e, n, negated(l), before),
+        Reason::Unit(_, l) => need(e, n, negated(l), site.before),
         Reason::Decision => {}
     }
     Ok(())
@@ -108,22 +137,58 @@ fn need_facts(
 ) -> Result<(), AllocError> {
     for place in (from..to).rev() {
         if let (Some(fact), Some(true)) = (facts.get(place), n.facts.get(place)) {
-            let why = fact.reason;
-            need_reason(e, d, n, why, place)?;
+            let site = Site {
+                reason: fact.reason,
+                number: place,
+                before: place,
+            };
+            need_reason(e, d, n, site)?;
         }
     }
     Ok(())
 }
 
 /// Marks what a lemma's proof needs, if the lemma is needed.
-fn need_proof(e: &Engine<'_>, d: &mut Deriver, n: &mut Needs, k: usize) -> Result<(), AllocError> {
-    let (Some(lemma), Some(true)) = (e.lemmas.all.get(k), n.lemmas.get(k)) else {
+fn need_proof(
+    e: &Engine<'_>,
+    d: &mut Deriver,
+    n: &mut Needs,
+    facts: &[Link],
+    k: usize,
+) -> Result<(), AllocError> {
+    let Some(lemma) = e.lemmas.all.get(k) else {
         return Ok(());
     };
-    for link in items(&e.lemmas.chain, lemma.chain) {
-        need_reason(e, d, n, link.reason, lemma.facts)?;
+    if times_named(n, k) == 0 {
+        return Ok(());
     }
-    need_reason(e, d, n, lemma.end, lemma.facts)
+    let mut number = link_number(facts, lemma.chain.from);
+    for link in items(&e.lemmas.chain, lemma.chain) {
+        let site = Site {
+            reason: link.reason,
+            number,
+            before: lemma.facts,
+        };
+        need_reason(e, d, n, site)?;
+        number = number.saturating_add(1);
+    }
+    let site = Site {
+        reason: lemma.end,
+        number: end_number(e, facts, k),
+        before: lemma.facts,
+    };
+    need_reason(e, d, n, site)
+}
+
+/// Nothing needed yet.
+fn no_needs(e: &Engine<'_>, facts: &[Link]) -> Result<Needs, AllocError> {
+    let lemmas = e.lemmas.all.len();
+    let reasons = end_number(e, facts, lemmas).saturating_add(1);
+    Ok(Needs {
+        facts: vec![in e.alloc; false; facts.len()]?,
+        lemmas: vec![in e.alloc; 0; lemmas]?,
+        groups: new_groups(e.alloc, reasons)?,
+    })
 }
 
 /// What the end needs, and what that needs.
@@ -133,20 +198,23 @@ pub fn needs_of(
     facts: &[Link],
     end: Reason,
 ) -> Result<Needs, AllocError> {
-    let mut n = Needs {
-        facts: vec![in e.alloc; false; facts.len()]?,
-        lemmas: vec![in e.alloc; false; e.lemmas.all.len()]?,
+    let mut n = no_needs(e, facts)?;
+    let site = Site {
+        reason: end,
+        number: end_number(e, facts, e.lemmas.all.len()),
+        before: facts.len(),
     };
-    need_reason(e, d, &mut n, end, facts.len())?;
+    need_reason(e, d, &mut n, site)?;
     let mut to = facts.len();
     for k in (0..e.lemmas.all.len()).rev() {
         if let Some(lemma) = e.lemmas.all.get(k) {
             let from = lemma.facts;
             need_facts(e, d, &mut n, facts, from, to)?;
             to = from;
-            need_proof(e, d, &mut n, k)?;
+            need_proof(e, d, &mut n, facts, k)?;
         }
     }
     need_facts(e, d, &mut n, facts, 0, to)?;
+    close_groups(e.alloc, &mut n.groups);
     Ok(n)
 }

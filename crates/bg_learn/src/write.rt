@@ -1,8 +1,11 @@
 //! Certificates: what was learned, written as a case tree. A literal of the root is a split, or a cut, whose other side is a leaf; a
-//! lemma is a lemma node, whose first child is the chain of its proof.
+//! lemma is a lemma node, whose first child is the chain of its proof. The proof of a lemma that one reason alone names stands in the
+//! place of that reason's leaf. Where several reasons use the same rows, a lemma before them says that these can't all hold, and its
+//! number stands in the place of the steps.
 
-use crate::path::{Path, new_path, row_number, walk, walk_back};
-use crate::trim::{Needs, derive, needs_of};
+use crate::groups::{known_lemma, put_known, wants_lemma};
+use crate::path::{Path, is_decided, new_path, row_number, walk, walk_back};
+use crate::trim::{Needs, derive, end_number, link_number, needs_of, times_named};
 use bg_cert::{Named, Node};
 use bg_rows::Step;
 use bg_simplex::Lit;
@@ -10,16 +13,33 @@ use bg_solved::{Deriver, new_deriver};
 use bg_trail::{Engine, Lemma, Link, Reason, atom_of, clause_at, is_positive, items, negated};
 use std::alloc::AllocError;
 
-/// The nodes so far; the leaves of second children, to be written behind what comes; the path to the next node; the numbers under
-/// which the path knows lemmas, and how many it knows; and a list of steps for derivations.
+/// What is to be written: what closes the path by a reason of this number; or a lemma's chain, from this link on.
+#[derive(Clone, Copy)]
+enum What {
+    Close(Reason, usize),
+    Chain(usize, usize),
+}
+
+/// What is to be written on the path of the first so many literals and one more, if one is given.
+#[derive(Clone, Copy)]
+struct Task {
+    depth: usize,
+    literal: Option<Lit>,
+    what: What,
+}
+
+/// The literals of the root; what is needed; the nodes so far; what is to be written behind them, the next last; the path to the next
+/// node; the numbers under which the path knows lemmas, and how many it knows; and a list of steps for derivations.
 #[derive(Drop)]
-pub struct Writer {
-    pub nodes: Vec<Node>,
-    pub later: Vec<Node>,
-    pub path: Path,
-    pub known: Vec<Option<u128>>,
-    pub count: u128,
-    pub deriver: Deriver,
+struct Writer<'a> {
+    facts: &'a [Link],
+    needs: Needs,
+    nodes: Vec<Node>,
+    later: Vec<Task>,
+    path: Path,
+    known: Vec<Option<u128>>,
+    count: u128,
+    deriver: Deriver,
 }
 
 /// A literal in a lemma node.
@@ -40,7 +60,7 @@ fn decides(e: &Engine<'_>, l: Lit) -> Node {
 }
 
 /// The leaf of a false clause: one of the formula, or a lemma that the path knows.
-fn clause_leaf(e: &Engine<'_>, w: &Writer, c: u32) -> Node {
+fn clause_leaf(e: &Engine<'_>, w: &Writer<'_>, c: u32) -> Node {
     match (c as usize).checked_sub(e.formula.clauses.len()) {
         Some(k) => match w.known.get(k) {
             Some(Some(number)) => Node::Known(*number),
@@ -51,7 +71,7 @@ fn clause_leaf(e: &Engine<'_>, w: &Writer, c: u32) -> Node {
 }
 
 /// The derived steps, over the rows of the path.
-fn numbered(e: &Engine<'_>, w: &Writer) -> Result<Vec<Step>, AllocError> {
+fn numbered(e: &Engine<'_>, w: &Writer<'_>) -> Result<Vec<Step>, AllocError> {
     let mut made = Vec::with_capacity(e.alloc, w.deriver.steps.len())?;
     for step in &w.deriver.steps {
         let step = match *step {
@@ -64,7 +84,7 @@ fn numbered(e: &Engine<'_>, w: &Writer) -> Result<Vec<Step>, AllocError> {
 }
 
 /// The number on the path of the row that a derivation uses as its `j`-th.
-fn path_row(w: &Writer, j: u128) -> u128 {
+fn path_row(w: &Writer<'_>, j: u128) -> u128 {
     let Ok(j) = usize::try_from(j) else {
         return u128::MAX;
     };
@@ -74,12 +94,15 @@ fn path_row(w: &Writer, j: u128) -> u128 {
     }
 }
 
-/// The leaf that closes the path by a reason.
-fn leaf(e: &Engine<'_>, w: &mut Writer, r: Reason) -> Result<Node, AllocError> {
+/// The leaf that closes the path by a reason of this number.
+fn leaf(e: &Engine<'_>, w: &mut Writer<'_>, r: Reason, number: usize) -> Result<Node, AllocError> {
     match r {
         Reason::Clause(c) => Ok(clause_leaf(e, w, c)),
         Reason::Unit(c, _) => Ok(Node::Unit(c as u128)),
         Reason::Both(_, _) | Reason::Rows(_) => {
+            if let Some(known) = known_lemma(&w.needs.groups, number) {
+                return Ok(Node::Known(known));
+            }
             derive(e, &mut w.deriver, r)?;
             Ok(Node::Rows(numbered(e, w)?))
         }
@@ -87,43 +110,182 @@ fn leaf(e: &Engine<'_>, w: &mut Writer, r: Reason) -> Result<Node, AllocError> {
     }
 }
 
-/// The leaf that closes the other side of a literal, on the path to it.
-fn other_leaf(e: &Engine<'_>, w: &mut Writer, link: Link) -> Result<Node, AllocError> {
-    let depth = w.path.literals.len();
-    walk(e.formula, &mut w.path, negated(link.literal))?;
-    let made = leaf(e, w, link.reason)?;
-    walk_back(e.formula, &mut w.path, depth);
-    Ok(made)
-}
-
-/// Decides a literal that follows: the other side is a leaf.
-fn forced(e: &Engine<'_>, w: &mut Writer, link: Link) -> Result<(), AllocError> {
-    w.nodes.push(decides(e, link.literal))?;
-    let made = other_leaf(e, w, link)?;
-    if is_positive(link.literal) {
-        w.later.push(made)?;
+/// The lemma whose proof stands in the place of a reason's leaf: no other reason names it.
+fn only_here(e: &Engine<'_>, w: &Writer<'_>, r: Reason) -> Option<usize> {
+    let Reason::Clause(c) = r else {
+        return None;
+    };
+    let k = (c as usize).checked_sub(e.formula.clauses.len())?;
+    if times_named(&w.needs, k) == 1 {
+        Some(k)
     } else {
-        w.nodes.push(made)?;
+        None
     }
-    walk(e.formula, &mut w.path, link.literal)
 }
 
-/// Closes the path by a reason, and writes the leaves that wait but for the first `from`, the last first.
-fn close(e: &Engine<'_>, w: &mut Writer, r: Reason, from: usize) -> Result<(), AllocError> {
-    let made = leaf(e, w, r)?;
-    w.nodes.push(made)?;
-    for _ in from..w.later.len() {
-        if let Some(node) = w.later.pop() {
-            w.nodes.push(node)?;
+/// Lets this be written next, on the path of the first so many literals and one more, if one is given.
+fn put_off(
+    w: &mut Writer<'_>,
+    depth: usize,
+    literal: Option<Lit>,
+    what: What,
+) -> Result<(), AllocError> {
+    w.later.push(Task {
+        depth,
+        literal,
+        what,
+    })?;
+    Ok(())
+}
+
+/// Closes the path by a reason of this number.
+fn close(e: &Engine<'_>, w: &mut Writer<'_>, r: Reason, number: usize) -> Result<(), AllocError> {
+    match only_here(e, w, r) {
+        Some(k) => {
+            let depth = w.path.literals.len();
+            put_off(w, depth, None, What::Chain(k, 0))
+        }
+        None => {
+            let made = leaf(e, w, r, number)?;
+            w.nodes.push(made)?;
+            Ok(())
+        }
+    }
+}
+
+/// Decides a literal that follows by a reason of this number: that closes the other side, and on this side comes what is given.
+fn forced(
+    e: &Engine<'_>,
+    w: &mut Writer<'_>,
+    link: Link,
+    number: usize,
+    then: What,
+) -> Result<(), AllocError> {
+    let depth = w.path.literals.len();
+    let l = link.literal;
+    let other = What::Close(link.reason, number);
+    w.nodes.push(decides(e, l))?;
+    if is_positive(l) {
+        put_off(w, depth, Some(negated(l)), other)?;
+        put_off(w, depth, Some(l), then)
+    } else {
+        put_off(w, depth, Some(l), then)?;
+        put_off(w, depth, Some(negated(l)), other)
+    }
+}
+
+/// Goes on with a lemma's chain from a link on. Where the path decides that link's literal it is left out, and where it denies the literal
+/// the link's reason closes the path.
+fn go_on(e: &Engine<'_>, w: &mut Writer<'_>, k: usize, at: usize) -> Result<(), AllocError> {
+    let Some(lemma) = e.lemmas.all.get(k) else {
+        return Ok(());
+    };
+    let depth = w.path.literals.len();
+    let Some(link) = items(&e.lemmas.chain, lemma.chain).get(at) else {
+        let end = What::Close(lemma.end, end_number(e, w.facts, k));
+        return put_off(w, depth, None, end);
+    };
+    let number = link_number(w.facts, lemma.chain.from.saturating_add(at));
+    let then = What::Chain(k, at.saturating_add(1));
+    if is_decided(&w.path, link.literal) {
+        put_off(w, depth, None, then)
+    } else if is_decided(&w.path, negated(link.literal)) {
+        put_off(w, depth, None, What::Close(link.reason, number))
+    } else {
+        forced(e, w, *link, number, then)
+    }
+}
+
+/// Writes what is to be written next.
+fn write_next(e: &Engine<'_>, w: &mut Writer<'_>, task: Task) -> Result<(), AllocError> {
+    walk_back(e.formula, &mut w.path, task.depth);
+    if let Some(l) = task.literal {
+        walk(e.formula, &mut w.path, l)?;
+    }
+    match task.what {
+        What::Close(r, number) => close(e, w, r, number),
+        What::Chain(k, at) => go_on(e, w, k, at),
+    }
+}
+
+/// Writes what is to be written, but for the first `from`: each link and each lemma's end is written once at the most.
+fn write_later(e: &Engine<'_>, w: &mut Writer<'_>, from: usize) -> Result<(), AllocError> {
+    let most = end_number(e, w.facts, e.lemmas.all.len()).saturating_add(1);
+    for _ in 0..most.saturating_mul(4) {
+        if w.later.len() <= from {
+            return Ok(());
+        }
+        if let Some(task) = w.later.pop() {
+            write_next(e, w, task)?;
         }
     }
     Ok(())
 }
 
-/// The node of a lemma; the path denies its literals.
-fn lemma_node(e: &Engine<'_>, w: &mut Writer, clause: u32) -> Result<Node, AllocError> {
+/// The lemma is written: the path knows it. Answers its number.
+fn know(w: &mut Writer<'_>) -> u128 {
+    let number = w.count;
+    w.count = number.saturating_add(1);
+    number
+}
+
+/// The literals of a lemma that not all these hold, but for those that the path decides; the path decides them then.
+fn shared_names(e: &Engine<'_>, w: &mut Writer<'_>) -> Result<Vec<Named>, AllocError> {
     let mut names = Vec::new(e.alloc);
-    for l in clause_at(&e.base, clause) {
+    for at in 0..w.deriver.uses.len() {
+        if let Some(l) = w.deriver.uses.get(at).copied() {
+            if !is_decided(&w.path, l) {
+                names.push(name(e, negated(l)))?;
+                walk(e.formula, &mut w.path, l)?;
+            }
+        }
+    }
+    names.shrink_to_fit();
+    Ok(names)
+}
+
+/// Writes the lemma that the rows which a reason uses can't all hold, if others use them too and it isn't written yet.
+fn write_shared(
+    e: &Engine<'_>,
+    w: &mut Writer<'_>,
+    r: Reason,
+    number: usize,
+) -> Result<(), AllocError> {
+    if !wants_lemma(&w.needs.groups, number) {
+        return Ok(());
+    }
+    let depth = w.path.literals.len();
+    derive(e, &mut w.deriver, r)?;
+    let names = shared_names(e, w)?;
+    w.nodes.push(Node::Lemma(names))?;
+    let steps = numbered(e, w)?;
+    w.nodes.push(Node::Rows(steps))?;
+    walk_back(e.formula, &mut w.path, depth);
+    let known = know(w);
+    put_known(&mut w.needs.groups, number, known);
+    Ok(())
+}
+
+/// Writes the lemmas that reasons of a lemma's proof share with others.
+fn write_shares(
+    e: &Engine<'_>,
+    w: &mut Writer<'_>,
+    lemma: &Lemma,
+    k: usize,
+) -> Result<(), AllocError> {
+    let mut number = link_number(w.facts, lemma.chain.from);
+    for link in items(&e.lemmas.chain, lemma.chain) {
+        write_shared(e, w, link.reason, number)?;
+        number = number.saturating_add(1);
+    }
+    write_shared(e, w, lemma.end, end_number(e, w.facts, k))
+}
+
+/// The node of a lemma; the path denies its literals.
+fn lemma_node(e: &Engine<'_>, w: &mut Writer<'_>, clause: u32) -> Result<Node, AllocError> {
+    let clause = clause_at(&e.base, clause);
+    let mut names = Vec::with_capacity(e.alloc, clause.len())?;
+    for l in clause {
         names.push(name(e, *l))?;
         walk(e.formula, &mut w.path, negated(*l))?;
     }
@@ -131,70 +293,104 @@ fn lemma_node(e: &Engine<'_>, w: &mut Writer, clause: u32) -> Result<Node, Alloc
 }
 
 /// Writes a lemma with its proof.
-fn write_lemma(e: &Engine<'_>, w: &mut Writer, lemma: &Lemma, k: usize) -> Result<(), AllocError> {
+fn write_lemma(
+    e: &Engine<'_>,
+    w: &mut Writer<'_>,
+    lemma: &Lemma,
+    k: usize,
+) -> Result<(), AllocError> {
     let depth = w.path.literals.len();
     let from = w.later.len();
     let node = lemma_node(e, w, lemma.clause)?;
     w.nodes.push(node)?;
-    for link in items(&e.lemmas.chain, lemma.chain) {
-        forced(e, w, *link)?;
-    }
-    close(e, w, lemma.end, from)?;
+    go_on(e, w, k, 0)?;
+    write_later(e, w, from)?;
     walk_back(e.formula, &mut w.path, depth);
+    let number = know(w);
     if let Some(known) = w.known.get_mut(k) {
-        *known = Some(w.count);
-        w.count = w.count.saturating_add(1);
+        *known = Some(number);
     }
     Ok(())
+}
+
+/// Writes a literal of the root; what comes behind it is on its side.
+fn write_fact(
+    e: &Engine<'_>,
+    w: &mut Writer<'_>,
+    fact: Link,
+    place: usize,
+) -> Result<(), AllocError> {
+    write_shared(e, w, fact.reason, place)?;
+    let depth = w.path.literals.len();
+    let from = w.later.len();
+    let other = What::Close(fact.reason, place);
+    w.nodes.push(decides(e, fact.literal))?;
+    put_off(w, depth, Some(negated(fact.literal)), other)?;
+    if !is_positive(fact.literal) {
+        write_later(e, w, from)?;
+        walk_back(e.formula, &mut w.path, depth);
+    }
+    walk(e.formula, &mut w.path, fact.literal)
 }
 
 /// Writes the needed ones of these literals of the root.
 fn write_facts(
     e: &Engine<'_>,
-    w: &mut Writer,
-    n: &Needs,
-    facts: &[Link],
+    w: &mut Writer<'_>,
     from: usize,
     to: usize,
 ) -> Result<(), AllocError> {
     for place in from..to {
-        if let (Some(fact), Some(true)) = (facts.get(place), n.facts.get(place)) {
-            forced(e, w, *fact)?;
+        if let (Some(fact), Some(true)) = (w.facts.get(place), w.needs.facts.get(place)) {
+            let fact = *fact;
+            write_fact(e, w, fact, place)?;
         }
     }
     Ok(())
 }
 
-/// Writes what is needed, in the order in which it was learned.
-fn write_all(e: &Engine<'_>, w: &mut Writer, n: &Needs, facts: &[Link]) -> Result<(), AllocError> {
+/// Writes what is needed, in the order in which it was learned. Of a lemma that is named once, only what its proof shares is written here.
+fn write_all(e: &Engine<'_>, w: &mut Writer<'_>) -> Result<(), AllocError> {
     let mut from = 0;
     for (k, lemma) in e.lemmas.all.iter().enumerate() {
-        write_facts(e, w, n, facts, from, lemma.facts)?;
+        write_facts(e, w, from, lemma.facts)?;
         from = lemma.facts;
-        if let Some(true) = n.lemmas.get(k) {
+        let times = times_named(&w.needs, k);
+        if times > 0 {
+            write_shares(e, w, lemma, k)?;
+        }
+        if times > 1 {
             write_lemma(e, w, lemma, k)?;
         }
     }
-    write_facts(e, w, n, facts, from, facts.len())
+    write_facts(e, w, from, w.facts.len())
 }
 
 /// A writer at the root.
-fn new_writer(e: &Engine<'_>) -> Result<Writer, AllocError> {
+fn new_writer<'a>(
+    e: &Engine<'_>,
+    facts: &'a [Link],
+    end: Reason,
+) -> Result<Writer<'a>, AllocError> {
+    let mut deriver = new_deriver(e.alloc, &e.solved)?;
     Ok(Writer {
+        facts,
+        needs: needs_of(e, &mut deriver, facts, end)?,
         nodes: Vec::new(e.alloc),
         later: Vec::new(e.alloc),
         path: new_path(e.alloc, e.trail.atoms.len())?,
         known: vec![in e.alloc; None; e.lemmas.all.len()]?,
         count: 0,
-        deriver: new_deriver(e.alloc, &e.solved)?,
+        deriver,
     })
 }
 
 /// The nodes of the certificate: of the literals that are true at the root, of the lemmas, and of the conflict there, what is needed.
 pub fn write(e: &Engine<'_>, facts: &[Link], end: Reason) -> Result<Vec<Node>, AllocError> {
-    let mut w = new_writer(e)?;
-    let n = needs_of(e, &mut w.deriver, facts, end)?;
-    write_all(e, &mut w, &n, facts)?;
-    close(e, &mut w, end, 0)?;
+    let mut w = new_writer(e, facts, end)?;
+    write_all(e, &mut w)?;
+    close(e, &mut w, end, end_number(e, facts, e.lemmas.all.len()))?;
+    write_later(e, &mut w, 0)?;
+    w.nodes.shrink_to_fit();
     Ok(w.nodes)
 }
