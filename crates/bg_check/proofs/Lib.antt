@@ -10,6 +10,7 @@ pub mod Saying
 pub mod Firsts
 pub mod Fronting
 pub mod Refutes
+pub mod Finishing
 pub mod Placing
 pub mod Standing
 pub mod Over

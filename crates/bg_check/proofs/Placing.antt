@@ -1,8 +1,7 @@
 -- The clauses of a place that is asked.
-use Rattle.std.proofs.Common.{◌≡◌, ℕ, ◌+◌, ℤ, pos, Bool, true, false, List, length, map, replicate, Result, Ok, Err, ap, ◌∙◌, subst, arith}
+use Rattle.std.proofs.Common.{◌≡◌, ℕ, ◌+◌, ℤ, pos, Bool, true, false, List, length, map, replicate, Result, Ok, Err, ap, ◌∙◌, arith}
 use Rattle.std.specs.Prelude.{IfOk, slice_get, unwrap_or}
 use Rattle.std.specs.declared.alloc.AllocError.{AllocError}
-use Rattle.bg_ast.specs.Values.{Val, Ty}
 use Rattle.bg_ast.specs.Resolved as r
 use Rattle.bg_ast.specs.Meaning.{meaning_of}
 use Rattle.bg_ast.specs.Syntax as s
@@ -14,13 +13,11 @@ use Rattle.bg_point.specs.declared.spot.Spot as spots
 use Rattle.bg_point.specs.Points.{target_of}
 use Rattle.bg_tree.specs.declared.outcome.Budget.{Budget}
 use Rattle.bg_tree.specs.declared.outcome.Leaf.{Leaf}
-use Rattle.bg_kinds.specs.Views.{ref_in}
 use Rattle.bg_fits.specs.Valued.{is_over_values}
 use Rattle.bg_block_types.specs.Typed.{incarnations_in}
 use Rattle.bg_forms.specs.Worth.{bools_at}
 use Rattle.bg_linear.specs.declared.scalar.Sort.{Sort}
 use Rattle.bg_atoms.specs.Ranks.{rank}
-use Rattle.bg_terms.specs.Terms.{Term}
 use Rattle.bg_numbered.specs.Lines.{Line}
 use Rattle.bg_term_table.specs.Views as table
 use Rattle.bg_term_table.specs.Views.{GiveThese, incs_of}
@@ -36,13 +33,14 @@ use Rattle.bg_task.specs.Prepared.{IsPrepared}
 use Rattle.bg_task.specs.declared.lining.Lined.{Lined}
 use Rattle.bg_task.specs.declared.prepared.Prepared.{Prepared}
 use Rattle.bg_task.proofs.LawTypes.{TabledLaw}
-use Rattle.bg_task.proofs.Prepares.{impl, proc, impl_at, proc_at}
+use Rattle.bg_task.proofs.Prepares.{impl, proc}
 use Rattle.bg_check.specs.Leaves.{marked, leaf_number, numbered, unnamed, scalars_from}
 use Rattle.bg_check.specs.LeafRuns.{leaf_bools, targets_for, numbers_in}
 use Rattle.bg_check.specs.declared.found.Found.{Found}
 use Rattle.bg_check.specs.Found.{IsFound}
 use Rattle.bg_check.proofs.LawTypes.{ResultLaw, IncarnationLaw, TermLaw, LinedLaw, StandInLaw}
 use Rattle.bg_check.proofs.Leaves.{number_at, scalars_are}
+use Rattle.bg_check.proofs.Finishing.{finish_at}
 
 -- what holds for each budget holds for this one
 pub at_left : (left : Budget) (p : s.Prog) (set : ℕ → Bool) (t : Place) (es : List Line) (o : Result Found AllocError) → IfOk o (λ v. (n : Budget) → IsFound n p set t es v) → IfOk o (λ v. IsFound left p set t es v)
@@ -90,32 +88,10 @@ module _ (p : r.Program) (n : ℕ) (w : Prepared) (h : IsPrepared p n w) (ls : L
       ∙ (ap (λ x. map val_of (scalars_from (leaf_bools f leaf) (numbered x (unnamed (target_of gs) f.atoms 0 (length S))) 0 0 S)) c
       ∙ (ap (λ x. map val_of (scalars_from (leaf_bools f leaf) (numbered leaf.spots.items (unnamed (target_of x) f.atoms 0 (length S))) 0 0 S)) (d ∙ h.targets) ∙ scalars_there)))
 
-  -- typed terms with scalars of their types
-  number_leaf : TabledLaw → ResultLaw → IncarnationLaw → TermLaw → LinedLaw → StandInLaw → IsTyped P → is_over_values P ≡ true → IsScalarLeaf P.functions (incarnations_in P n M Q) (lined_terms P n M Q ls) (numbers_in P n M Q ls f leaf)
-  number_leaf tabled results incarnations terms lined stand_ins t o =
-      let im = impl_at p n w h in
-      let pr = proc_at p n w h in
-      let flats = lined P n M Q (terms P n M Q t o im pr) ls in
-      record {
-        bodiless = (tabled P t o).bodies;
-        gives = results P t o;
-        incarnations = incarnations P n M Q t o im pr;
-        terms = flats.terms;
-        indexed = flats.indexed;
-        scalars = stand_ins P n M Q ls (leaf_number G f.atoms leaf.spots.items) (λ j. T (rank S j));
-      }
-
-  -- what is said of such terms with these scalars
-  abbrev Comes : Finish → List Ty → List Term → List Val → Type 0
-  Comes made is us zs = IsScalarLeaf P.functions is us zs → IsFinish P.functions is us zs made
-
   -- what the leaf comes to
   pub finish_here : TabledLaw → ResultLaw → IncarnationLaw → TermLaw → LinedLaw → StandInLaw → IsTyped P → is_over_values P ≡ true → (x : Lined) → HasLined p n h.implementation h.procedure ls x → (a : Around) → a.incarnations.now ≡ x.incarnations.now → a.results.now ≡ x.results.items → (ts : List code.Term) → ts ≡ x.terms.items → (vs : List Scalar) → map val_of vs ≡ numbers_in P n M Q ls f leaf → (made : Finish) → ((fs : List s.Fun) → GiveThese fs a → IsScalarLeaf fs (incs_of a) (table.terms_in fs ts) (map val_of vs) → IsFinish fs (incs_of a) (table.terms_in fs ts) (map val_of vs) made) → IsFinish P.functions (incarnations_in P n M Q) (lined_terms P n M Q ls) (numbers_in P n M Q ls f leaf) made
   finish_here tabled results incarnations terms lined stand_ins t o x has a ea er ts et vs ev made told =
-      subst (Comes made (incarnations_in P n M Q) (lined_terms P n M Q ls)) ev
-      (subst (λ us. Comes made (incarnations_in P n M Q) us (map val_of vs)) (ap (table.terms_in P.functions) et ∙ has.terms)
-      (subst (λ is. Comes made is (table.terms_in P.functions ts) (map val_of vs)) (ap (map ref_in) ea ∙ has.incarnations) (told P.functions (ap (map ref_in) er ∙ has.results))))
-      (number_leaf tabled results incarnations terms lined stand_ins t o)
+      finish_at p n w h ls (leaf_number G f.atoms leaf.spots.items) (λ j. T (rank S j)) tabled results incarnations terms lined stand_ins t o x has a ea er ts et vs ev made told
 
 -- the truth values that are made
 pub truths_from : (f : Formula) (leaf : Leaf) (ds : List Decision) (k : ℕ) → ds ≡ leaf.path.items → k ≡ length f.atoms → marked ds (replicate k false) ≡ leaf_bools f leaf

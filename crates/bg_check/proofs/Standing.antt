@@ -1,5 +1,5 @@
 -- Rounds, one after the other.
-use Rattle.std.proofs.Common.{◌≡◌, ℕ, suc, ◌+◌, ◌-◌, Bool, true, List, [], ◌∷◌, ◌++◌, length, Some, refl, sym, ap, ◌∙◌, subst, arith, append-nil, append_assoc, length-append}
+use Rattle.std.proofs.Common.{◌≡◌, ℕ, ◌-◌, Bool, true, List, [], ◌∷◌, ◌++◌, length, Some, refl, sym, ap, ◌∙◌, subst, arith, append-nil, append_assoc, length-append}
 use Rattle.std.specs.Prelude.{slice_get}
 use Rattle.std.proofs.lemmas.List.{map-append}
 use Rattle.bg_ast.specs.Values.{Ty}
@@ -14,9 +14,11 @@ use Rattle.bg_tree.specs.declared.outcome.Budget.{Budget}
 use Rattle.bg_terms.specs.Terms.{Term}
 use Rattle.bg_numbered.specs.Lines.{Line, is_there, are_there, after_line, after_lines}
 use Rattle.bg_term_table.specs.Lines.{line_of, lines_of}
+use Rattle.bg_term_table.specs.declared.line.Line as code
 use Rattle.bg_termed.specs.Lined.{lined_terms}
 use Rattle.bg_task.specs.declared.prepared.Prepared.{Prepared}
 use Rattle.bg_task.specs.Lines.{AreThere}
+use Rattle.bg_task.specs.Prepared.{IsPrepared}
 use Rattle.bg_task.proofs.Prepares.{impl, proc, impl_at, proc_at}
 use Rattle.bg_check.specs.declared.verdict.Cause.{Cause}
 use Rattle.bg_check.specs.declared.verdict.Round.{Round}
@@ -42,6 +44,25 @@ same_there p k m n q r ls ms a b c d h =
     let y : Some r ≡ Some q = sym d ∙ (ap (λ i. procedure_of p i.procedure) im ∙ b) in
     let pr : r ≡ q = cc in
     subst (λ i. are_there (incarnations_in p k i q) (lined_terms p k i q ls) ms ≡ true) im (subst (λ j. are_there (incarnations_in p k n j) (lined_terms p k n j ls) ms ≡ true) pr h)
+
+-- lines that name what is there behind others
+pub there_behind : (p : r.Program) (k : ℕ) (w : Prepared) (ls ms : List Line) → AreThere p k w ls → ((u : IsPrepared p k w) → are_there (incarnations_in (meaning_of p) k (impl p k w u) (proc p k w u)) (lined_terms (meaning_of p) k (impl p k w u) (proc p k w u) ls) ms ≡ true) → AreThere p k w (ls ++ ms)
+there_behind p k w ls ms h g u = there_more _ _ ls ms (h u) (g u)
+
+-- those of a round are
+pub round_there : (p : r.Program) (set : ℕ → Bool) (t : Place) (w : Prepared) (ls : List Line) (r : Round) → AreThere p t.implementation w ls → IsRound (meaning_of p) set t ls r → AreThere p t.implementation w (ls ++ lines_of r.lines.items)
+round_there p set t w ls r h g =
+    let k = t.implementation in
+    there_behind p k w ls (lines_of r.lines.items) h
+    (λ u. same_there (meaning_of p) k (impl p k w u) g.is.clauses.implementation (proc p k w u) g.is.clauses.procedure ls (lines_of r.lines.items) (impl_at p k w u) (proc_at p k w u) g.is.clauses.is_there g.is.clauses.is_its g.wanting.there)
+
+-- lines behind others, as the code has them
+pub more_there : (p : r.Program) (k : ℕ) (w : Prepared) (old more new : List code.Line) → AreThere p k w (lines_of old ++ lines_of more) → new ≡ old ++ more → AreThere p k w (lines_of new)
+more_there p k w old more new h e = subst (AreThere p k w) (sym (ap lines_of e ∙ map-append line_of old more)) h
+
+-- the first ones are
+pub first_there : (p : r.Program) (k : ℕ) (w : Prepared) → AreThere p k w []
+first_there p k w u = refl
 
 -- ---- one more round
 
@@ -74,7 +95,7 @@ stand_more p set t w budget old new r h g more =
           ∙ (sym (brought_more old.rounds.items r) ∙ ap brought (sym more.rounds)));
       there =
           subst (AreThere p k w) (sym all)
-          (λ u. there_more _ _ olds news (h.there u) (same_there (meaning_of p) k (impl p k w u) g.is.clauses.implementation (proc p k w u) g.is.clauses.procedure olds news (impl_at p k w u) (proc_at p k w u) g.is.clauses.is_there g.is.clauses.is_its g.wanting.there));
+          (round_there p set t w olds r h.there g);
       left = omega (arith, a, b, c, d);
     }
 

@@ -14,6 +14,7 @@ ghost use Rattle.bg_check.specs.Verdicts.{IsRight, placed_at, AreRightAt, AreRig
 
 use crate::ordinary::ordinary_places;
 use crate::rounds::check_place;
+use crate::tries::{Tries, some_tries};
 use crate::verdict::Judged;
 use bg_ast::resolved::Resolved;
 use bg_places::Place;
@@ -22,8 +23,13 @@ use bg_task::{Prepared, Question};
 use bg_tree::Budget;
 use std::alloc::{AllocError, Global};
 
-/// What is known of a place.
-fn judge(alloc: Global, question: Question<'_, '_>, budget: Budget) -> Result<Judged, AllocError>
+/// What is known of a place; whether first tries are worth while is handed on.
+fn judge(
+    alloc: Global,
+    question: Question<'_, '_>,
+    budget: Budget,
+    tries: &mut Tries,
+) -> Result<Judged, AllocError>
     requires typed { IsTyped (meaning_of (program_of question.program.now)) }
     requires scalars { is_over_values (meaning_of (program_of question.program.now)) ≡ true }
     requires prepared { IsPrepared (program_of question.program.now) question.place.now.implementation question.prepared.now }
@@ -31,7 +37,7 @@ fn judge(alloc: Global, question: Question<'_, '_>, budget: Budget) -> Result<Ju
     ensures place { IfOk result (λ j. j.place ≡ question.entry.place.now) }
     ensures right { IfOk result (λ j. IsRight budget (meaning_of (program_of question.entry.program.now)) (has question.entry.set.now) (placed_at j).place j.verdict) }
 {
-    let verdict = check_place(alloc, question, budget)?;
+    let verdict = check_place(alloc, question, budget, tries)?;
     Ok(Judged {
         place: *question.place,
         verdict,
@@ -58,6 +64,7 @@ pub fn judge_places<'q, 'p>(
     ensures right { IfOk result (λ made. AreRightAt budget (meaning_of (program_of program.now)) (has set.now) made.items) }
 {
     let mut made = Vec::new(alloc);
+    let mut tries = some_tries();
     for place in places {
         let question = Question {
             program,
@@ -65,7 +72,7 @@ pub fn judge_places<'q, 'p>(
             place,
             set,
         };
-        let one = judge(alloc, question, budget)?;
+        let one = judge(alloc, question, budget, &mut tries)?;
         made.push(one)?;
     }
     Ok(made)

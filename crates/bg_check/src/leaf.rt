@@ -96,7 +96,8 @@ fn named(alloc: Global, count: usize, atoms: &[Atom]) -> Result<Vec<bool>, Alloc
     Ok(named)
 }
 
-fn target_at(targets: &[i128], j: usize) -> i128
+/// The target of what has this number; 0, where none is said.
+pub fn target_at(targets: &[i128], j: usize) -> i128
     ensures { result ≡ target_of targets.now j }
 {
     match targets.get(j) {
@@ -191,9 +192,27 @@ fn behind(n: usize, sort: Sort) -> Result<usize, AllocError>
     }
 }
 
-/// What stands for the values of incarnations and terms of these sorts: truth values in their order are the first atoms', a number is that
-/// of the point, or, where no row names it, its target.
+/// What stands for the values of incarnations and terms of these sorts, by truth values in their order and by the numbers of all.
 #[tactic(auto, using(crate::proofs::Points::next_scalar, crate::proofs::Points::no_more))]
+pub fn scalars_of(
+    alloc: Global,
+    sorts: &[Sort],
+    truths: &[bool],
+    numbers: &[i128],
+) -> Result<Vec<Scalar>, AllocError>
+    ensures { IfOk result (λ made. made.items ≡ scalars_from truths.now numbers.now 0 0 sorts.now) }
+{
+    let mut made = Vec::new(alloc);
+    let mut n = 0;
+    for (j, sort) in sorts.iter().enumerate() {
+        made.push(scalar_for(*sort, number_at(numbers, j), truth_at(truths, n)))?;
+        n = behind(n, *sort)?;
+    }
+    Ok(made)
+}
+
+/// The same at a leaf: truth values in their order are the first atoms', a number is that of the point, or, where no row names it, its
+/// target.
 pub fn leaf_scalars(
     alloc: Global,
     sorts: &[Sort],
@@ -205,11 +224,5 @@ pub fn leaf_scalars(
     ensures { IfOk result (λ made. made.items ≡ scalars_from truths.now (numbered spots.now (unnamed (target_of targets.now) (formula_of f.now).atoms 0 (length sorts.now))) 0 0 sorts.now) }
 {
     let numbers = leaf_numbers(alloc, sorts.len(), spots, f, targets)?;
-    let mut made = Vec::new(alloc);
-    let mut n = 0;
-    for (j, sort) in sorts.iter().enumerate() {
-        made.push(scalar_for(*sort, number_at(&numbers, j), truth_at(truths, n)))?;
-        n = behind(n, *sort)?;
-    }
-    Ok(made)
+    scalars_of(alloc, sorts, truths, &numbers)
 }

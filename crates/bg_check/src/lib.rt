@@ -6,10 +6,13 @@
 mod attempt;
 mod claimed;
 mod dropping;
+mod easy;
 mod failing;
+mod first;
 mod fitting;
 mod found;
 mod front;
+mod heeded;
 mod implementation;
 pub mod laws;
 mod leaf;
@@ -19,9 +22,11 @@ mod relevant;
 mod replayed;
 mod rounds;
 mod spoken;
+mod tries;
 mod verdict;
 
 pub use implementation::{judge_ordinary, judge_places};
 pub use ordinary::ordinary_places;
 pub use rounds::check_place;
+pub use tries::{Tries, no_tries, some_tries};
 pub use verdict::{Cause, Judged, Round, Verdict};

@@ -33,6 +33,32 @@ pub fn spoken_of(
     })
 }
 
+/// The same where there are no clauses yet: of which its claim speaks.
+pub fn claim_behind(
+    alloc: Global,
+    question: Question<'_, '_>,
+    lines: &[Line],
+    lined: &Lined<'_>,
+) -> Result<Spoken, AllocError> {
+    let claim = claimed(alloc, question, lines, &lined.terms, lined.sorts.len())?;
+    let further = !lines.is_empty();
+    Ok(Spoken {
+        claim,
+        clauses: Vec::new(alloc),
+        further,
+    })
+}
+
+/// Whether a claim reads terms, which stand behind so many incarnations, or says that two of all that is there are equal.
+pub fn speaks_of_terms(spoken: &Spoken, count: usize) -> bool {
+    for (j, b) in spoken.claim.marks.iter().enumerate() {
+        if *b && count <= j {
+            return true;
+        }
+    }
+    !spoken.claim.equal.is_empty()
+}
+
 /// What says where to look first at a leaf of a question's place, which speaks of these.
 pub fn hints_of<'a>(question: Question<'a, '_>, spoken: &'a Spoken) -> Hints<'a> {
     Hints {

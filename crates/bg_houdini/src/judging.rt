@@ -12,7 +12,7 @@ use crate::desk::{Desk, lay, new_desk};
 use crate::{Proof, Reason};
 use bg_ast::resolved::Resolved;
 use bg_base::{CandId, TargetId};
-use bg_check::{Verdict, check_place};
+use bg_check::{Verdict, check_place, no_tries};
 use bg_places::Place;
 use bg_places::laws::placed_are_places;
 use bg_rounds::{Answer, Checker};
@@ -55,7 +55,7 @@ fn verdict_on(
         place,
         set: &desk.truths,
     };
-    check_place(alloc, question, judging.budget)
+    check_place(alloc, question, judging.budget, &mut no_tries())
 }
 
 impl<'p> Checker<Proof, Reason, Desk> for Judging<'p> {

@@ -11,7 +11,7 @@ use Rattle.bg_check.specs.Rounds.{IsRound}
 use Rattle.bg_check.specs.Verdicts.{IsUnknown}
 use Rattle.bg_check.specs.Found.{IsFound}
 use Rattle.bg_check.proofs.Standing.{none_yet, stand_more, unknown_right}
-use Rattle.bg_check.proofs.rounds.check_place.Goals as goal
+use Rattle.bg_check.proofs.rounds.in_rounds.Goals as goal
 
 pub loop-stand-init : goal.loop-stand-init
 loop-stand-init c =

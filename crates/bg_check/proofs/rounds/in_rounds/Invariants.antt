@@ -2,7 +2,7 @@ use Rattle.bg_ast.specs.Views.{program_of}
 use Rattle.bg_cert.specs.Walks.{has}
 use Rattle.bg_places.specs.Views.{placed_of}
 use Rattle.bg_check.specs.Stands.{StandsAt}
-use Rattle.bg_check.proofs.rounds.check_place.Given as goal
+use Rattle.bg_check.proofs.rounds.in_rounds.Given as goal
 
 abbrev pub invariant-loop-stand : goal.invariant-loop-stand
 invariant-loop-stand l =

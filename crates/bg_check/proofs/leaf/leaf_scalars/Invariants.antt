@@ -1,7 +1,0 @@
-use Rattle.std.proofs.Common.{◌≡◌, ◌++◌, drop}
-use Rattle.bg_check.specs.Leaves.{scalars_from}
-use Rattle.bg_check.proofs.leaf.leaf_scalars.Given as goal
-
-abbrev pub invariant-loop-j : goal.invariant-loop-j
-invariant-loop-j l =
-    l.made.items ++ scalars_from l.truths l.numbers.items l.j l.n (drop l.j l.sorts) ≡ scalars_from l.truths l.numbers.items 0 0 l.sorts
