@@ -15,8 +15,8 @@ use bg_check::{Judged, judge_places, ordinary_places};
 use bg_places::Place;
 use bg_places::laws::placed_are_places;
 use bg_task::Prepared;
+use bg_turns::map_chunks;
 use std::alloc::{AllocError, Global};
-use std::thread;
 use std::thread::Threads;
 
 /// What is known of each of these places of the implementation that is prepared, under a set of candidates.
@@ -42,8 +42,8 @@ fn judge_some(
     )
 }
 
-/// What is known of each ordinary place of the implementation with this number under a set of candidates. The places are checked in at
-/// most as many pieces as workers, each in a thread of its own where one can be made.
+/// What is known of each ordinary place of the implementation with this number under a set of candidates. The places are checked by pieces,
+/// in at most as many threads as workers, each of which takes the next piece.
 pub fn judge_apart<R: Threads + Sync>(
     rt: &R,
     alloc: Global,
@@ -62,11 +62,12 @@ pub fn judge_apart<R: Threads + Sync>(
     let listed = ordinary_places(alloc, judging.program, number)?;
     let places = listed.as_slice();
     let size = piece_size(places.len(), workers);
-    let pieces = thread::map_chunks(
+    let pieces = map_chunks(
         rt,
         alloc,
         places,
         size,
+        workers,
         &|_, piece|
             requires judging { IsJudging judging.now }
             requires prepared { ArePrepared (program_in judging.now) prepared.now (placed_in piece.now) }

@@ -1,16 +1,18 @@
 //! Work in pieces.
-ghost use Rattle.std.specs.Prelude.{◌<◌, ◌≤◌, ◌*◌, IfOk, OnOk};
+ghost use Rattle.std.specs.Prelude.{◌<◌, IfOk, OnOk};
 ghost use Rattle.bg_houdini.specs.Pieces.{IsWith, Joins};
 
 use std::alloc::{AllocError, Global};
 
-/// How many of so many implementations a piece has, where at most this many pieces have all of them.
-pub fn piece_size(count: usize, pieces: u32) -> usize
-    requires { 0 < pieces }
-    ensures some { 0 < result }
-    ensures enough { count ≤ result * pieces }
+/// How many pieces there are for each thread, where there is enough work: what takes long in one of them is evened out by the others.
+const PIECES: usize = 8;
+
+/// How many of so many a piece has.
+pub fn piece_size(count: usize, threads: u32) -> usize
+    ensures { 0 < result }
 {
-    count.div_ceil(pieces as usize).max(1)
+    let pieces = (threads as usize) * PIECES;
+    count.div_ceil(pieces.max(1)).max(1)
 }
 
 /// Takes in what a piece has.

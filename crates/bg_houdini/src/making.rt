@@ -19,8 +19,8 @@ use bg_places::{Place, places};
 use bg_task::laws::proved_places_do_not_fail;
 use bg_task::{Prepared, count_candidates, prepare};
 use bg_tree::Budget;
+use bg_turns::map_chunks;
 use std::alloc::{AllocError, Global};
-use std::thread;
 use std::thread::Threads;
 
 /// So many implementations, from the one with this number on, prepared.
@@ -45,7 +45,7 @@ fn prepare_piece<'p>(
     Ok(made)
 }
 
-/// Each implementation, prepared: in at most as many pieces as workers, each in a thread of its own where one can be made.
+/// Each implementation, prepared: by pieces, in at most as many threads as workers, each of which takes the next piece.
 fn prepare_all<'p, R: Threads + Sync>(
     rt: &R,
     alloc: Global,
@@ -61,11 +61,12 @@ fn prepare_all<'p, R: Threads + Sync>(
 {
     let implementations = program.implementations.as_slice();
     let size = piece_size(implementations.len(), workers);
-    let pieces = thread::map_chunks(
+    let pieces = map_chunks(
         rt,
         alloc,
         implementations,
         size,
+        workers,
         &|first, piece|
             requires modified { IsModified (program_of program.now) callees.now }
             requires typed { IsTyped (meaning_of (program_of program.now)) }

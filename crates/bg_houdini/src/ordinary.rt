@@ -10,9 +10,9 @@ use crate::judging::Judging;
 use crate::sets::truths_of;
 use bg_check::{Judged, judge_ordinary};
 use bg_task::Prepared;
+use bg_turns::map_chunks;
 use bg_words::CandSet;
 use std::alloc::{AllocError, Global};
-use std::thread;
 use std::thread::Threads;
 
 /// What is known of each ordinary place of the implementations that are prepared in a piece, the first of which has this number, under a
@@ -44,8 +44,8 @@ fn judge_piece(
     Ok(made)
 }
 
-/// What is known of each ordinary place under a set of candidates, by implementation and place. The implementations are checked in at most
-/// as many pieces as workers, each in a thread of its own where one can be made.
+/// What is known of each ordinary place under a set of candidates, by implementation and place. The implementations are checked by pieces,
+/// in at most as many threads as workers, each of which takes the next piece.
 fn judge_runs<R: Threads + Sync>(
     rt: &R,
     alloc: Global,
@@ -59,11 +59,12 @@ fn judge_runs<R: Threads + Sync>(
 {
     let prepared = judging.prepared.as_slice();
     let size = piece_size(prepared.len(), workers);
-    let pieces = thread::map_chunks(
+    let pieces = map_chunks(
         rt,
         alloc,
         prepared,
         size,
+        workers,
         &|first, piece|
             requires judging { IsJudging judging.now }
             requires piece { ArePreparedFrom (program_in judging.now) first piece.now }
@@ -74,7 +75,7 @@ fn judge_runs<R: Threads + Sync>(
 }
 
 /// What is known of each ordinary place under a set of candidates, by implementation and place. The places of an implementation are
-/// checked in at most as many pieces as workers, and the implementations one after the other.
+/// checked in at most as many threads as workers, and the implementations one after the other.
 fn judge_each<R: Threads + Sync>(
     rt: &R,
     alloc: Global,
@@ -94,9 +95,8 @@ fn judge_each<R: Threads + Sync>(
     Ok(made)
 }
 
-/// What is known of each ordinary place under a set of candidates, by implementation and place. The implementations are checked in at most
-/// as many pieces as workers, each in a thread of its own where one can be made; where there are fewer implementations than workers, so are
-/// the places of each.
+/// What is known of each ordinary place under a set of candidates, by implementation and place. The implementations are checked by pieces,
+/// in at most as many threads as workers; where there are fewer implementations than workers, so are the places of each.
 pub fn judge_all<R: Threads + Sync>(
     rt: &R,
     alloc: Global,

@@ -22,7 +22,7 @@ pub map_chunks-requires-sync-T : goal.map_chunks-requires-sync-T
 map_chunks-requires-sync-T g c κs within = search (place_sync, sendable)
 
 pub map_chunks-requires-sync-F : goal.map_chunks-requires-sync-F
-map_chunks-requires-sync-F g c κs within = param_sync 4 _ (arg_sync _ no _ (among_sync _ _ _ _ _ _ _))
+map_chunks-requires-sync-F g c κs within = param_sync 3 _ (arg_sync _ no _ (among_sync _ _ _ _ _ _ _))
 
 pub map_chunks-requires-send-X : goal.map_chunks-requires-send-X
 map_chunks-requires-send-X g c κs within = search (judged_send, leaving, sendable) depth 60 fits 20000
@@ -59,11 +59,11 @@ returns g c =
     let rs = c.in_ok-pieces.pieces.items in
     let same : placed_in ps ≡ placed_in c.in_ok-listed.listed.items = ap placed_in c.as_slice-places.ensures.value in
     let long : length rs ≡ length ps / size + min 1 (length ps % size) = let ok = c.in_ok-pieces.pieces.ok.0 in let e = c.in_ok-pieces.ensures.len in cc in
-    let few = (div_ceil_times (length ps) size c.piece_size-size.ensures.some).0 in
+    let few = (div_ceil_times (length ps) size c.piece_size-size.ensures).0 in
     let enough : length ps ≤ length rs * size = subst (λ (n : ℕ). length ps ≤ n * size) (sym long) few in
     if_ok c.joined.result
     (λ made joins m there.
-    let all = all_known j.budget (meaning_in j) set size c.piece_size-size.ensures.some ps rs made.items
+    let all = all_known j.budget (meaning_in j) set size c.piece_size-size.ensures ps rs made.items
     (λ n d l.
     let h = (c.in_ok-pieces.ensures.each n d l).1 in
     if_ok (get_or rs n d) (λ v right. subst (λ (qs : List Place). AreRightOn j.budget (meaning_in j) set qs v.items) h.argument_is.value right) h.call)

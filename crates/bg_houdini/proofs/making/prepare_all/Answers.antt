@@ -16,7 +16,7 @@ pub map_chunks-requires-sync-T : goal.map_chunks-requires-sync-T
 map_chunks-requires-sync-T g c κs within = search (implementation_sync, sendable)
 
 pub map_chunks-requires-sync-F : goal.map_chunks-requires-sync-F
-map_chunks-requires-sync-F g c κs within = param_sync 4 _ (arg_sync _ no _ (preparing_sync _ _ _ _))
+map_chunks-requires-sync-F g c κs within = param_sync 3 _ (arg_sync _ no _ (preparing_sync _ _ _ _))
 
 pub map_chunks-requires-send-X : goal.map_chunks-requires-send-X
 map_chunks-requires-send-X g c κs within = search (prepared_send, leaving, sendable) depth 60 fits 20000
@@ -29,11 +29,11 @@ returns g c =
     let rs = c.in_ok-pieces.pieces.items in
     let same : length ws ≡ length p.implementations = ap length c.as_slice-implementations.ensures.value ∙ sym (length-map c.args.program.now.implementations.items impl_of) in
     let long : length rs ≡ length ws / size + min 1 (length ws % size) = let ok = c.in_ok-pieces.pieces.ok.0 in let e = c.in_ok-pieces.ensures.len in cc in
-    let few = (div_ceil_times (length ws) size c.piece_size-size.ensures.some).0 in
+    let few = (div_ceil_times (length ws) size c.piece_size-size.ensures).0 in
     let enough : length ws ≤ length rs * size = subst (λ (n : ℕ). length ws ≤ n * size) (sym long) few in
     if_ok c.joined.result
     (λ made joins.
-    let all = all_portions p size c.piece_size-size.ensures.some 0 (length ws) rs made.items
+    let all = all_portions p size c.piece_size-size.ensures 0 (length ws) rs made.items
     (λ n d l.
     let h = (c.in_ok-pieces.ensures.each n d l).1 in
     if_ok (get_or rs n d)

@@ -16,7 +16,7 @@ pub map_chunks-requires-sync-T : goal.map_chunks-requires-sync-T
 map_chunks-requires-sync-T g c κs within = search (prepared_sync, sendable)
 
 pub map_chunks-requires-sync-F : goal.map_chunks-requires-sync-F
-map_chunks-requires-sync-F g c κs within = param_sync 4 _ (arg_sync _ no _ (captured_sync _ _ _ _ _))
+map_chunks-requires-sync-F g c κs within = param_sync 3 _ (arg_sync _ no _ (captured_sync _ _ _ _ _))
 
 pub map_chunks-requires-send-X : goal.map_chunks-requires-send-X
 map_chunks-requires-send-X g c κs within = search (judged_send, leaving, sendable) depth 60 fits 20000
@@ -40,11 +40,11 @@ returns g c =
     let rs = c.in_ok-pieces.pieces.items in
     let same : length ws ≡ length ms = ap length c.as_slice-prepared.ensures.value ∙ c.requires.judging.prepared.count_is in
     let long : length rs ≡ length ws / size + min 1 (length ws % size) = let ok = c.in_ok-pieces.pieces.ok.0 in let e = c.in_ok-pieces.ensures.len in cc in
-    let few = (div_ceil_times (length ws) size c.piece_size-size.ensures.some).0 in
+    let few = (div_ceil_times (length ws) size c.piece_size-size.ensures).0 in
     let enough : length ms ≤ length rs * size = subst (λ (n : ℕ). n ≤ length rs * size) same (subst (λ (n : ℕ). length ws ≤ n * size) (sym long) few) in
     if_ok c.joined.result
     (λ made joins.
-    all_right j.budget q (has known) size c.piece_size-size.ensures.some 0 ms rs made.items
+    all_right j.budget q (has known) size c.piece_size-size.ensures 0 ms rs made.items
     (λ n d l.
     let h = (c.in_ok-pieces.ensures.each n d l).1 in
     if_ok (get_or rs n d)
