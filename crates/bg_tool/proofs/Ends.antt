@@ -10,7 +10,7 @@ use Rattle.bg_tool.specs.declared.asked.Asked.{Asked}
 use Rattle.bg_ends.specs.declared.status.Status.{Status}
 use Rattle.bg_ends.specs.declared.status.Status.TheVariants as status
 use Rattle.bg_ends.specs.Statuses.{refusal_status, is_report, is_refused}
-use Rattle.bg_tool.specs.Reports.{IsTrueText}
+use Rattle.bg_tool.specs.Reports.{Spells, SpellsGuessed, IsTrueText}
 use Rattle.bg_ends.specs.Wrote.{Wrote}
 use Rattle.bg_tool.specs.Answers.{IsReport, IsAnswer, IsAnswerFor, WroteSome, Answered, AnsweredSome, Judges, JudgesText, names_for}
 use Rattle.bg_cli.specs.declared.job.Job.{Job}
@@ -74,14 +74,55 @@ answer_spells job.Check asked bytes ends text a = (a.sound.report.program, a.sou
 answer_spells job.Generate asked bytes ends text a = (a.sound.report.program, a.sound.report.spelled)
 answer_spells job.Bench asked bytes ends text a = (a.program, a.spelled)
 
--- a report is true of the bytes
-pub wrote_true : (asked : Asked) (contents : Option (List ℕ → List ℕ)) (names : List (List ℕ)) (ends : Status) (before now : Option (List ℕ)) → Wrote (IsReport asked) contents names ends before now → Wrote (IsTrueText asked.guess asked.history) contents names ends before now
+-- a program that the bytes spell within the limits is one that they spell
+spells_plain : (bytes : List ℕ) (p : Program) → IsProgramOf false bytes p → Spells bytes p
+spells_plain bytes p s =
+    let w : Spells bytes s.written = record { tokens = s.tokens; spelled = s.spelled; typed = s.typed } in
+    subst (Spells bytes) (sym s.is) w
+
+spells_guessed : (bytes : List ℕ) (p : Program) → IsProgramOf true bytes p → SpellsGuessed bytes p
+spells_guessed bytes p s =
+    record { written = s.written; spells = record { tokens = s.tokens; spelled = s.spelled; typed = s.typed }; is = s.is }
+
+-- the same report is true of a program that is spelled in a wider sense
+widened : {A B : List ℕ → Program → Type 0} (history : Bool) (bytes : List ℕ) (ends : Status) (text : List ℕ) → ((p : Program) → A bytes p → B bytes p) → IsTrueText A history bytes ends text → IsTrueText B history bytes ends text
+widened history bytes ends text f t =
+    let r = t.report in
+    record {
+      front = t.front;
+      report = record { program = r.program; spelled = f r.program r.spelled; outcome = r.outcome; sound = r.sound; is = r.is; gives = r.gives };
+      behind = t.behind;
+      is = t.is;
+      none = t.none;
+    }
+
+wrote_wider : {A B : List ℕ → Program → Type 0} (history : Bool) (contents : Option (List ℕ → List ℕ)) (names : List (List ℕ)) (ends : Status) (before now : Option (List ℕ)) → ((bytes : List ℕ) (p : Program) → A bytes p → B bytes p) → Wrote (IsTrueText A history) contents names ends before now → Wrote (IsTrueText B history) contents names ends before now
+wrote_wider history contents names ends before now f w =
+    record {
+      text = w.text;
+      may = record { bytes = w.may.bytes; read = w.may.read; report = widened history w.may.bytes ends w.text (f w.may.bytes) w.may.report };
+      written = w.written;
+    }
+
+wrote_true : (asked : Asked) (contents : Option (List ℕ → List ℕ)) (names : List (List ℕ)) (ends : Status) (before now : Option (List ℕ)) → Wrote (IsReport asked) contents names ends before now → Wrote (IsTrueText (IsProgramOf asked.guess) asked.history) contents names ends before now
 wrote_true asked contents names ends before now w =
     record {
       text = w.text;
       may = record { bytes = w.may.bytes; read = w.may.read; report = w.may.report.sound };
       written = w.written;
     }
+
+-- a report is true of the program that the bytes spell
+pub wrote_plain : (asked : Asked) (contents : Option (List ℕ → List ℕ)) (names : List (List ℕ)) (ends : Status) (before now : Option (List ℕ)) → asked.guess ≡ false → Wrote (IsReport asked) contents names ends before now → Wrote (IsTrueText Spells asked.history) contents names ends before now
+wrote_plain asked contents names ends before now plain w =
+    let true_of = λ (guess : Bool). Wrote (IsTrueText (IsProgramOf guess) asked.history) contents names ends before now in
+    wrote_wider asked.history contents names ends before now spells_plain (subst true_of plain (wrote_true asked contents names ends before now w))
+
+-- or of that with its guesses
+pub wrote_guessed : (asked : Asked) (contents : Option (List ℕ → List ℕ)) (names : List (List ℕ)) (ends : Status) (before now : Option (List ℕ)) → asked.guess ≡ true → Wrote (IsReport asked) contents names ends before now → Wrote (IsTrueText SpellsGuessed asked.history) contents names ends before now
+wrote_guessed asked contents names ends before now guesses w =
+    let true_of = λ (guess : Bool). Wrote (IsTrueText (IsProgramOf guess) asked.history) contents names ends before now in
+    wrote_wider asked.history contents names ends before now spells_guessed (subst true_of guesses (wrote_true asked contents names ends before now w))
 
 pub wrote_some : (asked : Asked) (contents : Option (List ℕ → List ℕ)) (names : List (List ℕ)) (bytes : List ℕ) (before now : Option (List ℕ)) → IsTextOf contents names bytes → AnsweredSome asked bytes before now → WroteSome asked contents names before now
 wrote_some asked contents names bytes before now r (inl e) = inl e

@@ -86,7 +86,7 @@ pub record IsTextFor (history : Bool) (p : Program) (o : inference.Outcome) (tex
 -- the text is true of the program that the bytes spell, with its guesses where these are asked for; what its report tells is accounted for, and what stands behind the report, where
 -- it is asked for, is the history of the same outcome
 pub record IsReport (asked : Asked) (bytes : List ℕ) (ends : Status) (text : List ℕ) : Type 0 where
-  pub sound : IsTrueText asked.guess asked.history bytes ends text
+  pub sound : IsTrueText (IsProgramOf asked.guess) asked.history bytes ends text
   pub accounted : IsAccounted asked.budget sound.report.program sound.report.outcome
   pub all : asked.history ≡ true → IsHistory why_of sound.report.program accounted.inferred sound.behind
 

@@ -8,7 +8,7 @@ ghost use Rattle.bg_ends.specs.Statuses.{is_report, is_refused, is_refusal};
 ghost use Rattle.bg_ends.specs.Wrote.{Wrote, WroteSomeOf};
 ghost use Rattle.bg_ends.specs.Refused.{RefusedFor, Refuses, usage_line, NamesFile};
 ghost use Rattle.bg_recheck.specs.Rechecks.{Tells, TellsSome, RefusesEither, Rechecks};
-ghost use Rattle.bg_tool.specs.Reports.{IsTrueText};
+ghost use Rattle.bg_tool.specs.Reports.{Spells, SpellsGuessed, IsTrueText};
 ghost use Rattle.bg_tool.specs.Answers.{asked_in, guess_for, judges, rechecks, benches, names_in, IsReport, IsAnnotation, IsCertification, Answered, AnsweredSome, WroteSome, Completes};
 
 use crate::asked::Asked;
@@ -118,7 +118,7 @@ fn check<F: Files, S: Sink, E: Sink>(
 /// it is read, and the answer written: an accepted one shows that the program is safe, whatever wrote it (`checked`); the certificate that
 /// is written with status 0 is accepted (`certification`, `complete`). Where the words ask for a program of a seed and a size, it is
 /// written, and nothing is read or judged; where they ask for what is told of one, it is made and judged, and nothing is read (`bench`).
-/// What such a report tells is true of the program that the files spell (`sound`): with status 0 some interpretation meets it, and no
+/// What such a report tells is true of the program that the files spell (`sound`), or of that with its guesses (`guessed`): with status 0 some interpretation meets it, and no
 /// execution of any implementation fails (`bg_sound`'s law `status_zero_is_safe`); two reports of one program agree where they should
 /// (`greatest_sets_agree`, `settled_words_agree`); and its bytes decide what it tells of sets and implementations (`bg_told`'s laws).
 /// The first word is the program's own name. As many workers as the words say check places of candidates in threads, and pass the gate
@@ -132,7 +132,8 @@ pub fn run<R: AllocGlobal + Threads + Sync, F: Files, S: Sink, E: Sink, G: Gate>
     gate: &G,
 ) -> Status
     ensures taken { (IsTrue (is_report result) ⊎ (IsTrue (is_refused result) ⊎ (result ≡ Status.Read))) → IsTaken (texts_of words.now) }
-    ensures sound { job_in (texts_of words.now) ≡ job.Verify → IsTrue (is_report result) → Wrote (IsTrueText (guess_in (texts_of words.now)) (history_in (texts_of words.now))) (F.contents files.old) (files_in (texts_of words.now)) result (S.written out.old) (S.written out.new) }
+    ensures sound { job_in (texts_of words.now) ≡ job.Verify → guess_in (texts_of words.now) ≡ false → IsTrue (is_report result) → Wrote (IsTrueText Spells (history_in (texts_of words.now))) (F.contents files.old) (files_in (texts_of words.now)) result (S.written out.old) (S.written out.new) }
+    ensures guessed { job_in (texts_of words.now) ≡ job.Verify → guess_in (texts_of words.now) ≡ true → IsTrue (is_report result) → Wrote (IsTrueText SpellsGuessed (history_in (texts_of words.now))) (F.contents files.old) (files_in (texts_of words.now)) result (S.written out.old) (S.written out.new) }
     ensures report { job_in (texts_of words.now) ≡ job.Verify → IsTrue (is_report result) → Wrote (IsReport (asked_in (texts_of words.now))) (F.contents files.old) (files_in (texts_of words.now)) result (S.written out.old) (S.written out.new) }
     ensures annotation { job_in (texts_of words.now) ≡ job.Annotate → IsTrue (is_report result) → Wrote (IsAnnotation (asked_in (texts_of words.now))) (F.contents files.old) (files_in (texts_of words.now)) result (S.written out.old) (S.written out.new) }
     ensures certification { job_in (texts_of words.now) ≡ job.Certify → IsTrue (is_report result) → Wrote (IsCertification (asked_in (texts_of words.now))) (F.contents files.old) (files_in (texts_of words.now)) result (S.written out.old) (S.written out.new) }

@@ -5,6 +5,7 @@ mod asked;
 mod certificates;
 mod driver;
 mod judge;
+pub mod laws;
 mod load;
 mod made;
 mod manner;

@@ -7,9 +7,8 @@ use Rattle.bg_gen.specs.Generated.{generated}
 use Rattle.bg_ends.specs.Wrote.{Wrote}
 use Rattle.bg_ends.specs.Refused.{RefusedFor, NamesFile}
 use Rattle.bg_tool.specs.declared.asked.Asked.{Asked}
-use Rattle.bg_tool.specs.Reports.{IsTrueText}
 use Rattle.bg_tool.specs.Answers.{IsAnswer, asked_in, guess_for, Answered, AnsweredSome, JudgesText}
-use Rattle.bg_tool.proofs.Ends.{wrote_for, wrote_true, names_of_rest}
+use Rattle.bg_tool.proofs.Ends.{wrote_for, wrote_plain, wrote_guessed, names_of_rest}
 use Rattle.bg_tool.proofs.Benched.{asked_is, bench_completes}
 use Rattle.bg_tool.proofs.driver.run.Goals as goal
 
@@ -20,11 +19,18 @@ returns-in-Generate-clause-generation g c = λ made is.
     (e.0, e.1 ∙ (ap (λ (seed : ℕ). text seed c.in-Ok.line.size) c.in-Ok.ensures.seed ∙ ap (text (seed_in (texts_of c.args.words.now))) c.in-Ok.ensures.size))
 
 pub returns-clause-sound : goal.returns-clause-sound
-returns-clause-sound g c = λ verify is.
+returns-clause-sound g c = λ verify plain is.
     let words = texts_of c.args.words.now in
     let asked = asked_in words in
     let answer : Wrote (IsAnswer asked) (g.F.Files.contents c.args.files.now) (files_in words) c.judge.result (g.S.Sink.written c.args.out.now) (g.S.Sink.written c.judge.new.out) = search (rules, c.judge.ensures.answer is) in
-    subst (λ (j : Job). Wrote (IsTrueText (guess_for j (guess_in words)) (history_in words)) (g.F.Files.contents c.args.files.now) (files_in words) c.judge.result (g.S.Sink.written c.args.out.now) (g.S.Sink.written c.judge.new.out)) verify (wrote_true asked _ _ _ _ _ (wrote_for job.Verify asked _ _ _ _ _ verify answer))
+    wrote_plain asked _ _ _ _ _ (ap (λ (j : Job). guess_for j (guess_in words)) verify ∙ plain) (wrote_for job.Verify asked _ _ _ _ _ verify answer)
+
+pub returns-clause-guessed : goal.returns-clause-guessed
+returns-clause-guessed g c = λ verify guesses is.
+    let words = texts_of c.args.words.now in
+    let asked = asked_in words in
+    let answer : Wrote (IsAnswer asked) (g.F.Files.contents c.args.files.now) (files_in words) c.judge.result (g.S.Sink.written c.args.out.now) (g.S.Sink.written c.judge.new.out) = search (rules, c.judge.ensures.answer is) in
+    wrote_guessed asked _ _ _ _ _ (ap (λ (j : Job). guess_for j (guess_in words)) verify ∙ guesses) (wrote_for job.Verify asked _ _ _ _ _ verify answer)
 
 pub returns-clause-report : goal.returns-clause-report
 returns-clause-report g c = λ verify is.
