@@ -100,63 +100,74 @@ fn turned(
     Ok(made)
 }
 
+/// Where memory is from, and the names that expressions are over.
+#[derive(Drop)]
+struct Over<'a> {
+    alloc: Global,
+    names: &'a Names,
+}
+
 /// The operand of link i with the n links of the relation that it begins; behind `<==` it was made before. `==>` begins a chain anew.
 #[cycle(abstracting)]
 fn operand(
-    alloc: Global,
+    over: &Over<'_>,
     table: &mut Table,
-    names: &Names,
     links: &[Link],
     i: usize,
     n: usize,
     made: &mut Vec<Made>,
 ) -> Result<Made, AllocError>
     requires within { i + 1 + n ≤ length links.now }
-    requires next { IsNextIn names.now.sorts.items (drop i links.now) n }
-    requires table { IsTable names.now.base table.old }
-    requires made { (all : List AtomOf) → Begins (rows_in table.old.rows) all → AreTurned names.now.sorts.items names.now.base all (turned_in (drop i links.now)) made.old.items }
-    ensures grows { OnOk result (Grows names.now.base (with_operand names.now.sorts.items (drop i links.now) n) table.old table.new) }
-    ensures turned { OnOk result ((all : List AtomOf) → Begins (rows_in table.new.rows) all → AreTurned names.now.sorts.items names.now.base all (turned_in (drop (i + 1 + n) links.now)) made.new.items) }
-    ensures made { IfOk result (λ x. (all : List AtomOf) → Begins (rows_in table.new.rows) all → IsMade names.now.sorts.items names.now.base all (operand_in (drop i links.now) n) x) }
+    requires next { IsNextIn over.now.names.now.sorts.items (drop i links.now) n }
+    requires table { IsTable over.now.names.now.base table.old }
+    requires made { (all : List AtomOf) → Begins (rows_in table.old.rows) all → AreTurned over.now.names.now.sorts.items over.now.names.now.base all (turned_in (drop i links.now)) made.old.items }
+    ensures grows { OnOk result (Grows over.now.names.now.base (with_operand over.now.names.now.sorts.items (drop i links.now) n) table.old table.new) }
+    ensures turned { OnOk result ((all : List AtomOf) → Begins (rows_in table.new.rows) all → AreTurned over.now.names.now.sorts.items over.now.names.now.base all (turned_in (drop (i + 1 + n) links.now)) made.new.items) }
+    ensures made { IfOk result (λ x. (all : List AtomOf) → Begins (rows_in table.new.rows) all → IsMade over.now.names.now.sorts.items over.now.names.now.base all (operand_in (drop i links.now) n) x) }
 {
     let l = &links[i];
     let next = i + 1 + n;
     if is_implies(l.sign) {
-        *made = turned(alloc, table, names, links, next)?;
-        return begun(alloc, table, names, &l.operand, &links[i + 1..next]);
+        *made = turned(over.alloc, table, over.names, links, next)?;
+        return begun(
+            over.alloc,
+            table,
+            over.names,
+            &l.operand,
+            &links[i + 1..next],
+        );
     }
     if is_explies(l.sign) {
         return Ok(last(made));
     }
-    abstracted(alloc, table, names, &l.operand)
+    abstracted(over.alloc, table, over.names, &l.operand)
 }
 
 /// The links of a chain from this one on, where what stands before it has this refusal, and what stands behind each `<==` before the
 /// next `==>` is made already.
 #[cycle(abstracting)]
 fn links_from(
-    alloc: Global,
+    over: &Over<'_>,
     table: &mut Table,
-    names: &Names,
     first: Option<OutOfRange>,
     links: &[Link],
     from: usize,
     before: Vec<Made>,
 ) -> Result<Linked, AllocError>
-    requires table { IsTable names.now.base table.old }
-    requires before { (all : List AtomOf) → Begins (rows_in table.old.rows) all → AreTurned names.now.sorts.items names.now.base all (turned_in (drop from links.now)) before.items }
-    ensures grows { OnOk result (Grows names.now.base (with_links names.now.sorts.items (drop from links.now)) table.old table.new) }
-    ensures made { IfOk result (λ x. (all : List AtomOf) → Begins (rows_in table.new.rows) all → AreMade names.now.sorts.items names.now.base all first (drop from links.now) x) }
+    requires table { IsTable over.now.names.now.base table.old }
+    requires before { (all : List AtomOf) → Begins (rows_in table.old.rows) all → AreTurned over.now.names.now.sorts.items over.now.names.now.base all (turned_in (drop from links.now)) before.items }
+    ensures grows { OnOk result (Grows over.now.names.now.base (with_links over.now.names.now.sorts.items (drop from links.now)) table.old table.new) }
+    ensures made { IfOk result (λ x. (all : List AtomOf) → Begins (rows_in table.new.rows) all → AreMade over.now.names.now.sorts.items over.now.names.now.base all first (drop from links.now) x) }
 {
     let mut order = Order::new(first);
     let mut before = before;
-    let mut made = Vec::new(alloc);
+    let mut made = Vec::new(over.alloc);
     let mut i = from;
     while i < links.len() {
         let l = &links[i];
         let rest = &links[i + 1..];
-        let n = next(names, l, rest);
-        let x = operand(alloc, table, names, links, i, n, &mut before)?;
+        let n = next(over.names, l, rest);
+        let x = operand(over, table, links, i, n, &mut before)?;
         order = order.then(l.sign, x.refused);
         made.push(Link {
             pos: l.pos,
@@ -202,7 +213,8 @@ pub fn abstracted(
             let n = head(names, e, links);
             let before = turned(alloc, table, names, links, n)?;
             let first = begun(alloc, table, names, e, &links[..n])?;
-            let rest = links_from(alloc, table, names, first.refused, links, n, before)?;
+            let over = Over { alloc, names };
+            let rest = links_from(&over, table, first.refused, links, n, before)?;
             joined(alloc, first.says, rest)
         }
         Expr::Number(_, _) => Ok(without_relations(plain(false))),

@@ -110,24 +110,31 @@ fn learn(tour: &mut Tour, atoms: usize, lemma: &[Named], k: usize) -> Result<boo
     deny_all(&mut tour.trail, atoms, lemma)
 }
 
-/// One node, the k-th: whether it may stand here, and which paths are open after it.
+/// A node with its number.
+#[derive(Clone, Copy)]
+struct Numbered<'a> {
+    node: &'a Node,
+    k: usize,
+}
+
+/// One node: whether it may stand here, and which paths are open after it.
 fn step(
     alloc: Global,
     f: &Clauses,
     set: &[bool],
     cert: &Cert,
     tour: &mut Tour,
-    node: &Node,
-    k: usize,
+    here: Numbered<'_>,
 ) -> Result<bool, AllocError>
     requires is_tour { IsTour tour.old }
     requires is_open { IsTrue tour.old.is_open }
     requires sized { atoms_on tour.old ≡ length f.now.atoms.items + length cert.now.table.items }
-    requires is_node { at cert.now.nodes.items k ≡ Some node.now }
+    requires is_node { at cert.now.nodes.items here.k ≡ Some here.node.now }
     ensures tours { IfOk result (λ yes. IsTrue yes → IsTour tour.new) }
     ensures sized { IfOk result (λ yes. IsTrue yes → atoms_on tour.new ≡ atoms_on tour.old) }
-    ensures told { IfOk result (λ yes. Tells (formula_of f.now) (has set.now) cert.now tour.old tour.new (node_of node.now) yes) }
+    ensures told { IfOk result (λ yes. Tells (formula_of f.now) (has set.now) cert.now tour.old tour.new (node_of here.entry.node.now) yes) }
 {
+    let node = here.node;
     match node {
         Node::Split(a) => {
             let a = *a;
@@ -162,7 +169,7 @@ fn step(
                 Ok(false)
             }
         }
-        Node::Lemma(lemma) => learn(tour, f.atoms.len(), lemma, k),
+        Node::Lemma(lemma) => learn(tour, f.atoms.len(), lemma, here.k),
         Node::Clause(_) => leaf(alloc, f, set, cert, tour, node),
         Node::Unit(_) => leaf(alloc, f, set, cert, tour, node),
         Node::Known(_) => leaf(alloc, f, set, cert, tour, node),
@@ -179,7 +186,11 @@ fn is_tree(alloc: Global, f: &Clauses, set: &[bool], cert: &Cert) -> Result<bool
         if !tour.is_open {
             return Ok(false);
         }
-        if !step(alloc, f, set, cert, &mut tour, &cert.nodes[k], k)? {
+        let here = Numbered {
+            node: &cert.nodes[k],
+            k,
+        };
+        if !step(alloc, f, set, cert, &mut tour, here)? {
             return Ok(false);
         }
     }

@@ -64,7 +64,7 @@ abstracted-returns-in_ok-rest-in-Chain-clause-made t c =
 
 pub links_from-returns-clause-made : goal.links_from-returns-clause-made
 links_from-returns-clause-made t c =
-    let names = c.args.names.now in
+    let names = c.args.over.now.names.now in
     λ all b. linked names.sorts.items names.base all c.args.first _ _ (drop c.args.from c.args.links.now) c.args.links.now _ c.loop-i.i c.loop-i-test.false c.first.ensures (c.loop-i.invariant.1 all b)
 
 pub begun-returns-in-Some-clause-made : goal.begun-returns-in-Some-clause-made
@@ -142,7 +142,7 @@ turned-returns-clause-made t c =
 
 pub operand-returns-then-is_implies-clause-grows : goal.operand-returns-then-is_implies-clause-grows
 operand-returns-then-is_implies-clause-grows t c =
-    let names = c.args.names.now in
+    let names = c.args.over.now.names.now in
     let links = c.args.links.now in
     let lt : c.args.i < length links = let h = c.requires.within in omega (arith, h) in
     let f = ap (λ k. take k (drop (c.args.i + 1) links)) (let e : c.args.i + 1 + c.args.n - (c.args.i + 1) ≡ c.args.n = omega arith in e) in
@@ -150,13 +150,13 @@ operand-returns-then-is_implies-clause-grows t c =
 
 pub operand-returns-then-is_implies-clause-turned : goal.operand-returns-then-is_implies-clause-turned
 operand-returns-then-is_implies-clause-turned t c =
-    let names = c.args.names.now in
+    let names = c.args.over.now.names.now in
     let front = take (c.args.i + 1 + c.args.n - (c.args.i + 1)) (drop (c.args.i + 1) c.args.links.now) in
     IfOk-weaker c.begun.result _ _ (λ x is all b. c.in_ok-made.ensures.made all (begins_on _ _ _ (begins_grown (begins_ex names.sorts.items (behind (m.ex_of (ex_of c.index-links-i.result.operand)) front)) is) b)) c.begun.ensures.grows
 
 pub operand-returns-then-is_implies-clause-made : goal.operand-returns-then-is_implies-clause-made
 operand-returns-then-is_implies-clause-made t c =
-    let names = c.args.names.now in
+    let names = c.args.over.now.names.now in
     let links = c.args.links.now in
     let lt : c.args.i < length links = let h = c.requires.within in omega (arith, h) in
     let f = ap (λ k. take k (drop (c.args.i + 1) links)) (let e : c.args.i + 1 + c.args.n - (c.args.i + 1) ≡ c.args.n = omega arith in e) in
@@ -164,14 +164,14 @@ operand-returns-then-is_implies-clause-made t c =
 
 pub operand-returns-clause-turned : goal.operand-returns-clause-turned
 operand-returns-clause-turned t c =
-    let names = c.args.names.now in
+    let names = c.args.over.now.names.now in
     let links = c.args.links.now in
     let lt : c.args.i < length links = let h = c.requires.within in omega (arith, h) in
     IfOk-weaker c.abstracted.result _ _ (λ x is all b. left_at names.sorts.items names.base links c.args.i c.args.n c.index-links-i.result lt c.index-links-i.is c.requires.next all c.args.made.now.items (sym c.is_implies.ensures ∙ c.if-is_implies.false) (sym c.is_explies.ensures ∙ c.if-is_explies.false) (c.requires.made all (begins_on _ _ _ (begins_grown (begins_ex names.sorts.items (m.ex_of (ex_of c.index-links-i.result.operand))) is) b))) c.abstracted.ensures.grows
 
 pub operand-begun-requires : goal.operand-begun-requires
 operand-begun-requires t c =
-    let names = c.args.names.now in
+    let names = c.args.over.now.names.now in
     let links = c.args.links.now in
     let lt : c.args.i < length links = let h = c.requires.within in omega (arith, h) in
     let f = ap (λ k. take k (drop (c.args.i + 1) links)) (let e : c.args.i + 1 + c.args.n - (c.args.i + 1) ≡ c.args.n = omega arith in e) in
@@ -179,42 +179,42 @@ operand-begun-requires t c =
 
 pub operand-returns-clause-grows : goal.operand-returns-clause-grows
 operand-returns-clause-grows t c =
-    let names = c.args.names.now in
+    let names = c.args.over.now.names.now in
     let links = c.args.links.now in
     let lt : c.args.i < length links = let h = c.requires.within in omega (arith, h) in
     IfOk-weaker c.abstracted.result _ _ (λ x is. other_grown names.sorts.items names.base links c.args.i c.args.n c.index-links-i.result lt c.index-links-i.is c.requires.next c.args.table.now c.abstracted.new.table (sym c.is_implies.ensures ∙ c.if-is_implies.false) (sym c.is_explies.ensures ∙ c.if-is_explies.false) is) c.abstracted.ensures.grows
 
 pub operand-returns-clause-made : goal.operand-returns-clause-made
 operand-returns-clause-made t c =
-    let names = c.args.names.now in
+    let names = c.args.over.now.names.now in
     let links = c.args.links.now in
     let lt : c.args.i < length links = let h = c.requires.within in omega (arith, h) in
     IfOk-weaker c.abstracted.result _ _ (λ x is all b. made_alone names.sorts.items names.base links c.args.i c.args.n c.index-links-i.result lt c.index-links-i.is c.requires.next all x (sym c.is_implies.ensures ∙ c.if-is_implies.false) (is all b)) c.abstracted.ensures.made
 
 pub operand-last-requires : goal.operand-last-requires
 operand-last-requires t c =
-    let names = c.args.names.now in
+    let names = c.args.over.now.names.now in
     let links = c.args.links.now in
     let lt : c.args.i < length links = let h = c.requires.within in omega (arith, h) in
     pop_some names.sorts.items names.base links c.args.i c.args.n c.index-links-i.result lt c.index-links-i.is c.requires.next (rows_in c.args.table.now.rows) c.args.made.now.items (sym c.is_implies.ensures ∙ c.if-is_implies.false) (sym c.is_explies.ensures ∙ c.if-is_explies.true) (c.requires.made (rows_in c.args.table.now.rows) (begins_itself (rows_in c.args.table.now.rows)))
 
 pub operand-returns-then-is_explies-clause-grows : goal.operand-returns-then-is_explies-clause-grows
 operand-returns-then-is_explies-clause-grows t c =
-    let names = c.args.names.now in
+    let names = c.args.over.now.names.now in
     let links = c.args.links.now in
     let lt : c.args.i < length links = let h = c.requires.within in omega (arith, h) in
     turned_grown names.sorts.items names.base links c.args.i c.args.n c.index-links-i.result lt c.index-links-i.is c.requires.next c.args.table.now (sym c.is_implies.ensures ∙ c.if-is_implies.false) (sym c.is_explies.ensures ∙ c.if-is_explies.true) c.requires.table
 
 pub operand-returns-then-is_explies-clause-turned : goal.operand-returns-then-is_explies-clause-turned
 operand-returns-then-is_explies-clause-turned t c =
-    let names = c.args.names.now in
+    let names = c.args.over.now.names.now in
     let links = c.args.links.now in
     let lt : c.args.i < length links = let h = c.requires.within in omega (arith, h) in
     λ all b. (pop_at names.sorts.items names.base links c.args.i c.args.n c.index-links-i.result lt c.index-links-i.is c.requires.next all c.args.made.now.items c.last.new.made.items c.last.result (sym c.is_implies.ensures ∙ c.if-is_implies.false) (sym c.is_explies.ensures ∙ c.if-is_explies.true) c.last.ensures (c.requires.made all b)).1
 
 pub operand-returns-then-is_explies-clause-made : goal.operand-returns-then-is_explies-clause-made
 operand-returns-then-is_explies-clause-made t c =
-    let names = c.args.names.now in
+    let names = c.args.over.now.names.now in
     let links = c.args.links.now in
     let lt : c.args.i < length links = let h = c.requires.within in omega (arith, h) in
     λ all b. (pop_at names.sorts.items names.base links c.args.i c.args.n c.index-links-i.result lt c.index-links-i.is c.requires.next all c.args.made.now.items c.last.new.made.items c.last.result (sym c.is_implies.ensures ∙ c.if-is_implies.false) (sym c.is_explies.ensures ∙ c.if-is_explies.true) c.last.ensures (c.requires.made all b)).0
@@ -271,7 +271,7 @@ begun-returns-in-None-clause-grows t c =
 
 pub links_from-loop-i-init : goal.links_from-loop-i-init
 links_from-loop-i-init t c =
-    let names = c.args.names.now in (
+    let names = c.args.over.now.names.now in (
       passing_none names.sorts.items names.base (drop c.args.from c.args.links.now) c.args.table.now c.requires.table,
       λ all b. linking_none names.sorts.items names.base all c.args.first _ _ (drop c.args.from c.args.links.now) c.new-made.result.items c.new-order.ensures.before c.new-order.ensures.here c.new-made.ensures.items,
       c.requires.before,
@@ -279,7 +279,7 @@ links_from-loop-i-init t c =
 
 pub links_from-loop-i-preserved : goal.links_from-loop-i-preserved
 links_from-loop-i-preserved t c =
-    let names = c.args.names.now in
+    let names = c.args.over.now.names.now in
     let l = c.index-links-i.result in
     let y : Link = record { pos = l.pos; sign = l.sign; operand = c.in_ok-x.x.says } in
     let links = c.args.links.now in
@@ -294,4 +294,4 @@ links_from-loop-i-preserved t c =
 
 pub links_from-returns-clause-grows : goal.links_from-returns-clause-grows
 links_from-returns-clause-grows t c =
-    passed c.args.names.now.sorts.items c.args.names.now.base (drop c.args.from c.args.links.now) c.args.links.now c.loop-i.i c.args.table.now c.loop-i.table c.loop-i-test.false c.loop-i.invariant.0
+    passed c.args.over.now.names.now.sorts.items c.args.over.now.names.now.base (drop c.args.from c.args.links.now) c.args.links.now c.loop-i.i c.args.table.now c.loop-i.table c.loop-i-test.false c.loop-i.invariant.0

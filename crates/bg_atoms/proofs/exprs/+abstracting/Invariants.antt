@@ -9,9 +9,9 @@ use Rattle.bg_atoms.proofs.exprs.+abstracting.Given as goal
 
 abbrev pub invariant-links_from-loop-i : goal.invariant-links_from-loop-i
 invariant-links_from-loop-i l =
-    Passing l.names.sorts.items l.names.base (drop l.fn.from l.links) (drop l.i l.links) l.fn.table l.table
-    × ((all : List AtomOf) → Begins (rows_in l.table.rows) all → Linking l.names.sorts.items l.names.base all l.fn.first l.order.before l.order.here (drop l.fn.from l.links) (drop l.i l.links) l.made.items)
-    × ((all : List AtomOf) → Begins (rows_in l.table.rows) all → AreTurned l.names.sorts.items l.names.base all (turned_in (drop l.i l.links)) l.before.items)
+    Passing l.over.names.now.sorts.items l.over.names.now.base (drop l.fn.from l.links) (drop l.i l.links) l.fn.table l.table
+    × ((all : List AtomOf) → Begins (rows_in l.table.rows) all → Linking l.over.names.now.sorts.items l.over.names.now.base all l.fn.first l.order.before l.order.here (drop l.fn.from l.links) (drop l.i l.links) l.made.items)
+    × ((all : List AtomOf) → Begins (rows_in l.table.rows) all → AreTurned l.over.names.now.sorts.items l.over.names.now.base all (turned_in (drop l.i l.links)) l.before.items)
 
 abbrev pub invariant-turned-loop-i : goal.invariant-turned-loop-i
 invariant-turned-loop-i l =

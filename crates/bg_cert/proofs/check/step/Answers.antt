@@ -12,20 +12,20 @@ returns-in-Lemma-clause-told c =
     let f = formula_of c.args.f.now in
     let n : c.len-in-Lemma.result ≡ length f.atoms = let m = length_map atom_of c.args.f.now.atoms.items in let o = c.args.f.now.atoms.ok in omega (arith, c.len-in-Lemma.ensures, m, o) in
     let l : lemma_of c.len-in-Lemma.result c.deref.result.now ≡ lemma_of (length f.atoms) c.in-Lemma.lemma.items = ap (λ m. lemma_of m c.deref.result.now) n ∙ ap (lemma_of (length f.atoms)) c.deref.ensures.value in
-    lemma_told f (has c.args.set.now) c.args.cert.now c.args.tour.now c.learn.new.tour c.args.node.now c.in-Lemma.lemma (lemma_of c.len-in-Lemma.result c.deref.result.now) c.args.k c.learn.result c.in-Lemma.is l c.requires.is_open c.requires.is_node (c.requires.sized ∙ ap (λ m. m + length c.args.cert.now.table.items) (sym (length_map atom_of c.args.f.now.atoms.items))) c.learn.ensures.there c.learn.ensures.stack
+    lemma_told f (has c.args.set.now) c.args.cert.now c.args.tour.now c.learn.new.tour c.args.here.node.now c.in-Lemma.lemma (lemma_of c.len-in-Lemma.result c.deref.result.now) c.args.here.k c.learn.result c.in-Lemma.is l c.requires.is_open c.requires.is_node (c.requires.sized ∙ ap (λ m. m + length c.args.cert.now.table.items) (sym (length_map atom_of c.args.f.now.atoms.items))) c.learn.ensures.there c.learn.ensures.stack
 
 pub returns-in-Clause-clause-told : goal.returns-in-Clause-clause-told
 returns-in-Clause-clause-told c = let i = c.in-Clause.is in
-    leaf_told (formula_of c.args.f.now) (has c.args.set.now) c.args.cert.now c.args.tour.now c.leaf.new.tour c.args.node.now c.leaf.result c.requires.is_open (rw i refl) c.leaf.ensures.told
+    leaf_told (formula_of c.args.f.now) (has c.args.set.now) c.args.cert.now c.args.tour.now c.leaf.new.tour c.args.here.node.now c.leaf.result c.requires.is_open (rw i refl) c.leaf.ensures.told
 
 pub returns-in-Unit-clause-told : goal.returns-in-Unit-clause-told
 returns-in-Unit-clause-told c = let i = c.in-Unit.is in
-    leaf_told (formula_of c.args.f.now) (has c.args.set.now) c.args.cert.now c.args.tour.now c.leaf-in-Unit.new.tour c.args.node.now c.leaf-in-Unit.result c.requires.is_open (rw i refl) c.leaf-in-Unit.ensures.told
+    leaf_told (formula_of c.args.f.now) (has c.args.set.now) c.args.cert.now c.args.tour.now c.leaf-in-Unit.new.tour c.args.here.node.now c.leaf-in-Unit.result c.requires.is_open (rw i refl) c.leaf-in-Unit.ensures.told
 
 pub returns-in-Known-clause-told : goal.returns-in-Known-clause-told
 returns-in-Known-clause-told c = let i = c.in-Known.is in
-    leaf_told (formula_of c.args.f.now) (has c.args.set.now) c.args.cert.now c.args.tour.now c.leaf-in-Known.new.tour c.args.node.now c.leaf-in-Known.result c.requires.is_open (rw i refl) c.leaf-in-Known.ensures.told
+    leaf_told (formula_of c.args.f.now) (has c.args.set.now) c.args.cert.now c.args.tour.now c.leaf-in-Known.new.tour c.args.here.node.now c.leaf-in-Known.result c.requires.is_open (rw i refl) c.leaf-in-Known.ensures.told
 
 pub returns-in-Rows-clause-told : goal.returns-in-Rows-clause-told
 returns-in-Rows-clause-told c = let i = c.in-Rows.is in
-    leaf_told (formula_of c.args.f.now) (has c.args.set.now) c.args.cert.now c.args.tour.now c.leaf-in-Rows.new.tour c.args.node.now c.leaf-in-Rows.result c.requires.is_open (rw i refl) c.leaf-in-Rows.ensures.told
+    leaf_told (formula_of c.args.f.now) (has c.args.set.now) c.args.cert.now c.args.tour.now c.leaf-in-Rows.new.tour c.args.here.node.now c.leaf-in-Rows.result c.requires.is_open (rw i refl) c.leaf-in-Rows.ensures.told
