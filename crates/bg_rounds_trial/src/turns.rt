@@ -1,3 +1,4 @@
+use bg_claims::{Gate, MeetGate};
 use bg_turns::map_chunks;
 use std::test::Fail;
 
@@ -31,5 +32,27 @@ fn an_empty_list_has_no_chunk(rt: HostRuntime) -> Result<(), Fail> {
     let list: [u32; 0] = [];
     let made = map_chunks(&rt, rt.alloc(), &list, 3, 4, &|start, _| start)?;
     assert!(rt; made.is_empty());
+    Ok(())
+}
+
+// Two threads call at once: the first that enters a gate is held there until another comes. One thread meets nobody.
+#[test]
+fn calls_by_turns_are_made_in_threads(rt: HostRuntime) -> Result<(), Fail> {
+    let list = [0u32; 8];
+    for (threads, met) in [(2u32, true), (1, false)] {
+        let gate = MeetGate::new(10_000_000);
+        let made = map_chunks(
+            &rt,
+            rt.alloc(),
+            &list,
+            1,
+            threads,
+            &|start, _| {
+                gate.enter(0, 0);
+                start
+            },
+        )?;
+        assert!(rt; made.len() == 8 && gate.met() == met);
+    }
     Ok(())
 }
