@@ -22,7 +22,7 @@ use Rattle.bg_sound.specs.Told as t
 use Rattle.bg_tree.specs.declared.outcome.Budget.{Budget}
 use Rattle.bg_check.specs.declared.verdict.Cause.{Cause}
 use Rattle.bg_check.specs.declared.verdict.Verdict.{Verdict}
-use Rattle.bg_check.specs.declared.verdict.Verdict.TheVariants.{Proved, Refuted, Unknown}
+use Rattle.bg_check.specs.declared.verdict.Verdict.TheVariants.{Proved, Refuted, Unknown, Left}
 use Rattle.bg_check.specs.Verdicts.{IsRight}
 use Rattle.bg_check.specs.Outcomes.{verdict_of}
 use Rattle.bg_opened.specs.Programs.{global_for}
@@ -148,16 +148,17 @@ module _ (budget : Budget) (p : r.Program) (set : ℕ → Bool) (cex : Counterex
 
 -- ---- of an outcome
 
-module _ (budget : Budget) (p : r.Program) (o : Outcome) (true_of : IsTrueOutcome budget p o) (words : ℕ → Cause → t.Why) (c : CertOf) where
+module _ (keeps : Bool) (budget : Budget) (p : r.Program) (o : Outcome) (true_of : IsTrueOutcome keeps budget p o) (words : ℕ → Cause → t.Why) (c : CertOf) where
   pub found_met : c.interp ≡ interp_by (names_of p) o.axioms → t.is_contradictory (axioms_by (verdict_of words o.axioms)) ≡ false → t.is_undecided (axioms_by (verdict_of words o.axioms)) ≡ false →
       (is_some c.interp ≡ true) × IsInterpMet p c
   found_met e a b = by o.axioms true_of.axioms e a b
     where
       by : (v : Verdict) → IsRight budget (axioms_of p) true_of.set axiom_place v → c.interp ≡ interp_by (names_of p) v → t.is_contradictory (axioms_by (verdict_of words v)) ≡ false → t.is_undecided (axioms_by (verdict_of words v)) ≡ false →
           (is_some c.interp ≡ true) × IsInterpMet p c
-      by (Proved es cert) h f a b = absurd (let g : true ≡ false = a in cc)
+      by (Proved proof) h f a b = absurd (let g : true ≡ false = a in cc)
       by (Refuted cex) h f a b = (
         ap is_some f,
         subst (λ (x : Option InterpOf). AreMet p x) (sym f) (met budget p true_of.set cex h),
       )
       by (Unknown rounds cause) h f a b = absurd (let g : true ≡ false = b in cc)
+      by (Left kept) h f a b = absurd (let g : true ≡ false = b in cc)

@@ -1,8 +1,9 @@
 -- What is written of a true outcome.
 use Rattle.std.proofs.Common.{◌≡◌, ℕ, zero, suc, ◌+◌, ◌<◌, Bool, true, false, List, [], ◌∷◌, length, map, Option, Some, None, refl, sym, ap, ◌∙◌, subst, inl, inr, arith}
-use Rattle.std.specs.Prelude.{◌⊎◌, if◌then◌else◌, slice_get, filter}
+use Rattle.std.specs.Prelude.{◌⊎◌, if◌then◌else◌, is_some, slice_get, filter}
 use Rattle.std.proofs.lemmas.List.{length-map}
 use Rattle.std.proofs.lemmas.Option.{slice_get_within}
+use Rattle.bg_ast.specs.Syntax.{Prog}
 use Rattle.bg_ast.specs.Resolved as r
 use Rattle.bg_ast.specs.Meaning.{meaning_of}
 use Rattle.bg_ast.specs.Execution.{Place}
@@ -25,6 +26,8 @@ use Rattle.bg_termed.specs.Termed.{terms_in}
 use Rattle.bg_task.specs.Certified.{HasCertificate}
 use Rattle.bg_task.proofs.Numbered.{OfNumber, number_impl}
 use Rattle.bg_tree.specs.declared.outcome.Budget.{Budget}
+use Rattle.bg_check.specs.declared.proof.Proof.{Proof}
+use Rattle.bg_check.specs.Verdicts as check
 use Rattle.bg_check.specs.Verdicts.{judged}
 use Rattle.bg_houdini.specs.declared.outcome.Outcome.{Outcome}
 use Rattle.bg_houdini.specs.Tasks.{has_candidate, tasks_of, candidate_at, candidate_of}
@@ -37,7 +40,7 @@ use Rattle.bg_accept.specs.Lines.{then_, line_said, if_there, lines_in}
 use Rattle.bg_accept.specs.Accepted.{retained_by, places_of, places_at, is_needed, is_required, IsShown, IsRequired}
 use Rattle.bg_certify.specs.Names.{text_in, names_in}
 use Rattle.bg_certify.specs.Spelled.{spelled_line, spelled, rows}
-use Rattle.bg_certify.specs.Found.{Shown, shown_of, cert_kept, certs_from}
+use Rattle.bg_certify.specs.Found.{Shown, shown_of, shown_if, cert_kept, certs_from}
 use Rattle.bg_certify.specs.Written.{IsUnproved, HasSections}
 use Rattle.bg_certify.proofs.Retained.{marks_are, all_placed}
 use Rattle.bg_certify.proofs.Spelling.{section_back}
@@ -104,11 +107,16 @@ said_back incs ts (l ∷ ls) h =
     ap (λ o. then_ (then_ o (if_there incs ts)) behind) (line_back l)
     ∙ (ap (λ b. then_ (if b then Some (line_of l) else None) behind) here ∙ ap (λ o. then_ o (λ xs. Some (line_of l ∷ xs))) rest)
 
+-- the certificate of a task, where it is kept
+its_cert : (p : Prog) (set : ℕ → Bool) (t : Place) (proof : Option Proof) → is_some proof ≡ true → check.IsShown p set t proof → (c : Shown) × ((shown_if proof ≡ Some c) × HasCertificate p set t (lines_of c.lines) c.cert)
+its_cert p set t None e h = absurd (let f : false ≡ true = e in cc)
+its_cert p set t (Some proof) e h = (shown_of proof, (refl, h))
+
 -- the certificates that an outcome has for the places of a program
 abbrev pub certs_of : r.Program → Outcome → List (List (Option Shown))
 certs_of p o = certs_from p.procedures (has o.inferred.retained) o.inferred.kept.items 0 p.implementations (judged o.verdicts.items)
 
-module _ (placed_law : PlacedLaw) (inside_law : InsideLaw) (above_law : AboveLaw) (budget : Budget) (p : r.Program) (o : Outcome) (true_of : IsTrueOutcome budget p o) where
+module _ (placed_law : PlacedLaw) (inside_law : InsideLaw) (above_law : AboveLaw) (budget : Budget) (p : r.Program) (o : Outcome) (true_of : IsTrueOutcome true budget p o) where
   -- ---- what is kept for tasks
 
   under : (used : Numbers) (t : Place) (es : List Line) (c : Cert) → IsSubset used o.inferred.retained → HasCertificate (meaning_of p) (has used) t es c → HasCertificate (meaning_of p) (has o.inferred.retained) t es c
@@ -127,12 +135,11 @@ module _ (placed_law : PlacedLaw) (inside_law : InsideLaw) (above_law : AboveLaw
       let in_range : t < length (tasks_of (meaning_of p)) = slice_get_within (tasks_of (meaning_of p)) t task e in
       let its : has o.inferred.retained (candidate_of (meaning_of p) t) ≡ true = ap (λ (x : Option Place). has o.inferred.retained (candidate_at x)) e ∙ s in
       let w = true_of.inferred.certificates t in_range its in
-      let shown = w.2.shown in
+      let shown = w.2.shown.0 in
       let same : Some shown.task ≡ Some task = sym shown.is_there ∙ e in
-      let is_task : shown.task ≡ task = cc in (
-        shown_of w.0.proof,
-        (ap cert_kept w.1, under w.0.used task (lines_of w.0.proof.lines.items) w.0.proof.cert w.3 (subst (λ (x : Place). HasCertificate (meaning_of p) (has w.0.used) x (lines_of w.0.proof.lines.items) w.0.proof.cert) is_task shown.so)),
-      )
+      let is_task : shown.task ≡ task = cc in
+      let c = its_cert (meaning_of p) (has w.0.used) task w.0.proof (w.2.shown.1 refl) (subst (λ (x : Place). check.IsShown (meaning_of p) (has w.0.used) x w.0.proof) is_task shown.so) in
+      (c.0, (ap cert_kept w.1 ∙ c.1.0, under w.0.used task (lines_of c.0.lines) c.0.cert w.3 c.1.1))
 
   kept : AreKept (meaning_of p) (has o.inferred.retained) o.inferred.kept.items (placed p)
   kept =
@@ -144,7 +151,7 @@ module _ (placed_law : PlacedLaw) (inside_law : InsideLaw) (above_law : AboveLaw
   impl_cells : (k : ℕ) (m : r.Impl) → slice_get p.implementations k ≡ Some m →
       ImplCells (meaning_of p) (has o.inferred.retained) p.procedures k k m (judged o.verdicts.items) (certs_of p o)
   impl_cells k m e =
-      impl_at budget p (has o.inferred.retained) 0 p.implementations (judged o.verdicts.items) o.inferred.kept.items kept true_of.ordinary k k m (omega arith) e
+      impl_at budget p (has o.inferred.retained) 0 p.implementations (judged o.verdicts.items) o.inferred.kept.items kept true_of.ordinary (true_of.shown refl) k k m (omega arith) e
 
   required : (m n j : ℕ) (c : Shown) → m ≡ 0 + n → cert_at (certs_at (certs_of p o) n) j ≡ Some c →
       is_required p (has o.inferred.retained) m j ≡ true
@@ -234,6 +241,6 @@ module _ (placed_law : PlacedLaw) (inside_law : InsideLaw) (above_law : AboveLaw
         }
 
 -- as many lists of verdicts as implementations
-pub verdict_count : (budget : Budget) (p : r.Program) (o : Outcome) → IsTrueOutcome budget p o → length o.verdicts.items ≡ length p.implementations
-verdict_count budget p o h =
+pub verdict_count : (keeps : Bool) (budget : Budget) (p : r.Program) (o : Outcome) → IsTrueOutcome keeps budget p o → length o.verdicts.items ≡ length p.implementations
+verdict_count keeps budget p o h =
     sym (length-map o.verdicts.items (λ v. v.items)) ∙ counts budget p (has o.inferred.retained) 0 p.implementations (judged o.verdicts.items) h.ordinary

@@ -13,7 +13,7 @@ use Rattle.bg_sound.specs.Told as t
 use Rattle.bg_words.specs.Sets.{has}
 use Rattle.bg_check.specs.declared.verdict.Cause.{Cause}
 use Rattle.bg_check.specs.declared.verdict.Verdict.{Verdict}
-use Rattle.bg_check.specs.declared.verdict.Verdict.TheVariants.{Proved, Refuted, Unknown}
+use Rattle.bg_check.specs.declared.verdict.Verdict.TheVariants.{Proved, Refuted, Unknown, Left}
 use Rattle.bg_check.specs.declared.verdict.Judged.{Judged}
 use Rattle.bg_check.specs.Verdicts.{placed_at, judged, AreRightFrom, is_proved}
 use Rattle.bg_check.specs.Outcomes.{verdict_of, told_one, told, is_ordinary}
@@ -111,7 +111,7 @@ status false false e = (refl, refl)
 never : {A : Type 0} (b : Bool) → b ≡ true → b ≡ false → A
 never b e f = absurd (let g : true ≡ false = sym e ∙ f in cc)
 
-module _ (budget : Budget) (p : r.Program) (o : Outcome) (words : ℕ → Cause → t.Why) (true_of : IsTrueOutcome budget p o) (zero_of : t.status_of (outcome_of words (meaning_of p) o) ≡ 0) where
+module _ (keeps : Bool) (budget : Budget) (p : r.Program) (o : Outcome) (words : ℕ → Cause → t.Why) (true_of : IsTrueOutcome keeps budget p o) (zero_of : t.status_of (outcome_of words (meaning_of p) o) ≡ 0) where
   abbrev P : Prog
   P = meaning_of p
 
@@ -144,10 +144,12 @@ module _ (budget : Budget) (p : r.Program) (o : Outcome) (words : ℕ → Cause 
           (none_carried P test os f)
 
       by : {A : Type 0} (v : Verdict) → u.verdict.verdict ≡ v → is_proved v ≡ false → A
-      by (Proved es c) e n = absurd (let f : true ≡ false = n in cc)
+      by (Proved proof) e n = absurd (let f : true ≡ false = n in cc)
       by (Refuted cex) e n =
           found t.is_refuted (neither _ _ none.0).1 (ap (λ (v : Verdict). t.is_refuted (carried_verdict P (verdict_of words v))) e)
       by (Unknown rounds cause) e n =
+          found t.is_unknown (neither _ _ none.1).1 (ap (λ (v : Verdict). t.is_unknown (carried_verdict P (verdict_of words v))) e)
+      by (Left kept) e n =
           found t.is_unknown (neither _ _ none.1).1 (ap (λ (v : Verdict). t.is_unknown (carried_verdict P (verdict_of words v))) e)
 
   accepted_opened : (c : CertOf) → is_some c.interp ≡ true → HasSections (judged_program p) o.judged c → accept.IsAccepted (judged_program p) c
@@ -166,5 +168,5 @@ module _ (budget : Budget) (p : r.Program) (o : Outcome) (words : ℕ → Cause 
 
   pub accepted : (c : CertOf) → IsWritten p o c → IsAccepted p c
   accepted c w =
-      let f = found_met budget p o true_of words c w.interp (neither _ _ none.0).0 (neither _ _ none.1).0 in
+      let f = found_met keeps budget p o true_of words c w.interp (neither _ _ none.0).0 (neither _ _ none.1).0 in
       (f.1, accepted_opened c f.0 w.sections)

@@ -7,7 +7,7 @@ use Rattle.bg_text.specs.Trees.{Id}
 use Rattle.bg_text.specs.Views.{option_of}
 use Rattle.bg_ast.specs.Resolved as r
 use Rattle.bg_ast.specs.Views.{candidate_of}
-use Rattle.bg_houdini.specs.declared.proof.Proof.{Proof}
+use Rattle.bg_check.specs.declared.proof.Proof.{Proof}
 use Rattle.bg_certify.specs.Found.{Shown}
 use Rattle.bg_places.specs.declared.place.Place.{Place}
 use Rattle.bg_places.specs.Placed.{Placed, placed_impl}
@@ -35,7 +35,7 @@ drops ps i x h e =
     ∙ (ap (λ (y : Place). placed_of y ∷ map placed_of (drop (i + 1) ps)) (sym e)
     ∙ ap (λ (l : List Placed). placed_of x ∷ l) (sym (drop-map placed_of (i + 1) ps))))
 
-pub place_step : (names : List Id) (k i : ℕ) (set : ℕ → Bool) (ks on : List (Option (Kept Proof))) (js later : List Judged) (ps : List Place) (x : Place) (cert : Option Shown) (old more whole : List SectionOf) →
+pub place_step : (names : List Id) (k i : ℕ) (set : ℕ → Bool) (ks on : List (Option (Kept (Option Proof)))) (js later : List Judged) (ps : List Place) (x : Place) (cert : Option Shown) (old more whole : List SectionOf) →
     i < length ps → x ≡ get_or ps i x → cert ≡ cert_for set ks js (its x) → more ≡ old ++ with_section names k i cert [] →
     on ≡ kept_behind (its x) ks → later ≡ judged_behind (its x) js →
     old ++ row names k i (certs_for set ks js (drop i (placed_in ps))) ≡ whole →
@@ -43,7 +43,7 @@ pub place_step : (names : List Id) (k i : ℕ) (set : ℕ → Bool) (ks on : Lis
 place_step names k i set ks on js later ps x cert old more whole h e f m u v w =
     let rest = certs_for set (kept_behind (its x) ks) (judged_behind (its x) js) (drop (i + 1) (placed_in ps)) in
     let next : i + 1 ≡ suc i = omega arith in
-    ap (λ (l : List (Option (Kept Proof))). more ++ row names k (i + 1) (certs_for set l later (drop (i + 1) (placed_in ps)))) u
+    ap (λ (l : List (Option (Kept (Option Proof)))). more ++ row names k (i + 1) (certs_for set l later (drop (i + 1) (placed_in ps)))) u
     ∙ (ap (λ (l : List Judged). more ++ row names k (i + 1) (certs_for set (kept_behind (its x) ks) l (drop (i + 1) (placed_in ps)))) v
     ∙ (ap (λ (n : ℕ). more ++ row names k n rest) next
     ∙ (ap (λ (l : List SectionOf). l ++ row names k (suc i) rest) m
@@ -52,22 +52,22 @@ place_step names k i set ks on js later ps x cert old more whole h e f m u v w =
     ∙ (ap (λ (c : Option Shown). old ++ with_section names k i c (row names k (suc i) rest)) f
     ∙ (ap (λ (l : List Placed). old ++ row names k i (certs_for set ks js l)) (sym (drops ps i x h e)) ∙ w)))))))
 
-pub task_step : (ks on whole : List (Option (Kept Proof))) (i : ℕ) (ps : List Place) (x : Place) → i < length ps → x ≡ get_or ps i x →
+pub task_step : (ks on whole : List (Option (Kept (Option Proof)))) (i : ℕ) (ps : List Place) (x : Place) → i < length ps → x ≡ get_or ps i x →
     on ≡ kept_behind (its x) ks → kept_after ks (drop i (placed_in ps)) ≡ whole → kept_after on (drop (i + 1) (placed_in ps)) ≡ whole
 task_step ks on whole i ps x h e u w =
-    ap (λ (l : List (Option (Kept Proof))). kept_after l (drop (i + 1) (placed_in ps))) u
+    ap (λ (l : List (Option (Kept (Option Proof)))). kept_after l (drop (i + 1) (placed_in ps))) u
     ∙ (ap (λ (l : List Placed). kept_after ks l) (sym (drops ps i x h e)) ∙ w)
 
 none_left : (ps : List Place) (i : ℕ) → length ps ≤ i → drop i (placed_in ps) ≡ []
 none_left ps i h = drop_all i (placed_in ps) (let e : length (placed_in ps) ≡ length ps = length-map ps placed_of in omega arith)
 
-pub places_end : (names : List Id) (k i : ℕ) (set : ℕ → Bool) (ks : List (Option (Kept Proof))) (js : List Judged) (ps : List Place) (old whole : List SectionOf) → length ps ≤ i →
+pub places_end : (names : List Id) (k i : ℕ) (set : ℕ → Bool) (ks : List (Option (Kept (Option Proof)))) (js : List Judged) (ps : List Place) (old whole : List SectionOf) → length ps ≤ i →
     old ++ row names k i (certs_for set ks js (drop i (placed_in ps))) ≡ whole → old ≡ whole
 places_end names k i set ks js ps old whole h w =
     sym (append-nil old)
     ∙ (ap (λ (l : List Placed). old ++ row names k i (certs_for set ks js l)) (sym (none_left ps i h)) ∙ w)
 
-pub task_end : (ks whole : List (Option (Kept Proof))) (i : ℕ) (ps : List Place) → length ps ≤ i → kept_after ks (drop i (placed_in ps)) ≡ whole → ks ≡ whole
+pub task_end : (ks whole : List (Option (Kept (Option Proof)))) (i : ℕ) (ps : List Place) → length ps ≤ i → kept_after ks (drop i (placed_in ps)) ≡ whole → ks ≡ whole
 task_end ks whole i ps h w = ap (λ (l : List Placed). kept_after ks l) (sym (none_left ps i h)) ∙ w
 
 -- ---- implementations
@@ -82,7 +82,7 @@ drop_there [] k x h = absurd (let e : None ≡ Some x = h in cc)
 drop_there (y ∷ ys) zero x h = let e : y ≡ x = cc in ap (λ z. z ∷ ys) e
 drop_there (y ∷ ys) (suc k) x h = drop_there ys k x h
 
-pub impl_step : (names : List Id) (qs : List r.Proc) (set : ℕ → Bool) (ks on : List (Option (Kept Proof))) (k : ℕ) (ms : List r.Impl) (jss : List (List Judged)) (m : r.Impl) (js : List Judged) (old more whole : List SectionOf) →
+pub impl_step : (names : List Id) (qs : List r.Proc) (set : ℕ → Bool) (ks on : List (Option (Kept (Option Proof)))) (k : ℕ) (ms : List r.Impl) (jss : List (List Judged)) (m : r.Impl) (js : List Judged) (old more whole : List SectionOf) →
     slice_get ms k ≡ Some m → slice_get jss k ≡ Some js → more ≡ old ++ row names k 0 (certs_for set ks js (placed_impl qs k m)) → on ≡ kept_after ks (placed_impl qs k m) →
     old ++ rows names k (certs_from qs set ks k (drop k ms) (drop k jss)) ≡ whole →
     more ++ rows names (k + 1) (certs_from qs set on (k + 1) (drop (k + 1) ms) (drop (k + 1) jss)) ≡ whole
@@ -91,13 +91,13 @@ impl_step names qs set ks on k ms jss m js old more whole a b e u w =
     let first = row names k 0 (certs_for set ks js (placed_impl qs k m)) in
     let rest = rows names (suc k) (certs_from qs set (kept_after ks (placed_impl qs k m)) (suc k) (drop (suc k) ms) (drop (suc k) jss)) in
     ap (λ (n : ℕ). more ++ rows names n (certs_from qs set on n (drop n ms) (drop n jss))) next
-    ∙ (ap (λ (l : List (Option (Kept Proof))). more ++ rows names (suc k) (certs_from qs set l (suc k) (drop (suc k) ms) (drop (suc k) jss))) u
+    ∙ (ap (λ (l : List (Option (Kept (Option Proof)))). more ++ rows names (suc k) (certs_from qs set l (suc k) (drop (suc k) ms) (drop (suc k) jss))) u
     ∙ (ap (λ (l : List SectionOf). l ++ rest) e
     ∙ (append_assoc old first rest
     ∙ (ap (λ (l : List r.Impl). old ++ rows names k (certs_from qs set ks k l (js ∷ drop (suc k) jss))) (sym (drop_there ms k m a))
     ∙ (ap (λ (l : List (List Judged)). old ++ rows names k (certs_from qs set ks k (drop k ms) l)) (sym (drop_there jss k js b)) ∙ w)))))
 
-pub impls_end : (names : List Id) (qs : List r.Proc) (set : ℕ → Bool) (ks : List (Option (Kept Proof))) (k : ℕ) (ms : List r.Impl) (jss : List (List Judged)) (old whole : List SectionOf) → length ms ≤ k →
+pub impls_end : (names : List Id) (qs : List r.Proc) (set : ℕ → Bool) (ks : List (Option (Kept (Option Proof)))) (k : ℕ) (ms : List r.Impl) (jss : List (List Judged)) (old whole : List SectionOf) → length ms ≤ k →
     old ++ rows names k (certs_from qs set ks k (drop k ms) (drop k jss)) ≡ whole → old ≡ whole
 impls_end names qs set ks k ms jss old whole h w =
     sym (append-nil old)

@@ -1,5 +1,5 @@
 -- What is written of an outcome, whatever true program it is of.
-use Rattle.std.proofs.Common.{◌≡◌, ℕ, Bool, List, [], ◌∷◌, ◌++◌, length, map, drop, refl, sym, ap, ◌∙◌, subst}
+use Rattle.std.proofs.Common.{◌≡◌, ℕ, Bool, true, List, [], ◌∷◌, ◌++◌, length, map, drop, refl, sym, ap, ◌∙◌, subst}
 use Rattle.bg_ast.specs.Resolved as r
 use Rattle.bg_ast.specs.Values.{Ty}
 use Rattle.bg_ast.specs.Views.{program_of}
@@ -43,8 +43,8 @@ made p ns us fs =
     record { types = type_names p.types; constants = ns; constant_types = us; functions = fs; bodies = map has_body p.functions }
 
 -- an outcome has the names of its program
-same_names_in : (budget : Budget) (p : r.Program) (o : Outcome) → IsTrueOutcome budget p o → read.names_in o ≡ names_of p
-same_names_in budget p o h =
+same_names_in : (keeps : Bool) (budget : Budget) (p : r.Program) (o : Outcome) → IsTrueOutcome keeps budget p o → read.names_in o ≡ names_of p
+same_names_in keeps budget p o h =
     let alike = constants_alike p o h.opened h.globals in
     let types : (program_of o.opened).types ≡ p.types = ap (λ (q : r.Program). q.types) h.opened in
     let functions : (program_of o.opened).functions ≡ map bodiless p.functions = ap (λ (q : r.Program). q.functions) h.opened in
@@ -57,9 +57,9 @@ same_names_in budget p o h =
     ∙ ap (λ (fs : List HeadOf). made p (constant_names p.constants) (constant_types p.types p.constants) fs) (functions_alike p.types p.functions))))))
 
 -- what is true of the opened program is true of the one that the outcome has
-true_opened : (budget : Budget) (p : r.Program) (o : Outcome) → IsTrueOutcome budget p o → houdini.IsTrueOutcome budget (program_of o.opened) o.judged
-true_opened budget p o h =
-    subst (λ (q : r.Program). houdini.IsTrueOutcome budget q o.judged) (sym h.opened) h.judged
+true_opened : (keeps : Bool) (budget : Budget) (p : r.Program) (o : Outcome) → IsTrueOutcome keeps budget p o → houdini.IsTrueOutcome keeps budget (program_of o.opened) o.judged
+true_opened keeps budget p o h =
+    subst (λ (q : r.Program). houdini.IsTrueOutcome keeps budget q o.judged) (sym h.opened) h.judged
 
 pub written : PlacedLaw → InsideLaw → AboveLaw → (p : r.Program) (o : Outcome) → IsTrueOf p o → HasOwnNames p → (c : CertOf) →
     c.interp ≡ interp_by (read.names_in o) o.axioms → c.retained ≡ names_in o.judged.inferred.retained (program_of o.opened).candidates →
@@ -69,15 +69,15 @@ written placed_law inside_law above_law p o h once c interp names sections =
     let own : AreOnce (map text_in (program_of o.opened).candidates) =
     subst (λ (q : r.Program). AreOnce (map text_in q.candidates)) (sym same) once in
     record {
-      interp = interp ∙ ap (λ (ns : NamesOf). interp_by ns o.axioms) (same_names_in h.0 p o h.1);
+      interp = interp ∙ ap (λ (ns : NamesOf). interp_by ns o.axioms) (same_names_in true h.0 p o h.1);
       sections =
           subst (λ (q : r.Program). HasSections q o.judged c) same
-          (has_sections placed_law inside_law above_law h.0 (program_of o.opened) o.judged (true_opened h.0 p o h.1) own c names sections);
+          (has_sections placed_law inside_law above_law h.0 (program_of o.opened) o.judged (true_opened true h.0 p o h.1) own c names sections);
     }
 
 -- as many lists of verdicts as implementations, and as many marks as candidates
 pub verdicts_counted : (o : Outcome) → ((p : r.Program) × IsTrueOf p o) → length o.judged.verdicts.items ≡ length (program_of o.opened).implementations
-verdicts_counted o h = verdict_count h.1.0 (program_of o.opened) o.judged (true_opened h.1.0 h.0 o h.1.1)
+verdicts_counted o h = verdict_count true h.1.0 (program_of o.opened) o.judged (true_opened true h.1.0 h.0 o h.1.1)
 
 pub marks_counted : (o : Outcome) → ((p : r.Program) × IsTrueOf p o) → length o.judged.inferred.retained ≡ length (program_of o.opened).candidates
-marks_counted o h = (true_opened h.1.0 h.0 o h.1.1).inferred.count
+marks_counted o h = (true_opened true h.1.0 h.0 o h.1.1).inferred.count

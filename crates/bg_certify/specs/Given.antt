@@ -8,7 +8,7 @@ use Rattle.bg_sense.specs.Types.{types_of}
 use Rattle.bg_scalar.specs.Views.{vals_in, tables_in}
 use Rattle.bg_replay.specs.Holds.{type_at}
 use Rattle.bg_check.specs.declared.verdict.Verdict.{Verdict}
-use Rattle.bg_check.specs.declared.verdict.Verdict.TheVariants.{Proved, Refuted, Unknown}
+use Rattle.bg_check.specs.declared.verdict.Verdict.TheVariants.{Proved, Refuted, Unknown, Left}
 use Rattle.bg_certtext.specs.Views.{PartOf, AtNumber, AtElement, ValueOf, Truth, Number, Element, Default, Slot, Item, GivenOf, EntryOf, FunctionOf, InterpOf}
 
 -- a name of a list; nothing where there is none
@@ -94,13 +94,14 @@ pub record NamesOf : Type 0 where
 
 -- the values and tables of what has these names, where the verdict on the axioms' own program has some: a counterexample to its one place
 abbrev pub interp_by : NamesOf → Verdict → Option InterpOf
-interp_by names (Proved ls cert) = None
+interp_by names (Proved proof) = None
 interp_by names (Refuted cex) =
     Some (record {
       constants = givens names.types names.constants names.constant_types (vals_in cex.globals.items);
       functions = functions names.types names.functions names.bodies (tables_in cex.tables.items);
     })
 interp_by names (Unknown rounds cause) = None
+interp_by names (Left kept) = None
 
 -- the names of constants, and of the variables that stand for them
 abbrev pub constant_names : List r.Const → List (List ℕ)

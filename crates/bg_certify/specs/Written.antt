@@ -1,5 +1,5 @@
 -- What a certificate of an outcome says.
-use Rattle.std.specs.Prelude.{◌≡◌, ◌⊎◌, ℕ, false, List, map, None, Some, Contains, slice_get}
+use Rattle.std.specs.Prelude.{◌≡◌, ◌⊎◌, ℕ, true, false, List, map, None, Some, Contains, slice_get}
 use Rattle.bg_ast.specs.Resolved as r
 use Rattle.bg_ast.specs.Meaning.{meaning_of}
 use Rattle.bg_words.specs.Sets.{has}
@@ -62,6 +62,6 @@ pub record IsCertText (p : r.Program) (o : Outcome) (text : List ℕ) : Type 0 w
   pub written : IsWritten p o cert
   pub is : text ≡ text_of cert
 
--- the outcome is true of the program, for some budget
+-- the outcome is true of the program, for some budget, and each certificate is kept
 abbrev pub IsTrueOf : r.Program → Outcome → Type 0
-IsTrueOf p o = (budget : Budget) × IsTrueOutcome budget p o
+IsTrueOf p o = (budget : Budget) × IsTrueOutcome true budget p o

@@ -3,13 +3,13 @@ ghost use Rattle.std.specs.Prelude.{◌≡◌, Some, None, [], drop, slice_get};
 ghost use Rattle.bg_text.specs.Views.{option_of};
 ghost use Rattle.bg_ast.specs.Views.{candidate_of};
 ghost use Rattle.bg_words.specs.Sets.{has};
-ghost use Rattle.bg_certify.specs.Found.{cert_judged, cert_for, kept_behind, judged_behind};
+ghost use Rattle.bg_certify.specs.Found.{shown_if, cert_judged, cert_for, kept_behind, judged_behind};
 ghost use Rattle.bg_certify.specs.Seen.{seen_as};
 
 use bg_base::CandId;
 use bg_cert::Cert;
-use bg_check::{Judged, Verdict};
-use bg_houdini::{Outcome, Proof, Reason};
+use bg_check::{Judged, Proof, Verdict};
+use bg_houdini::{Outcome, Reason};
 use bg_rounds::Kept;
 use bg_term_table::Line;
 
@@ -20,9 +20,22 @@ pub(crate) struct Found<'o> {
     pub(crate) cert: &'o Cert,
 }
 
+/// The certificate, where it is kept.
+fn found_in<'o>(proof: &'o Option<Proof>) -> Option<Found<'o>>
+    ensures { option_of seen_as result ≡ shown_if proof.now }
+{
+    match proof {
+        Some(proof) => Some(Found {
+            lines: proof.lines.as_slice(),
+            cert: &proof.cert,
+        }),
+        None => None,
+    }
+}
+
 /// The kept certificate of a task, where its candidate is retained.
 fn kept_cert<'o>(
-    inferred: &'o bg_rounds::Outcome<Proof, Reason>,
+    inferred: &'o bg_rounds::Outcome<Option<Proof>, Reason>,
     b: CandId,
     task: usize,
 ) -> Option<Found<'o>>
@@ -32,24 +45,18 @@ fn kept_cert<'o>(
         return None;
     }
     match inferred.kept.get(task) {
-        Some(Some(kept)) => Some(Found {
-            lines: kept.proof.lines.as_slice(),
-            cert: &kept.proof.cert,
-        }),
+        Some(Some(kept)) => found_in(&kept.proof),
         _ => None,
     }
 }
 
-/// The certificate of a verdict, where it says that the place is proved.
+/// The certificate of a verdict, where it says that the place is proved and has it.
 fn proved_cert<'o>(judged: &'o [Judged], ordinary: usize) -> Option<Found<'o>>
     ensures { option_of seen_as result ≡ cert_judged (slice_get (drop ordinary judged.now) 0) }
 {
     match judged.get(ordinary) {
         Some(one) => match &one.verdict {
-            Verdict::Proved(lines, cert) => Some(Found {
-                lines: lines.as_slice(),
-                cert,
-            }),
+            Verdict::Proved(proof) => found_in(proof),
             _ => None,
         },
         None => None,
@@ -75,7 +82,7 @@ pub(crate) fn found_for<'o>(
 
 /// The task behind a place of this candidate, or of none.
 pub(crate) fn next_task(
-    kept: &[Option<Kept<Proof>>],
+    kept: &[Option<Kept<Option<Proof>>>],
     candidate: Option<CandId>,
     task: usize,
 ) -> usize

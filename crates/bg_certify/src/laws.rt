@@ -1,5 +1,5 @@
 //! Laws of certificates, which are proved of the definitions alone.
-ghost use Rattle.std.specs.Prelude.{◌≡◌, ℕ, List, false};
+ghost use Rattle.std.specs.Prelude.{◌≡◌, ℕ, Bool, List, false};
 ghost use Rattle.bg_ast.specs.Resolved.{Program};
 ghost use Rattle.bg_ast.specs.Meaning.{meaning_of};
 ghost use Rattle.bg_tree.specs.declared.outcome.Budget.{Budget};
@@ -22,6 +22,6 @@ pub fn candidates_have_names_of_their_own()
 /// A program accepts the certificate of an outcome that is true of it, where its status is 0: the axioms are consistent, and each
 /// implementation is verified.
 pub fn verified_programs_are_accepted()
-    ensures { (budget : Budget) (p : Program) (o : Outcome) (words : ℕ → Cause → Why) (c : CertOf) → IsTrueOutcome budget p o →
+    ensures { (keeps : Bool) (budget : Budget) (p : Program) (o : Outcome) (words : ℕ → Cause → Why) (c : CertOf) → IsTrueOutcome keeps budget p o →
         status_of (outcome_of words (meaning_of p) o) ≡ 0 → IsWritten p o c → IsAccepted p c }
 {}

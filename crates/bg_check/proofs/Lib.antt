@@ -1,5 +1,6 @@
 pub mod LawTypes
 pub mod Bare
+pub mod Shown
 pub mod Safe
 pub mod Leaves
 pub mod Points

@@ -13,40 +13,32 @@ use Rattle.bg_sense.specs.Clauses.{is_kept}
 use Rattle.bg_sense.proofs.Bools.{and_left, and_right}
 use Rattle.bg_sense.proofs.Members.{In, member}
 use Rattle.bg_places.specs.Placed.{Placed, place_in, placed_impl}
-use Rattle.bg_cert.specs.declared.cert.Cert.{Cert}
 use Rattle.bg_cert.specs.Certs.{cert_of}
 use Rattle.bg_cert.specs.Walks.{no_instance}
 use Rattle.bg_fits.specs.Valued.{is_over_values}
 use Rattle.bg_tree.specs.declared.outcome.Budget.{Budget}
 use Rattle.bg_sound.specs.Told.{is_ordinary}
 use Rattle.bg_check.specs.declared.verdict.Verdict.{Verdict}
-use Rattle.bg_check.specs.declared.verdict.Verdict.TheVariants.{Proved, Refuted, Unknown}
+use Rattle.bg_check.specs.declared.verdict.Verdict.TheVariants.{Proved, Refuted, Unknown, Left}
 use Rattle.bg_check.specs.declared.verdict.Judged.{Judged}
-use Rattle.bg_check.specs.Verdicts.{IsRight, placed_at, AreRightAt, AreRightOf, AreRightFrom, AreRightUnder, is_proved, are_proved, ProvedAreSafe}
-use Rattle.bg_numbered.specs.Lines.{Line}
-use Rattle.bg_term_table.specs.Lines.{lines_of}
-use Rattle.bg_task.specs.Certified.{HasCertificate}
+use Rattle.bg_check.specs.Verdicts.{IsCertified, IsRight, placed_at, AreRightAt, AreRightOf, AreRightFrom, AreRightUnder, is_proved, are_proved, ProvedAreSafe}
+use Rattle.bg_check.proofs.Shown.{certified}
 use Rattle.bg_check.proofs.LawTypes.{SafeLaw, PlaceLaw, InsideLaw}
 use Rattle.bg_task.proofs.LawTypes.{FunctionLaw, BodyLaw, PassiveLaw, FitLaw, DenyLaw, MetLaw, CertLaw, UsedLaw, UnitAtomLaw, NamedUnitLaw}
 use Rattle.bg_task.proofs.Failures.{no_failure}
 use Rattle.bg_task.proofs.Numbered.{has}
 
--- a certificate of a place
-pub record Proof (p : Prog) (set : ℕ → Bool) (t : Place) : Type 0 where
-  pub lines : List Line
-  pub cert : Cert
-  pub certificate : HasCertificate p set t lines cert
-
-proof_of : (budget : Budget) (p : Prog) (set : ℕ → Bool) (t : Place) (v : Verdict) → IsRight budget p set t v → is_proved v ≡ true → Proof p set t
-proof_of budget p set t (Proved es cert) h e =
-    record { lines = lines_of es.items; cert = cert; certificate = h }
+-- a place that is proved has a certificate
+proof_of : (budget : Budget) (p : Prog) (set : ℕ → Bool) (t : Place) (v : Verdict) → IsRight budget p set t v → is_proved v ≡ true → IsCertified p set t
+proof_of budget p set t (Proved proof) h e = certified p set t proof h
 proof_of budget p set t (Refuted cex) h e = absurd (let bad : ⊥ = cc in bad)
 proof_of budget p set t (Unknown rounds cause) h e = absurd (let bad : ⊥ = cc in bad)
+proof_of budget p set t (Left kept) h e = absurd (let bad : ⊥ = cc in bad)
 
-judged_place : (budget : Budget) (p : Prog) (set : ℕ → Bool) (js : List Judged) (t : Place) → AreRightAt budget p set js → are_proved js ≡ true → In (map place_in (map placed_at js)) t → Proof p set t
+judged_place : (budget : Budget) (p : Prog) (set : ℕ → Bool) (js : List Judged) (t : Place) → AreRightAt budget p set js → are_proved js ≡ true → In (map place_in (map placed_at js)) t → IsCertified p set t
 judged_place budget p set [] t h e i = absurd i
 judged_place budget p set (j ∷ js) t h e (inl s) =
-    subst (Proof p set) s (proof_of budget p set (placed_at j).place j.verdict h.0 (and_left (is_proved j.verdict) (are_proved js) e))
+    subst (IsCertified p set) s (proof_of budget p set (placed_at j).place j.verdict h.0 (and_left (is_proved j.verdict) (are_proved js) e))
 judged_place budget p set (j ∷ js) t h e (inr i) =
     judged_place budget p set js t h.1 (and_right (is_proved j.verdict) (are_proved js) e) i
 

@@ -15,13 +15,13 @@ use Rattle.bg_sound.specs.Told as t
 use Rattle.bg_sound.specs.Sound.{IsTrueAt, AreTrueAt, AreTrueFrom}
 use Rattle.bg_check.specs.declared.verdict.Cause.{Cause}
 use Rattle.bg_check.specs.declared.verdict.Verdict.{Verdict}
-use Rattle.bg_check.specs.declared.verdict.Verdict.TheVariants.{Proved, Refuted, Unknown}
+use Rattle.bg_check.specs.declared.verdict.Verdict.TheVariants.{Proved, Refuted, Unknown, Left}
 use Rattle.bg_check.specs.declared.verdict.Judged.{Judged}
 use Rattle.bg_check.specs.Verdicts.{IsRight, placed_at, AreRightAt, AreRightFrom, is_proved, are_proved, ProvedAreSafe}
 use Rattle.bg_numbered.specs.Lines.{Line}
-use Rattle.bg_term_table.specs.Lines.{lines_of}
 use Rattle.bg_task.specs.Certified.{HasCertificate}
 use Rattle.bg_check.specs.Outcomes.{verdict_of, told_one, is_ordinary, told}
+use Rattle.bg_check.proofs.Shown.{certified}
 
 -- what certificates give
 abbrev pub NoFailures : Prog → (ℕ → Bool) → Type 0
@@ -49,18 +49,21 @@ same_filtered (j ∷ js) h =
 
 module _ (p : Prog) (set : ℕ → Bool) (budget : Budget) (words : ℕ → Cause → t.Why) (none_fail : NoFailures p set) where
   true_at : (u : Place) (v : Verdict) → IsRight budget p set u v → IsTrueAt p set u (verdict_of words v)
-  true_at u (Proved es cert) h = none_fail u (lines_of es.items) cert h
+  true_at u (Proved proof) h =
+      let x = certified p set u proof h in none_fail u x.lines x.cert x.certificate
   true_at u (Refuted cex) h = (h.0, h.1.1)
   true_at u (Unknown rounds cause) h = tt
+  true_at u (Left kept) h = tt
 
   all_true : (js : List Judged) → AreRightAt budget p set js → AreTrueAt p set (map (told_one words) js)
   all_true [] h = tt
   all_true (j ∷ js) h = (true_at (placed_at j).place j.verdict h.0, all_true js h.1)
 
 proved_one : (words : ℕ → Cause → t.Why) (v : Verdict) → t.is_refuted (verdict_of words v) ≡ false → t.is_unknown (verdict_of words v) ≡ false → is_proved v ≡ true
-proved_one words (Proved es cert) a b = refl
+proved_one words (Proved proof) a b = refl
 proved_one words (Refuted cex) a b = absurd (let bad : true ≡ false = a in cc)
 proved_one words (Unknown rounds cause) a b = absurd (let bad : true ≡ false = b in cc)
+proved_one words (Left kept) a b = absurd (let bad : true ≡ false = b in cc)
 
 or_none : (a b : Bool) → (a || b) ≡ false → (a ≡ false) × (b ≡ false)
 or_none true b h = absurd (let bad : true ≡ false = h in cc)

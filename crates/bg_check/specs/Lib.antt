@@ -2,6 +2,7 @@ pub mod Leaves
 pub mod LeafRuns
 pub mod Rounds
 pub mod Replays
+pub mod Kept
 pub mod Verdicts
 pub mod Found
 pub mod Stands

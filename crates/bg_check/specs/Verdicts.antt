@@ -1,5 +1,5 @@
 -- What is known of each place of a program, and when it is right.
-use Rattle.std.specs.Prelude.{◌≡◌, ℕ, suc, ◌-◌, ◌≤◌, Bool, true, false, ◌&&◌, List, [], ◌∷◌, length, map, filter, Vec}
+use Rattle.std.specs.Prelude.{◌≡◌, ℕ, suc, ◌-◌, ◌≤◌, Bool, true, false, ◌&&◌, List, [], ◌∷◌, Option, Some, None, is_some, length, map, filter, Vec}
 use Rattle.std.specs.declared.alloc.Global.{Global}
 use Rattle.bg_base.specs.declared.exact.OutOfRange.{OutOfRange}
 use Rattle.bg_ast.specs.Syntax.{Prog}
@@ -8,6 +8,7 @@ use Rattle.bg_ast.specs.Meaning.{meaning_of}
 use Rattle.bg_ast.specs.Execution.{Place}
 use Rattle.bg_sense.specs.Claims.{Safe, Fails}
 use Rattle.bg_sense.specs.Flow.{Failed}
+use Rattle.bg_cert.specs.declared.cert.Cert.{Cert}
 use Rattle.bg_formula.specs.Formulas.{Formula}
 use Rattle.bg_tree.specs.declared.outcome.Budget.{Budget}
 use Rattle.bg_tree.specs.declared.outcome.Leaf.{Leaf}
@@ -33,11 +34,14 @@ use Rattle.bg_task.specs.Cuts.{HasOwnClauses}
 use Rattle.bg_task.specs.Certified.{HasCertificate, HasOutside}
 use Rattle.bg_check.specs.LeafRuns.{targets_for, numbers_in, HasLeaf}
 use Rattle.bg_check.specs.Rounds.{brought, AreRounds}
+use Rattle.bg_check.specs.declared.proof.Proof.{Proof}
+use Rattle.bg_check.specs.declared.kept.Kept.{Kept}
+use Rattle.bg_check.specs.Kept.{why_of, told_kept}
 use Rattle.bg_check.specs.declared.verdict.Round.{Round}
 use Rattle.bg_check.specs.declared.verdict.Cause.{Cause}
 use Rattle.bg_check.specs.declared.verdict.Cause.TheVariants.{Search, Rounds, Form, Argument, Replay}
 use Rattle.bg_check.specs.declared.verdict.Verdict.{Verdict}
-use Rattle.bg_check.specs.declared.verdict.Verdict.TheVariants.{Proved, Refuted, Unknown}
+use Rattle.bg_check.specs.declared.verdict.Verdict.TheVariants.{Proved, Refuted, Unknown, Left}
 use Rattle.bg_check.specs.declared.verdict.Judged.{Judged}
 use Rattle.bg_check.specs.Replays.{RunsTo}
 
@@ -87,12 +91,47 @@ abbrev pub IsRefuted : Prog → (ℕ → Bool) → Place → Counterexample → 
 IsRefuted p set t cex =
     IsFailure p set t cex × (RunsTo p set t cex (Stops (Failed t.spot)) × (IsUsed p set t cex × HasTypes cex))
 
+-- some certificate of the place's clauses behind lines
+pub record IsCertified (p : Prog) (set : ℕ → Bool) (t : Place) : Type 0 where
+  pub lines : List Line
+  pub cert : Cert
+  pub certificate : HasCertificate p set t lines cert
+
+-- the kept certificate is one of the place's clauses behind its lines; where none is kept there is one
+abbrev pub IsShown : Prog → (ℕ → Bool) → Place → Option Proof → Type 0
+IsShown p set t (Some proof) = HasCertificate p set t (lines_of proof.lines.items) proof.cert
+IsShown p set t None = IsCertified p set t
+
+-- these are rounds, no more than the budget has nodes, and this is why the place is left unknown behind them
+abbrev pub IsBehind : Budget → Prog → (ℕ → Bool) → Place → List Round → Cause → Type 0
+IsBehind budget p set t rounds cause =
+    (length rounds ≤ budget.nodes) × (AreRounds p set t [] rounds × IsUnknown (left_after rounds budget) p set t (brought rounds) cause)
+
+-- behind some rounds the place is left unknown for some cause, of which this is told
+pub record IsLeft (budget : Budget) (p : Prog) (set : ℕ → Bool) (t : Place) (kept : Kept) : Type 0 where
+  pub rounds : List Round
+  pub cause : Cause
+  pub right : IsBehind budget p set t rounds cause
+  pub told : why_of (length rounds) cause ≡ told_kept kept
+
 -- a verdict on a place, under a set of candidates
 abbrev pub IsRight : Budget → Prog → (ℕ → Bool) → Place → Verdict → Type 0
-IsRight budget p set t (Proved lines cert) = HasCertificate p set t (lines_of lines.items) cert
+IsRight budget p set t (Proved proof) = IsShown p set t proof
 IsRight budget p set t (Refuted cex) = IsRefuted p set t cex
-IsRight budget p set t (Unknown rounds cause) =
-    (length rounds.items ≤ budget.nodes) × (AreRounds p set t [] rounds.items × IsUnknown (left_after rounds.items budget) p set t (brought rounds.items) cause)
+IsRight budget p set t (Unknown rounds cause) = IsBehind budget p set t rounds.items cause
+IsRight budget p set t (Left kept) = IsLeft budget p set t kept
+
+-- the verdict has its certificate or its cause
+abbrev pub has_all : Verdict → Bool
+has_all (Proved proof) = is_some proof
+has_all (Refuted cex) = true
+has_all (Unknown rounds cause) = true
+has_all (Left kept) = false
+
+-- each of these verdicts has its certificate or its cause
+abbrev pub have_all : List Judged → Bool
+have_all [] = true
+have_all (j ∷ js) = has_all j.verdict && have_all js
 
 abbrev pub placed_at : Judged → Placed
 placed_at j = placed_of j.place
@@ -119,9 +158,10 @@ abbrev pub AreRightUnder : (ℕ → Bool) → Budget → r.Program → List (Lis
 AreRightUnder set budget p outcome = AreRightFrom budget p set 0 p.implementations outcome
 
 abbrev pub is_proved : Verdict → Bool
-is_proved (Proved lines cert) = true
+is_proved (Proved proof) = true
 is_proved (Refuted cex) = false
 is_proved (Unknown rounds cause) = false
+is_proved (Left kept) = false
 
 abbrev pub are_proved : List Judged → Bool
 are_proved [] = true

@@ -11,13 +11,14 @@ ghost use Rattle.bg_task.specs.Lines.{AreThere};
 ghost use Rattle.bg_task.specs.Lined.{IsLined};
 ghost use Rattle.bg_task.specs.Asked.{IsAsked};
 ghost use Rattle.bg_task.specs.Prepared.{IsPrepared};
-ghost use Rattle.bg_check.specs.Verdicts.{IsRight};
+ghost use Rattle.bg_check.specs.Verdicts.{IsRight, has_all};
 
 use crate::easy::easy_numbers;
 use crate::found::Found;
 use crate::heeded::heed;
 use crate::leaf::scalars_of;
 use crate::place::search_place;
+use crate::proof::Proof;
 use crate::spoken::{claim_behind, hints_of, speaks_of_terms};
 use crate::verdict::Verdict;
 use bg_finish::{Finish, finish};
@@ -232,12 +233,13 @@ pub fn first_try(
     requires prepared { IsPrepared (program_of question.program.now) question.place.now.implementation question.prepared.now }
     requires asked { IsAsked (meaning_of (program_of question.program.now)) (has question.set.now) (placed_of question.place.now).place }
     requires there { AreThere (program_of question.program.now) question.place.now.implementation question.prepared.now (lines_of lines.items) }
-    ensures { IfOk result (λ o. IfSome o (λ verdict. IsRight budget (meaning_of (program_of question.entry.program.now)) (has question.entry.set.now) (placed_of question.entry.place.now).place verdict)) }
+    ensures whole { IfOk result (λ o. IfSome o (λ verdict. has_all verdict ≡ true)) }
+    ensures right { IfOk result (λ o. IfSome o (λ verdict. IsRight budget (meaning_of (program_of question.entry.program.now)) (has question.entry.set.now) (placed_of question.entry.place.now).place verdict)) }
 {
     let mut lines = lines;
     for _ in 0..MOST_SEARCHES {
         match search_place(alloc, question, budget, &lines)? {
-            Found::Proved(cert) => return Ok(Some(Verdict::Proved(lines, cert))),
+            Found::Proved(cert) => return Ok(Some(Verdict::Proved(Some(Proof { lines, cert })))),
             Found::Refuted(cex) => return Ok(Some(Verdict::Refuted(cex))),
             Found::Unknown(_) => return Ok(None),
             Found::Wanted(round) => push_all(&mut lines, &round.lines)?,

@@ -4,9 +4,11 @@
 #![tactic(auto)]
 
 mod attempt;
+mod brief;
 mod claimed;
 mod dropping;
 mod easy;
+mod effort;
 mod failing;
 mod first;
 mod fitting;
@@ -14,10 +16,12 @@ mod found;
 mod front;
 mod heeded;
 mod implementation;
+mod kept;
 pub mod laws;
 mod leaf;
 mod ordinary;
 mod place;
+mod proof;
 mod relevant;
 mod replayed;
 mod rounds;
@@ -25,8 +29,11 @@ mod spoken;
 mod tries;
 mod verdict;
 
+pub use effort::Effort;
 pub use implementation::{judge_ordinary, judge_places};
+pub use kept::{Kept, kept_of};
 pub use ordinary::ordinary_places;
+pub use proof::Proof;
 pub use rounds::check_place;
 pub use tries::{Tries, no_tries, some_tries};
 pub use verdict::{Cause, Judged, Round, Verdict};

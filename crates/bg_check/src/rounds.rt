@@ -11,12 +11,13 @@ ghost use Rattle.bg_task.specs.Lines.{AreThere};
 ghost use Rattle.bg_task.specs.Asked.{IsAsked};
 ghost use Rattle.bg_task.specs.Prepared.{IsPrepared};
 ghost use Rattle.bg_check.specs.Rounds.{IsRound};
-ghost use Rattle.bg_check.specs.Verdicts.{IsRight};
+ghost use Rattle.bg_check.specs.Verdicts.{IsRight, has_all};
 ghost use Rattle.bg_check.specs.Stands.{IsMore};
 
 use crate::first::{claim_speaks, first_try, lines_first, push_all};
 use crate::found::Found;
 use crate::place::search_place;
+use crate::proof::Proof;
 use crate::tries::{Tries, after, no_tries};
 use crate::verdict::{Cause, Round, Verdict};
 use bg_task::Question;
@@ -57,7 +58,8 @@ fn tried(
     requires prepared { IsPrepared (program_of question.program.now) question.place.now.implementation question.prepared.now }
     requires asked { IsAsked (meaning_of (program_of question.program.now)) (has question.set.now) (placed_of question.place.now).place }
     requires there { AreThere (program_of question.program.now) question.place.now.implementation question.prepared.now (lines_of lines.items) }
-    ensures { IfOk result (λ o. IfSome o (λ verdict. IsRight budget (meaning_of (program_of question.entry.program.now)) (has question.entry.set.now) (placed_of question.entry.place.now).place verdict)) }
+    ensures whole { IfOk result (λ o. IfSome o (λ verdict. has_all verdict ≡ true)) }
+    ensures right { IfOk result (λ o. IfSome o (λ verdict. IsRight budget (meaning_of (program_of question.entry.program.now)) (has question.entry.set.now) (placed_of question.entry.place.now).place verdict)) }
 {
     let count = lines.len();
     let lines = lines_first(alloc, question, lines)?;
@@ -82,7 +84,8 @@ fn tried_behind(
     requires prepared { IsPrepared (program_of question.program.now) question.place.now.implementation question.prepared.now }
     requires asked { IsAsked (meaning_of (program_of question.program.now)) (has question.set.now) (placed_of question.place.now).place }
     requires round { IsRound (meaning_of (program_of question.program.now)) (has question.set.now) (placed_of question.place.now).place [] round.now }
-    ensures { IfOk result (λ o. IfSome o (λ verdict. IsRight budget (meaning_of (program_of question.entry.program.now)) (has question.entry.set.now) (placed_of question.entry.place.now).place verdict)) }
+    ensures whole { IfOk result (λ o. IfSome o (λ verdict. has_all verdict ≡ true)) }
+    ensures right { IfOk result (λ o. IfSome o (λ verdict. IsRight budget (meaning_of (program_of question.entry.program.now)) (has question.entry.set.now) (placed_of question.entry.place.now).place verdict)) }
 {
     let mut lines = Vec::new(alloc);
     push_all(&mut lines, &round.lines)?;
@@ -102,7 +105,8 @@ fn in_rounds(
     requires scalars { is_over_values (meaning_of (program_of question.program.now)) ≡ true }
     requires prepared { IsPrepared (program_of question.program.now) question.place.now.implementation question.prepared.now }
     requires asked { IsAsked (meaning_of (program_of question.program.now)) (has question.set.now) (placed_of question.place.now).place }
-    ensures { IfOk result (λ verdict. IsRight budget (meaning_of (program_of question.entry.program.now)) (has question.entry.set.now) (placed_of question.entry.place.now).place verdict) }
+    ensures whole { IfOk result (λ verdict. has_all verdict ≡ true) }
+    ensures right { IfOk result (λ verdict. IsRight budget (meaning_of (program_of question.entry.program.now)) (has question.entry.set.now) (placed_of question.entry.place.now).place verdict) }
 {
     let mut stand = Stand {
         rounds: Vec::new(alloc),
@@ -115,7 +119,10 @@ fn in_rounds(
             rows: budget.rows,
         };
         match search_place(alloc, question, left, &stand.lines)? {
-            Found::Proved(cert) => return Ok(Verdict::Proved(stand.lines, cert)),
+            Found::Proved(cert) => {
+                let lines = stand.lines;
+                return Ok(Verdict::Proved(Some(Proof { lines, cert })));
+            }
             Found::Refuted(cex) => return Ok(Verdict::Refuted(cex)),
             Found::Unknown(cause) => return Ok(Verdict::Unknown(stand.rounds, cause)),
             Found::Wanted(round) => {
@@ -135,7 +142,7 @@ fn in_rounds(
 
 /// What is known of a place of a typed program over values, under a set of candidates that has the place's own, if it has one. Where first
 /// tries are worth while one is made, behind lines that may be wanted: at once, where the place's claim speaks of terms, or else where its
-/// first search wants lines. Where it tells nothing the place has its rounds.
+/// first search wants lines. Where it tells nothing the place has its rounds. The verdict has its certificate or its cause.
 ///
 /// Only want of memory is an error; 2^32 atoms count as such.
 pub fn check_place(
@@ -148,7 +155,8 @@ pub fn check_place(
     requires scalars { is_over_values (meaning_of (program_of question.program.now)) ≡ true }
     requires prepared { IsPrepared (program_of question.program.now) question.place.now.implementation question.prepared.now }
     requires asked { IsAsked (meaning_of (program_of question.program.now)) (has question.set.now) (placed_of question.place.now).place }
-    ensures { IfOk result (λ verdict. IsRight budget (meaning_of (program_of question.entry.program.now)) (has question.entry.set.now) (placed_of question.entry.place.now).place verdict) }
+    ensures whole { IfOk result (λ verdict. has_all verdict ≡ true) }
+    ensures right { IfOk result (λ verdict. IsRight budget (meaning_of (program_of question.entry.program.now)) (has question.entry.set.now) (placed_of question.entry.place.now).place verdict) }
 {
     if tries.left > 0 && claim_speaks(alloc, question)? {
         if let Some(verdict) = tried(alloc, question, budget, Vec::new(alloc), tries)? {

@@ -1,6 +1,7 @@
 //! Verdicts.
+use crate::kept::Kept;
+use crate::proof::Proof;
 use bg_base::OutOfRange;
-use bg_cert::Cert;
 use bg_model::Counterexample;
 use bg_places::Place;
 use bg_term_table::Line;
@@ -29,13 +30,17 @@ pub enum Cause {
     Replay(Counterexample, OutOfRange),
 }
 
-/// What is known of a place: a certificate, behind lines, that its check never fails; a counterexample, with which the induction run
-/// fails there, each operation on its way within 128 bits; or why neither was found, after rounds of lines.
+/// What is known of a place.
 #[derive(Drop)]
 pub enum Verdict {
-    Proved(Vec<Line>, Cert),
+    /// There is a certificate, behind lines, that the place's check never fails: this one, or one that wasn't kept.
+    Proved(Option<Proof>),
+    /// The induction run of this counterexample fails there, each operation on its way within 128 bits.
     Refuted(Counterexample),
+    /// Neither was found, after these rounds of lines, for this cause.
     Unknown(Vec<Round>, Cause),
+    /// Neither was found; this is told of the cause, which wasn't kept.
+    Left(Kept),
 }
 
 /// A place, and what is known of it.

@@ -1,5 +1,5 @@
 -- What a checker owes of a program's tasks.
-use Rattle.std.proofs.Common.{◌≡◌, ℕ, ◌<◌, Bool, true, false, List, length, map, Some, sym, ap, ◌∙◌, subst}
+use Rattle.std.proofs.Common.{◌≡◌, ℕ, ◌<◌, Bool, true, false, List, length, map, Option, Some, sym, ap, ◌∙◌, subst}
 use Rattle.std.specs.Prelude.{slice_get}
 use Rattle.bg_ast.specs.Syntax.{Prog}
 use Rattle.bg_ast.specs.Execution.{Interp, State, Choice, Place}
@@ -16,16 +16,16 @@ use Rattle.bg_cert.specs.Walks.{no_instance}
 use Rattle.bg_cert.proofs.Uses.{certificate_lies_in}
 use Rattle.bg_tree.specs.declared.outcome.Budget.{Budget}
 use Rattle.bg_numbered.specs.Lines.{Line}
-use Rattle.bg_term_table.specs.Lines.{lines_of}
 use Rattle.bg_model.specs.Interps.{interp_of}
 use Rattle.bg_scalar.specs.Choices.{choice_of, state_of}
 use Rattle.bg_scalar.specs.Views.{vals_in}
 use Rattle.bg_task.specs.Certified.{HasCertificate}
-use Rattle.bg_houdini.specs.declared.proof.Proof.{Proof}
+use Rattle.bg_check.specs.declared.proof.Proof.{Proof}
+use Rattle.bg_check.proofs.Shown.{certified}
 use Rattle.bg_houdini.specs.declared.reason.Reason.{Reason}
-use Rattle.bg_houdini.specs.declared.reason.Reason.TheVariants.{Refuted, Unknown}
+use Rattle.bg_houdini.specs.declared.reason.Reason.TheVariants.{Refuted, Unknown, Left}
 use Rattle.bg_houdini.specs.Tasks.{tasks_of, candidate_of}
-use Rattle.bg_houdini.specs.Checks.{FailsAt, TaskFails, TaskPasses, TaskFinds}
+use Rattle.bg_houdini.specs.Checks.{FailsAt, TaskFails, IsTaskShown, TaskFinds}
 use Rattle.bg_houdini.specs.Checkers.{Owes}
 use Rattle.bg_houdini.proofs.Declared.{IsBelow, declared}
 use Rattle.bg_houdini.proofs.Tasks.{get_there, task_place, task_candidate}
@@ -59,11 +59,12 @@ task_shrinks p h k set sub within here f =
 pub same_task : (p : Prog) (k : ℕ) (t u : Place) → slice_get (tasks_of p) k ≡ Some t → slice_get (tasks_of p) k ≡ Some u → t ≡ u
 same_task p k t u e h = let s : Some t ≡ Some u = sym e ∙ h in cc
 
-pub task_passing : (p : Prog) → CertificatesHold p → (k : ℕ) (used set : Candidates) (proof : Proof) → TaskPasses p k used proof → Subset used set → TaskFails p k set → ⊥
+pub task_passing : (p : Prog) → CertificatesHold p → (k : ℕ) (used set : Candidates) (proof : Option Proof) → IsTaskShown p k used proof → Subset used set → TaskFails p k set → ⊥
 task_passing p hold k used set proof h within f =
     let same : f.task ≡ h.task = same_task p k f.task h.task f.is_there h.is_there in
     let run = subst (FailsAt p set) same f.so in
-    hold used set h.task (lines_of proof.lines.items) proof.cert h.so (λ c u. within c (certificate_lies_in h.so.formula used no_instance (cert_of proof.cert) h.so.accepted c u)) run.interp run.state run.choices run.run
+    let x = certified p used h.task proof h.so in
+    hold used set h.task x.lines x.cert x.certificate (λ c u. within c (certificate_lies_in x.certificate.formula used no_instance (cert_of x.cert) x.certificate.accepted c u)) run.interp run.state run.choices run.run
 
 pub task_failing : (budget : Budget) (p : Prog) (k : ℕ) (set : Candidates) (reason : Reason) → TaskFinds budget p k set false reason → TaskFails p k set
 task_failing budget p k set (Refuted cex) h =
@@ -78,6 +79,7 @@ task_failing budget p k set (Refuted cex) h =
       };
     }
 task_failing budget p k set (Unknown rounds cause) h = absurd h.so
+task_failing budget p k set (Left kept) h = absurd h.so
 
 pub owed : (budget : Budget) (p : Prog) → IsResolved p → CertificatesHold p → Owes budget p
 owed budget p resolved hold = record {

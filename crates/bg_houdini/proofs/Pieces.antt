@@ -1,16 +1,18 @@
 -- Verdicts that were made in pieces are those of the whole.
-use Rattle.std.proofs.Common.{◌≡◌, ℕ, suc, ◌+◌, ◌*◌, ◌-◌, ◌<◌, ◌≤◌, min, Bool, List, [], ◌∷◌, ◌++◌, length, take, drop, get_or, Some, Vec, Ok, Err, IfOk, refl, sym, ap, ◌∙◌, subst, arith}
+use Rattle.std.proofs.Common.{◌≡◌, ℕ, suc, ◌+◌, ◌*◌, ◌-◌, ◌<◌, ◌≤◌, min, Bool, true, ◌&&◌, List, [], ◌∷◌, ◌++◌, length, take, drop, get_or, Some, Vec, Ok, Err, IfOk, refl, sym, ap, ◌∙◌, subst, arith}
 use Rattle.std.specs.Prelude.{slice_get}
+use Rattle.std.specs.List.{list_all}
 use Rattle.std.specs.declared.alloc.Global.{Global}
 use Rattle.std.specs.Fork.{IsChunk}
 use Rattle.std.proofs.Math.Seq.{take-suc}
 use Rattle.std.proofs.lemmas.List.{map-append, append_assoc, append-nil, length-drop, length-take-le, take_min, take-append-drop, drop-drop, get_or-drop}
 use Rattle.std.proofs.lemmas.Option.{slice_get_read, get_or_from_slice_get}
 use Rattle.bg_ast.specs.Resolved as r
+use Rattle.bg_sense.proofs.Bools.{and_left, and_right}
 use Rattle.bg_tree.specs.declared.outcome.Budget.{Budget}
 use Rattle.bg_check.specs.declared.verdict.Judged.{Judged}
 use Rattle.bg_task.specs.declared.prepared.Prepared.{Prepared}
-use Rattle.bg_check.specs.Verdicts.{AreRightOf, AreRightFrom, judged}
+use Rattle.bg_check.specs.Verdicts.{AreRightOf, AreRightFrom, has_all, have_all, judged}
 use Rattle.bg_check.proofs.Judging.{from_more}
 use Rattle.bg_houdini.specs.Checkers.{ArePrepared, ArePreparedFrom}
 use Rattle.bg_houdini.specs.Pieces.{Piece, IsWith, Joins}
@@ -111,6 +113,34 @@ module _ (budget : Budget) (p : r.Program) (set : ℕ → Bool) where
           (subst (λ (q : ℕ). Right q (take size (drop (size + n * size) ms)) (judged v.items)) e
           (subst (λ (q : ℕ). Right (k + q) (take size (drop q ms)) (judged v.items)) (one_time n size) h)))
           g
+
+-- what is so of each piece, and of what stands behind one another, is so of all that is joined
+pub all_joined : {A : Type 0} (P : List A → Type 0) → P [] → ((xs ys : List A) → P xs → P ys → P (xs ++ ys)) → (rs : List (Piece A)) (ys : List A)
+    → ((n : ℕ) (d : Piece A) → n < length rs → IfOk (get_or rs n d) (λ v. P v.items)) → Joins rs ys → P ys
+all_joined P none both [] ys each h = subst P (sym h) none
+all_joined P none both (Err e ∷ rs) ys each h = absurd h
+all_joined P none both (Ok v ∷ rs) ys each h =
+    subst P (sym h.1) (both v.items h.0 (each 0 (Ok v) (omega arith)) (all_joined P none both rs h.0 (λ n d l. each (suc n) d (omega (arith, l))) h.2))
+
+-- verdicts that have their certificates or causes, and those behind them
+pub both_whole : (js is : List Judged) → have_all js ≡ true → have_all is ≡ true → have_all (js ++ is) ≡ true
+both_whole [] is h g = g
+both_whole (j ∷ js) is h g =
+    ap (λ (b : Bool). b && have_all (js ++ is)) (and_left (has_all j.verdict) (have_all js) h)
+    ∙ both_whole js is (and_right (has_all j.verdict) (have_all js) h) g
+
+rows_whole : (os us : List (List Judged)) → list_all have_all os ≡ true → list_all have_all us ≡ true → list_all have_all (os ++ us) ≡ true
+rows_whole [] us h g = g
+rows_whole (js ∷ os) us h g =
+    ap (λ (b : Bool). b && list_all have_all (os ++ us)) (and_left (have_all js) (list_all have_all os) h)
+    ∙ rows_whole os us (and_right (have_all js) (list_all have_all os) h) g
+
+pub row_more : (os : List (List Judged)) (js : List Judged) → list_all have_all os ≡ true → have_all js ≡ true → list_all have_all (os ++ (js ∷ [])) ≡ true
+row_more os js h g = rows_whole os (js ∷ []) h (ap (λ (b : Bool). b && true) g)
+
+pub both_judged : (vs ws : Verdicts) → list_all have_all (judged vs) ≡ true → list_all have_all (judged ws) ≡ true → list_all have_all (judged (vs ++ ws)) ≡ true
+both_judged vs ws h g =
+    ap (list_all have_all) (map-append (λ (w : Vec Judged Global). w.items) vs ws) ∙ rows_whole (judged vs) (judged ws) h g
 
 -- as many implementations as a piece has
 pub chunk_take : {A B : Type 0} (xs : List A) (ms : List B) (size first n : ℕ) → length xs ≡ length ms → n ≡ min size (length xs - first) → take n (drop first ms) ≡ take size (drop first ms)

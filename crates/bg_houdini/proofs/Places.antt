@@ -1,20 +1,21 @@
 -- What is known of places that were checked in pieces is known of all.
-use Rattle.std.proofs.Common.{◌≡◌, ℕ, zero, suc, ◌+◌, ◌*◌, ◌<◌, ◌≤◌, Bool, List, [], ◌∷◌, ◌++◌, length, map, take, drop, get_or, Ok, Err, IfOk, refl, sym, ap, ◌∙◌, subst, arith}
+use Rattle.std.proofs.Common.{◌≡◌, ℕ, zero, suc, ◌+◌, ◌*◌, ◌<◌, ◌≤◌, Bool, true, List, [], ◌∷◌, ◌++◌, length, map, take, drop, get_or, Ok, Err, IfOk, refl, sym, ap, ◌∙◌, subst, arith}
 use Rattle.std.specs.Fork.{IsChunk}
 use Rattle.std.proofs.lemmas.List.{map-append, length-drop, take-append-drop, drop-drop}
 use Rattle.bg_ast.specs.Syntax.{Prog}
 use Rattle.bg_ast.specs.Resolved as r
 use Rattle.bg_places.specs.declared.place.Place.{Place}
 use Rattle.bg_places.specs.Views.{placed_of, placed_in}
-use Rattle.bg_tree.specs.declared.outcome.Budget.{Budget}
+use Rattle.bg_check.specs.declared.effort.Effort.{Effort}
 use Rattle.bg_task.specs.declared.prepared.Prepared.{Prepared}
 use Rattle.bg_task.specs.Prepared.{ArePrepared}
 use Rattle.bg_task.specs.Asked.{AreAsked}
 use Rattle.bg_check.specs.declared.verdict.Judged.{Judged}
-use Rattle.bg_check.specs.Verdicts.{placed_at, AreRightAt}
+use Rattle.bg_check.specs.Verdicts.{placed_at, AreRightAt, have_all}
 use Rattle.bg_houdini.specs.Known.{AreRightOn}
 use Rattle.bg_houdini.specs.Pieces.{Piece, Joins}
 use Rattle.bg_houdini.proofs.Once.{if_ok}
+use Rattle.bg_houdini.proofs.Pieces.{both_whole}
 
 -- some of the places of an implementation that is prepared
 module _ (p : r.Program) (w : Prepared) where
@@ -52,19 +53,21 @@ module _ (p : Prog) (set : ℕ → Bool) where
   pub asked_chunk : (ps : List Place) (size first : ℕ) (piece : List Place) → Asked ps → IsChunk ps size first piece → Asked piece
   asked_chunk ps size first piece h chunk = subst Asked (sym chunk.value) (asked_take size (drop first ps) (asked_drop first ps h))
 
-module _ (budget : Budget) (p : Prog) (set : ℕ → Bool) where
+module _ (effort : Effort) (p : Prog) (set : ℕ → Bool) where
   abbrev Right : List Place → List Judged → Type 0
-  Right = AreRightOn budget p set
+  Right = AreRightOn effort p set
 
-  -- both parts of what a piece has
-  pub right_on : (ps : List Place) (a : Piece Judged) → IfOk a (λ v. map placed_at v.items ≡ placed_in ps) → IfOk a (λ v. AreRightAt budget p set v.items) → IfOk a (λ v. Right ps v.items)
-  right_on ps (Ok v) h g = record {
+  -- all parts of what a piece has
+  pub right_on : (ps : List Place) (a : Piece Judged) → IfOk a (λ v. map placed_at v.items ≡ placed_in ps) → IfOk a (λ v. AreRightAt effort.budget p set v.items) → IfOk a (λ v. effort.keeps ≡ true → have_all v.items ≡ true)
+      → IfOk a (λ v. Right ps v.items)
+  right_on ps (Ok v) h g w = record {
     places = h;
     right = g;
+    whole = w;
   }
-  right_on ps (Err e) h g = h
+  right_on ps (Err e) h g w = h
 
-  both_right : (js is : List Judged) → AreRightAt budget p set js → AreRightAt budget p set is → AreRightAt budget p set (js ++ is)
+  both_right : (js is : List Judged) → AreRightAt effort.budget p set js → AreRightAt effort.budget p set is → AreRightAt effort.budget p set (js ++ is)
   both_right [] is h g = g
   both_right (j ∷ js) is h g = (h.0, both_right js is h.1 g)
 
@@ -75,12 +78,14 @@ module _ (budget : Budget) (p : Prog) (set : ℕ → Bool) where
         map-append placed_at js is
         ∙ (ap (λ xs. xs ++ map placed_at is) h.places ∙ (ap (λ xs. placed_in ps ++ xs) g.places ∙ sym (map-append placed_of ps qs)));
     right = both_right js is h.right g.right;
+    whole = λ keeps. both_whole js is (h.whole keeps) (g.whole keeps);
   }
 
   none_left : (ps : List Place) → length ps ≤ 0 → Right ps []
   none_left [] l = record {
     places = refl;
     right = tt;
+    whole = λ keeps. refl;
   }
   none_left (x ∷ ps) l = absurd (omega (arith, l))
 

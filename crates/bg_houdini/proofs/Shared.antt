@@ -46,7 +46,6 @@ use Rattle.bg_kinds.proofs.kinds.Base.TheSendSync as base
 use Rattle.bg_kinds.specs.contracts.kinds.Keys as keys
 use Rattle.bg_kinds.specs.contracts.kinds.ValueType as kind
 use Rattle.bg_linear.proofs.scalar.Sort.TheSendSync as sort
-use Rattle.bg_tree.proofs.outcome.Budget.TheSendSync as budget
 use Rattle.bg_forms.proofs.form.Form.TheLaws.TheKnot as knot_form
 use Rattle.bg_blocks.proofs.block.Kept.TheSendSync as kept
 use Rattle.bg_blocks.specs.contracts.block.Cmd as cmd
@@ -67,6 +66,9 @@ use Rattle.bg_cert.specs.contracts.cert.Cert as cert
 use Rattle.bg_tree.specs.contracts.outcome.Leaf as leaf
 use Rattle.bg_tree.specs.contracts.outcome.Why as why
 use Rattle.bg_model.specs.contracts.failure.Counterexample as counterexample
+use Rattle.bg_check.proofs.effort.Effort.TheSendSync as effort
+use Rattle.bg_check.proofs.kept.Kept.TheSendSync as told
+use Rattle.bg_check.specs.contracts.proof.Proof as proof
 use Rattle.bg_check.specs.contracts.verdict.Round as round
 use Rattle.bg_check.specs.contracts.verdict.Cause as cause
 use Rattle.bg_check.specs.contracts.verdict.Verdict as verdict
@@ -180,7 +182,7 @@ pub prepared_sync : (a : NamedLft) → IsSync (prepared.the_row a)
 prepared_sync a = search (block_sync, term_sync, passive_block_sync, kind_sync, sort.the_sync, atoms_field, maps.BTreeMap-sync, parts) depth 60 fits 20000
 
 pub judging_sync : (a : NamedLft) → IsSync (judging.the_row a)
-judging_sync a = search (resolved_sync, prepared_sync, place.the_sync, budget.the_field_sync, parts) depth 60 fits 20000
+judging_sync a = search (resolved_sync, prepared_sync, place.the_sync, effort.the_field_sync, parts) depth 60 fits 20000
 
 pub place_sync : IsSync place_row.the_row
 place_sync = search (place.the_sync, parts) depth 60 fits 20000
@@ -279,11 +281,14 @@ round_send = search (leaf_send, leaving) depth 60 fits 20000
 cause_send : IsSend (cause.the_field).row
 cause_send = search (why_send, leaf_send, counterexample_send, leaving) depth 60 fits 20000
 
+pub proof_send : IsSend proof.the_row
+proof_send = search (cert_send, leaving) depth 60 fits 20000
+
 verdict_send : IsSend (verdict.the_field).row
-verdict_send = search (cert_send, counterexample_send, round_send, cause_send, leaving) depth 60 fits 20000
+verdict_send = search (proof_send, told.the_field_send, counterexample_send, round_send, cause_send, leaving) depth 60 fits 20000
 
 pub judged_send : IsSend judged.the_row
 judged_send = search (place.the_field_send, verdict_send, leaving) depth 60 fits 20000
 
 pub reason_send : IsSend reason.the_row
-reason_send = search (counterexample_send, round_send, cause_send, leaving) depth 60 fits 20000
+reason_send = search (told.the_field_send, counterexample_send, round_send, cause_send, leaving) depth 60 fits 20000

@@ -25,7 +25,7 @@ use Rattle.bg_check.specs.declared.verdict.Cause.{Cause}
 use Rattle.bg_check.specs.Verdicts.{judged}
 use Rattle.bg_check.specs.Outcomes.{told}
 use Rattle.bg_houdini.specs.declared.reason.Reason.{Reason}
-use Rattle.bg_houdini.specs.declared.reason.Reason.TheVariants.{Refuted, Unknown}
+use Rattle.bg_houdini.specs.declared.reason.Reason.TheVariants.{Refuted, Unknown, Left}
 use Rattle.bg_houdini.specs.declared.outcome.Outcome.{Outcome}
 use Rattle.bg_houdini.specs.Outcomes.{IsTrueOutcome}
 use Rattle.bg_houdini.specs.Told.{is_candidate, is_checked, first_of, fate_for, fate_by, fate, each_below, are_known, outcome_of}
@@ -48,6 +48,7 @@ each_past n f k l = slice_get_past (each_below n f) k (let e = length_each n f i
 dropped_for : (words : ℕ → Cause → t.Why) (d : Reason) → t.is_kept_by (fate_for words d) ≡ false
 dropped_for words (Refuted cex) = refl
 dropped_for words (Unknown rounds cause) = refl
+dropped_for words (Left kept) = refl
 
 dropped_by : (words : ℕ → Cause → t.Why) (o : Option (Removal Reason)) → t.is_kept_by (fate_by words o) ≡ false
 dropped_by words None = refl
@@ -81,6 +82,7 @@ seen b (x ∷ us) u (inr i) e =
 unchecked_for : (words : ℕ → Cause → t.Why) (d : Reason) → fate_for words d ≡ t.Unchecked → ⊥
 unchecked_for words (Refuted cex) e = let bad : ⊥ = cc in bad
 unchecked_for words (Unknown rounds cause) e = let bad : ⊥ = cc in bad
+unchecked_for words (Left kept) e = let bad : ⊥ = cc in bad
 
 unchecked_by : (words : ℕ → Cause → t.Why) (o : Option (Removal Reason)) → fate_by words o ≡ t.Unchecked → ⊥
 unchecked_by words None e = let bad : ⊥ = cc in bad
@@ -114,10 +116,10 @@ none_unknown [] e = All-nil (λ (d : Removal Reason). d.unknown ≡ false)
 none_unknown (d ∷ ds) e =
     All-cons (λ (x : Removal Reason). x.unknown ≡ false) d ds (not_true d.unknown (and_left (not d.unknown) (are_known ds) e)) (none_unknown ds (and_right (not d.unknown) (are_known ds) e))
 
-module _ (budget : Budget) (p : r.Program) (o : Outcome) (hold : CertificatesHold (meaning_of p)) (resolved : IsResolved (meaning_of p)) (truth : IsTrueOutcome budget p o) (words : ℕ → Cause → t.Why) where
+module _ (keeps : Bool) (budget : Budget) (p : r.Program) (o : Outcome) (hold : CertificatesHold (meaning_of p)) (resolved : IsResolved (meaning_of p)) (truth : IsTrueOutcome keeps budget p o) (words : ℕ → Cause → t.Why) where
   retained_is : (b : Bool) → are_known o.inferred.removals.items ≡ b → IsRetained (meaning_of p) (has o.inferred.retained) b
-  retained_is true e = places_greatest budget p o hold truth resolved (none_unknown o.inferred.removals.items e)
-  retained_is false e = (is_set budget p o hold truth, places_inductive budget p o hold truth)
+  retained_is true e = places_greatest keeps budget p o hold truth resolved (none_unknown o.inferred.removals.items e)
+  retained_is false e = (is_set keeps budget p o hold truth, places_inductive keeps budget p o hold truth)
 
   pub sound : AreTrueFrom p (has o.inferred.retained) 0 p.implementations (map (told words) (judged o.verdicts.items)) → IsSound p (outcome_of words (meaning_of p) o)
   sound verdicts =

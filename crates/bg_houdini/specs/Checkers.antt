@@ -1,5 +1,5 @@
 -- What the checker of a program is made of.
-use Rattle.std.specs.Prelude.{◌≡◌, ℕ, ◌+◌, ◌<◌, ◌≤◌, true, false, List, Some, map, length, slice_get}
+use Rattle.std.specs.Prelude.{◌≡◌, ℕ, ◌+◌, ◌<◌, ◌≤◌, true, false, List, Option, Some, map, length, slice_get}
 use Rattle.bg_ast.specs.Syntax.{Prog}
 use Rattle.bg_ast.specs.Resolved as r
 use Rattle.bg_ast.specs.Meaning.{meaning_of}
@@ -14,10 +14,10 @@ use Rattle.bg_places.specs.Views.{placed_in}
 use Rattle.bg_task.specs.declared.prepared.Prepared.{Prepared}
 use Rattle.bg_task.specs.Prepared.{IsPrepared}
 use Rattle.bg_houdini.specs.declared.judging.Judging.{Judging}
-use Rattle.bg_houdini.specs.declared.proof.Proof.{Proof}
+use Rattle.bg_check.specs.declared.proof.Proof.{Proof}
 use Rattle.bg_houdini.specs.declared.reason.Reason.{Reason}
 use Rattle.bg_houdini.specs.Tasks.{tasks_of, candidate_of}
-use Rattle.bg_houdini.specs.Checks.{TaskFails, TaskPasses, TaskFinds}
+use Rattle.bg_houdini.specs.Checks.{TaskFails, IsTaskShown, TaskFinds}
 
 -- the first implementations, prepared
 pub record ArePrepared (p : r.Program) (count : ℕ) (ws : List Prepared) : Type 0 where
@@ -46,7 +46,7 @@ meaning_in j = meaning_of (program_in j)
 pub record Owes (budget : Budget) (p : Prog) : Type 0 where
   pub below : (k : ℕ) → k < length (tasks_of p) → candidate_of p k < p.candidates
   pub shrinks : (k : ℕ) (set sub : Candidates) → Subset sub set → sub (candidate_of p k) ≡ true → TaskFails p k set → TaskFails p k sub
-  pub passing : (k : ℕ) (used set : Candidates) (proof : Proof) → TaskPasses p k used proof → Subset used set → TaskFails p k set → ⊥
+  pub passing : (k : ℕ) (used set : Candidates) (proof : Option Proof) → IsTaskShown p k used proof → Subset used set → TaskFails p k set → ⊥
   pub failing : (k : ℕ) (set : Candidates) (reason : Reason) → TaskFinds budget p k set false reason → TaskFails p k set
 
 -- a typed program over values with numbers of its own, each implementation prepared, the tasks in order, and how
@@ -59,4 +59,4 @@ pub record IsJudging (j : Judging) : Type 0 where
   pub tasks_are : map place_in (placed_in j.tasks.items) ≡ tasks_of (meaning_in j)
   pub few : length j.tasks.items < 4294967296
   pub candidates_are : j.candidates ≡ (meaning_in j).candidates
-  pub owed : Owes j.budget (meaning_in j)
+  pub owed : Owes j.effort.budget (meaning_in j)

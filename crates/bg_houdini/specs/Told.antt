@@ -7,10 +7,11 @@ use Rattle.bg_words.specs.Sets.{has}
 use Rattle.bg_rounds.specs.declared.keeper.Removal.{Removal}
 use Rattle.bg_sound.specs.Told as t
 use Rattle.bg_check.specs.declared.verdict.Cause.{Cause}
+use Rattle.bg_check.specs.Kept.{told_kept}
 use Rattle.bg_check.specs.Verdicts.{judged}
 use Rattle.bg_check.specs.Outcomes.{told}
 use Rattle.bg_houdini.specs.declared.reason.Reason.{Reason}
-use Rattle.bg_houdini.specs.declared.reason.Reason.TheVariants.{Refuted, Unknown}
+use Rattle.bg_houdini.specs.declared.reason.Reason.TheVariants.{Refuted, Unknown, Left}
 use Rattle.bg_houdini.specs.declared.outcome.Outcome.{Outcome}
 
 abbrev pub is_candidate : ℕ → Option ℕ → Bool
@@ -34,6 +35,7 @@ first_of b (d ∷ ds) = if d.cand.0 == b then Some (earlier d (first_of b ds)) e
 abbrev pub fate_for : (ℕ → Cause → t.Why) → Reason → t.Fate
 fate_for words (Refuted cex) = t.Dropped
 fate_for words (Unknown rounds cause) = t.DroppedFor (words (length rounds.items) cause)
+fate_for words (Left kept) = t.DroppedFor (told_kept kept)
 
 abbrev pub fate_by : (ℕ → Cause → t.Why) → Option (Removal Reason) → t.Fate
 fate_by words None = t.Dropped

@@ -1,11 +1,11 @@
 //! What is known of the ordinary places of one implementation, found in pieces.
-ghost use Rattle.std.specs.Prelude.{◌≡◌, ◌<◌, Some, length, slice_get, IfOk};
+ghost use Rattle.std.specs.Prelude.{◌≡◌, ◌<◌, true, Some, length, slice_get, IfOk};
 ghost use Rattle.bg_ast.specs.Resolved as r;
 ghost use Rattle.bg_words.specs.Sets.{has};
 ghost use Rattle.bg_places.specs.Views.{placed_in};
 ghost use Rattle.bg_task.specs.Asked.{AreAsked};
 ghost use Rattle.bg_task.specs.Prepared.{ArePrepared};
-ghost use Rattle.bg_check.specs.Verdicts.{AreRightOf};
+ghost use Rattle.bg_check.specs.Verdicts.{AreRightOf, have_all};
 ghost use Rattle.bg_houdini.specs.Checkers.{IsJudging, meaning_in, program_in};
 ghost use Rattle.bg_houdini.specs.Known.{AreRightOn};
 
@@ -30,7 +30,7 @@ fn judge_some(
     requires judging { IsJudging judging.now }
     requires prepared { ArePrepared (program_in judging.now) prepared.now (placed_in places.now) }
     requires asked { AreAsked (meaning_in judging.now) (has set.now) (placed_in places.now) }
-    ensures { IfOk result (λ made. AreRightOn judging.now.budget (meaning_in judging.now) (has set.now) places.now made.items) }
+    ensures { IfOk result (λ made. AreRightOn judging.now.effort (meaning_in judging.now) (has set.now) places.now made.items) }
 {
     judge_places(
         alloc,
@@ -38,7 +38,7 @@ fn judge_some(
         prepared,
         places,
         set,
-        judging.budget,
+        judging.effort,
     )
 }
 
@@ -55,7 +55,8 @@ pub fn judge_apart<R: Threads + Sync>(
     requires judging { IsJudging judging.now }
     requires number { number < length (program_in judging.now).implementations }
     requires workers { 0 < workers }
-    ensures { IfOk result (λ made. (m : r.Impl) → slice_get (program_in judging.now).implementations number ≡ Some m → AreRightOf judging.now.budget (program_in judging.now) (has set.now) number m made.items) }
+    ensures right { IfOk result (λ made. (m : r.Impl) → slice_get (program_in judging.now).implementations number ≡ Some m → AreRightOf judging.now.effort.budget (program_in judging.now) (has set.now) number m made.items) }
+    ensures whole { IfOk result (λ made. judging.now.effort.keeps ≡ true → have_all made.items ≡ true) }
 {
     placed_are_places();
     let prepared = &judging.prepared[number];
@@ -72,7 +73,7 @@ pub fn judge_apart<R: Threads + Sync>(
             requires judging { IsJudging judging.now }
             requires prepared { ArePrepared (program_in judging.now) prepared.now (placed_in piece.now) }
             requires asked { AreAsked (meaning_in judging.now) (has set.now) (placed_in piece.now) }
-            ensures { IfOk result (λ made. AreRightOn judging.entry.now.budget (meaning_in judging.entry.now) (has set.entry.now) piece.entry.now made.items) }
+            ensures { IfOk result (λ made. AreRightOn judging.entry.now.effort (meaning_in judging.entry.now) (has set.entry.now) piece.entry.now made.items) }
         { judge_some(alloc, judging, prepared, piece, set) },
     )?;
     joined(alloc, pieces)

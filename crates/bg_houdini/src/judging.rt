@@ -2,34 +2,33 @@
 ghost use Rattle.std.specs.Prelude.{◌≡◌, ◌<◌, true, Some, length, slice_get, IfOk};
 ghost use Rattle.bg_ast.specs.Execution as run;
 ghost use Rattle.bg_words.specs.Sets.{has};
-ghost use Rattle.bg_check.specs.Verdicts.{IsRight};
+ghost use Rattle.bg_check.specs.Verdicts.{IsRight, has_all};
 ghost use Rattle.bg_houdini.specs.Tasks.{tasks_of, candidate_of};
 ghost use Rattle.bg_houdini.specs.Checks.{TaskFails, TaskPasses, TaskFinds};
 ghost use Rattle.bg_houdini.specs.Checkers.{IsJudging, meaning_in};
 
+use crate::Reason;
 use crate::answer::answer;
 use crate::desk::{Desk, lay, new_desk};
-use crate::{Proof, Reason};
 use bg_ast::resolved::Resolved;
 use bg_base::{CandId, TargetId};
-use bg_check::{Verdict, check_place, no_tries};
+use bg_check::{Effort, Proof, Verdict, check_place, no_tries};
 use bg_places::Place;
 use bg_places::laws::placed_are_places;
 use bg_rounds::{Answer, Checker};
 use bg_task::{Prepared, Question};
-use bg_tree::Budget;
 use bg_words::CandSet;
 use std::alloc::{AllocError, Global};
 
 /// A program, each of its implementations prepared, its tasks (the places with a candidate, by implementation and place), how many
-/// candidates it has, and the budget of a check.
+/// candidates it has, how much a check may take, and whether certificates and causes are kept.
 #[derive(Drop)]
 pub struct Judging<'p> {
     pub program: &'p Resolved,
     pub prepared: Vec<Prepared<'p>>,
     pub tasks: Vec<Place>,
     pub candidates: u32,
-    pub budget: Budget,
+    pub effort: Effort,
 }
 
 /// What is known of a task under a set of candidates that has the task's own.
@@ -43,7 +42,8 @@ fn verdict_on(
     requires stands { IsJudging judging.now }
     requires target { t.0 < length (tasks_of (meaning_in judging.now)) }
     requires inside { has set.now (candidate_of (meaning_in judging.now) t.0) ≡ true }
-    ensures { IfOk result (λ verdict. (task : run.Place) → slice_get (tasks_of (meaning_in judging.now)) t.0 ≡ Some task → IsRight judging.now.budget (meaning_in judging.now) (has set.now) task verdict) }
+    ensures whole { IfOk result (λ verdict. has_all verdict ≡ true) }
+    ensures right { IfOk result (λ verdict. (task : run.Place) → slice_get (tasks_of (meaning_in judging.now)) t.0 ≡ Some task → IsRight judging.now.effort.budget (meaning_in judging.now) (has set.now) task verdict) }
 {
     placed_are_places();
     let place = &judging.tasks[t.0 as usize];
@@ -55,10 +55,10 @@ fn verdict_on(
         place,
         set: &desk.truths,
     };
-    check_place(alloc, question, judging.budget, &mut no_tries())
+    check_place(alloc, question, judging.effort.budget, &mut no_tries())
 }
 
-impl<'p> Checker<Proof, Reason, Desk> for Judging<'p> {
+impl<'p> Checker<Option<Proof>, Reason, Desk> for Judging<'p> {
     ghost stands = { IsJudging };
 
     ghost cands = { λ s. (meaning_in s).candidates };
@@ -69,9 +69,9 @@ impl<'p> Checker<Proof, Reason, Desk> for Judging<'p> {
 
     ghost fails = { λ s. TaskFails (meaning_in s) };
 
-    ghost passes = { λ s. TaskPasses (meaning_in s) };
+    ghost passes = { λ s. TaskPasses s.effort.keeps (meaning_in s) };
 
-    ghost finds = { λ s. TaskFinds s.budget (meaning_in s) };
+    ghost finds = { λ s. TaskFinds s.effort.budget (meaning_in s) };
 
     fn cand_count(&self) -> u32 {
         self.candidates
@@ -98,16 +98,16 @@ impl<'p> Checker<Proof, Reason, Desk> for Judging<'p> {
         desk: &mut Desk,
         t: TargetId,
         set: &CandSet,
-    ) -> Result<Answer<Proof, Reason>, AllocError> {
+    ) -> Result<Answer<Option<Proof>, Reason>, AllocError> {
         let verdict = verdict_on(alloc, self, desk, t, set)?;
-        answer(alloc, verdict, self.candidates)
+        answer(alloc, verdict, self.candidates, self.effort.keeps)
     }
 
     ghost below = { λ s stands. stands.owed.below };
 
     ghost shrinks = { λ s stands. stands.owed.shrinks };
 
-    ghost passing = { λ s stands. stands.owed.passing };
+    ghost passing = { λ s stands k used set proof passes. stands.owed.passing k used set proof passes.0 };
 
     ghost failing = { λ s stands. stands.owed.failing };
 }

@@ -11,11 +11,9 @@ pub mod laws;
 mod making;
 mod ordinary;
 mod outcome;
-mod proof;
 mod reason;
 mod sets;
 
 pub use inference::infer;
 pub use outcome::Outcome;
-pub use proof::Proof;
 pub use reason::Reason;

@@ -14,11 +14,11 @@ ghost use Rattle.bg_houdini.specs.Checkers.{IsPortion, ArePrepared, IsJudging};
 use crate::chunks::{joined, piece_size};
 use crate::judging::Judging;
 use bg_ast::resolved::{Resolved, Variable};
+use bg_check::Effort;
 use bg_places::laws::placed_are_places;
 use bg_places::{Place, places};
 use bg_task::laws::proved_places_do_not_fail;
 use bg_task::{Prepared, count_candidates, prepare};
-use bg_tree::Budget;
 use bg_turns::map_chunks;
 use std::alloc::{AllocError, Global};
 use std::thread::Threads;
@@ -118,7 +118,7 @@ pub fn checker_of<'p, R: Threads + Sync>(
     alloc: Global,
     program: &'p Resolved,
     callees: &'p [Vec<Variable>],
-    budget: Budget,
+    effort: Effort,
     workers: u32,
 ) -> Result<Judging<'p>, AllocError>
     requires modified { IsModified (program_of program.now) callees.now }
@@ -128,7 +128,7 @@ pub fn checker_of<'p, R: Threads + Sync>(
     requires workers { 0 < workers }
     ensures stands { IfOk result IsJudging }
     ensures program { IfOk result (λ made. made.program.now ≡ program.now) }
-    ensures budget { IfOk result (λ made. made.budget ≡ budget) }
+    ensures effort { IfOk result (λ made. made.effort ≡ effort) }
 {
     proved_places_do_not_fail();
     let prepared = prepare_all(rt, alloc, program, callees, workers)?;
@@ -142,6 +142,6 @@ pub fn checker_of<'p, R: Threads + Sync>(
         prepared,
         tasks,
         candidates,
-        budget,
+        effort,
     })
 }

@@ -1,8 +1,9 @@
 //! What is known of the ordinary places under what is retained.
 ghost use Rattle.std.specs.Prelude.{◌<◌, length, take, drop, IfOk};
 ghost use Rattle.bg_words.specs.Sets.{has};
-ghost use Rattle.bg_check.specs.Verdicts.{AreRightFrom, AreRightUnder, judged};
+ghost use Rattle.bg_check.specs.Verdicts.{judged};
 ghost use Rattle.bg_houdini.specs.Checkers.{ArePreparedFrom, IsJudging, program_in};
+ghost use Rattle.bg_houdini.specs.Known.{AreKnownFrom, AreKnownUnder};
 
 use crate::apart::judge_apart;
 use crate::chunks::{joined, piece_size};
@@ -26,7 +27,7 @@ fn judge_piece(
 ) -> Result<Vec<Vec<Judged>>, AllocError>
     requires judging { IsJudging judging.now }
     requires piece { ArePreparedFrom (program_in judging.now) first piece.now }
-    ensures { IfOk result (λ made. AreRightFrom judging.now.budget (program_in judging.now) (has set.now) first (take (length piece.now) (drop first (program_in judging.now).implementations)) (judged made.items)) }
+    ensures { IfOk result (λ made. AreKnownFrom judging.now.effort (program_in judging.now) (has set.now) first (take (length piece.now) (drop first (program_in judging.now).implementations)) (judged made.items)) }
 {
     let mut made = Vec::new(alloc);
     for k in 0..piece.len() {
@@ -37,7 +38,7 @@ fn judge_piece(
             prepared,
             first + k,
             set,
-            judging.budget,
+            judging.effort,
         )?;
         made.push(one)?;
     }
@@ -55,7 +56,7 @@ fn judge_runs<R: Threads + Sync>(
 ) -> Result<Vec<Vec<Judged>>, AllocError>
     requires judging { IsJudging judging.now }
     requires workers { 0 < workers }
-    ensures { IfOk result (λ made. AreRightUnder (has known.now) judging.now.budget (program_in judging.now) (judged made.items)) }
+    ensures { IfOk result (λ made. AreKnownUnder (has known.now) judging.now.effort (program_in judging.now) (judged made.items)) }
 {
     let prepared = judging.prepared.as_slice();
     let size = piece_size(prepared.len(), workers);
@@ -68,7 +69,7 @@ fn judge_runs<R: Threads + Sync>(
         &|first, piece|
             requires judging { IsJudging judging.now }
             requires piece { ArePreparedFrom (program_in judging.now) first piece.now }
-            ensures { IfOk result (λ made. AreRightFrom judging.entry.now.budget (program_in judging.entry.now) (has known.entry.now) first (take (length piece.entry.now) (drop first (program_in judging.entry.now).implementations)) (judged made.items)) }
+            ensures { IfOk result (λ made. AreKnownFrom judging.entry.now.effort (program_in judging.entry.now) (has known.entry.now) first (take (length piece.entry.now) (drop first (program_in judging.entry.now).implementations)) (judged made.items)) }
         { judge_piece(alloc, judging, first, piece, known) },
     )?;
     joined(alloc, pieces)
@@ -85,7 +86,7 @@ fn judge_each<R: Threads + Sync>(
 ) -> Result<Vec<Vec<Judged>>, AllocError>
     requires judging { IsJudging judging.now }
     requires workers { 0 < workers }
-    ensures { IfOk result (λ made. AreRightUnder (has known.now) judging.now.budget (program_in judging.now) (judged made.items)) }
+    ensures { IfOk result (λ made. AreKnownUnder (has known.now) judging.now.effort (program_in judging.now) (judged made.items)) }
 {
     let mut made = Vec::new(alloc);
     for k in 0..judging.prepared.len() {
@@ -106,7 +107,7 @@ pub fn judge_all<R: Threads + Sync>(
 ) -> Result<Vec<Vec<Judged>>, AllocError>
     requires judging { IsJudging judging.now }
     requires workers { 0 < workers }
-    ensures { IfOk result (λ made. AreRightUnder (has set.now) judging.now.budget (program_in judging.now) (judged made.items)) }
+    ensures { IfOk result (λ made. AreKnownUnder (has set.now) judging.now.effort (program_in judging.now) (judged made.items)) }
 {
     let truths = truths_of(alloc, set)?;
     let known = truths.as_slice();

@@ -20,11 +20,11 @@ abbrev pub judged_program : r.Program → r.Program
 judged_program p = opened_program most_bodies p
 
 -- It is that of the opened program, and tells which functions had a body; the verdict on the one place of the axioms' own program is
--- right, and the rest is true of the opened program
-pub record IsTrueOutcome (budget : Budget) (p : r.Program) (o : Outcome) : Type 0 where
+-- right, and the rest is true of the opened program, where certificates and causes are kept or not
+pub record IsTrueOutcome (keeps : Bool) (budget : Budget) (p : r.Program) (o : Outcome) : Type 0 where
   pub opened : program_of o.opened ≡ judged_program p
   pub globals : o.globals ≡ length p.globals
   pub bodies : o.bodies.items ≡ map has_body p.functions
   pub set : ℕ → Bool
   pub axioms : IsRight budget (axiom_program most_bodies (meaning_of p)) set axiom_place o.axioms
-  pub judged : houdini.IsTrueOutcome budget (judged_program p) o.judged
+  pub judged : houdini.IsTrueOutcome keeps budget (judged_program p) o.judged

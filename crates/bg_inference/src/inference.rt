@@ -11,7 +11,7 @@ ghost use Rattle.bg_inference.specs.Outcomes.{has_body, IsTrueOutcome};
 
 use crate::outcome::Outcome;
 use bg_ast::resolved::{Function, Resolved};
-use bg_check::{Judged, Verdict};
+use bg_check::{Effort, Judged, Verdict};
 use bg_claims::Gate;
 use bg_opened::laws::{
     axioms_have_a_program, opened_programs_are_over_values, written_programs_are_opened,
@@ -35,7 +35,7 @@ fn only(verdicts: Vec<Vec<Judged>>) -> Option<Judged>
     row.pop()
 }
 
-/// What is known of the one place of the axioms' own program.
+/// What is known of the one place of the axioms' own program. Neither its certificate nor its cause is kept.
 fn judge_axioms<R: Threads + Sync, G: Gate>(
     rt: &R,
     alloc: Global,
@@ -51,7 +51,11 @@ fn judge_axioms<R: Threads + Sync, G: Gate>(
     placed_are_places();
     written_axiom_programs_are_those_of_the_meaning();
     let axioms = axiom_program(alloc, DEPTH, program)?;
-    let outcome = bg_houdini::infer(rt, alloc, &axioms, budget, 1, gate)?;
+    let effort = Effort {
+        budget,
+        keeps: false,
+    };
+    let outcome = bg_houdini::infer(rt, alloc, &axioms, effort, 1, gate)?;
     match only(outcome.verdicts) {
         Some(judged) => Ok(judged.verdict),
         None => Err(AllocError),
@@ -73,28 +77,29 @@ fn bodies_of(alloc: Global, functions: &[Function]) -> Result<Vec<bool>, AllocEr
 /// under them. Constants, bodies of functions and axioms are opened first: a constant is a variable that nothing changes, a body stands
 /// in the place of each application, 16 deep, and in front of each body it is assumed that unique constants differ, and the axioms
 /// (K. R. M. Leino, This is Boogie 2, 2008). Beside that a program of these assumptions alone is judged: whether some interpretation
-/// meets them.
+/// meets them. Where certificates and causes aren't kept each place's are dropped as soon as the place is done; those of the assumptions'
+/// own program never are.
 ///
 /// Only want of memory is an error; what `bg_houdini::infer` counts as such counts here too.
 pub fn infer<R: Threads + Sync, G: Gate>(
     rt: &R,
     alloc: Global,
     program: Resolved,
-    budget: Budget,
+    effort: Effort,
     workers: u32,
     gate: &G,
 ) -> Result<Outcome, AllocError>
     requires openable { IsOpenable most_bodies (meaning_of (program_of program)) }
     requires workers { (0 < workers) × (workers ≤ 16) }
-    ensures { IfOk result (IsTrueOutcome budget (program_of program)) }
+    ensures { IfOk result (IsTrueOutcome effort.keeps effort.budget (program_of program)) }
 {
     opened_programs_are_over_values();
     written_programs_are_opened();
-    let axioms = judge_axioms(rt, alloc, &program, budget, gate)?;
+    let axioms = judge_axioms(rt, alloc, &program, effort.budget, gate)?;
     let globals = program.globals.len();
     let bodies = bodies_of(alloc, &program.functions)?;
     let opened = open_program(alloc, DEPTH, program)?;
-    let judged = bg_houdini::infer(rt, alloc, &opened, budget, workers, gate)?;
+    let judged = bg_houdini::infer(rt, alloc, &opened, effort, workers, gate)?;
     Ok(Outcome {
         opened,
         globals,

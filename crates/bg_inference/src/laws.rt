@@ -1,5 +1,5 @@
 //! What a true outcome means, proved of the definitions alone.
-ghost use Rattle.std.specs.Prelude.{◌≡◌, ℕ, true};
+ghost use Rattle.std.specs.Prelude.{◌≡◌, ℕ, Bool, true};
 ghost use Rattle.bg_ast.specs.Resolved.{Program};
 ghost use Rattle.bg_ast.specs.Meaning.{meaning_of};
 ghost use Rattle.bg_opened.specs.Openable.{IsOpenable};
@@ -19,8 +19,8 @@ use bg_task::laws::proved_places_do_not_fail;
 
 /// What a report tells of a true outcome is true, whatever words it has for causes.
 pub fn true_outcomes_are_sound()
-    ensures { (budget : Budget) (p : Program) (o : Outcome) (words : ℕ → Cause → Why) → IsOpenable most_bodies (meaning_of p) →
-        IsTrueOutcome budget p o → IsSound p (outcome_of words (meaning_of p) o) }
+    ensures { (keeps : Bool) (budget : Budget) (p : Program) (o : Outcome) (words : ℕ → Cause → Why) → IsOpenable most_bodies (meaning_of p) →
+        IsTrueOutcome keeps budget p o → IsSound p (outcome_of words (meaning_of p) o) }
 {
     axioms_have_a_program();
     opened_programs_are_over_values();

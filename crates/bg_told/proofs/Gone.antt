@@ -8,6 +8,7 @@ use Rattle.bg_places.specs.Placed.{Placed}
 use Rattle.bg_rounds.specs.declared.keeper.Removal.{Removal}
 use Rattle.bg_houdini.specs.declared.reason.Reason.{Reason}
 use Rattle.bg_sound.specs.Told.{Verdict, Proved, Refuted, Unknown}
+use Rattle.bg_check.specs.Kept.{why_of}
 use Rattle.bg_check.specs.Outcomes.{verdict_of}
 use Rattle.bg_inference.specs.declared.outcome.Outcome.{Outcome}
 use Rattle.bg_opened.specs.Axioms.{of_axioms}
@@ -18,7 +19,6 @@ use Rattle.bg_told.specs.Sheets.{Head, Outer, Sheet, type_name, variable_in, nam
 use Rattle.bg_told.specs.History.{Gone, guarded, found_of, found_text, shown_text, front_text, gone_line, snapshot_line, gone_of, gone_in, gone_at, gone_text, interpretation_text, axioms_found}
 use Rattle.bg_lines.specs.Lines.{line}
 use Rattle.bg_lines.specs.Places.{place_text}
-use Rattle.bg_told.specs.Views.{why_of}
 use Rattle.bg_told.specs.Entries.{split_verdict, gone_by, told_gone}
 use Rattle.bg_told.proofs.Fitting.{Fits}
 use Rattle.bg_told.proofs.Split.{found_same, shown_same}

@@ -18,7 +18,7 @@ use Rattle.bg_houdini.specs.declared.outcome.Outcome.{Outcome}
 use Rattle.bg_houdini.specs.Told.{is_candidate, is_checked, first_of, fate_by, fate, each_below}
 use Rattle.bg_told.specs.declared.fates.Fate.{Fate}
 use Rattle.bg_told.specs.Fates.{told_fate, is_of, has_place, Entry, removal_of}
-use Rattle.bg_told.specs.Views.{why_of}
+use Rattle.bg_check.specs.Kept.{why_of}
 
 read_as : (b : ℕ) (ps : List Place) → has_place b ps ≡ list_any (λ (t : run.Place). is_candidate b t.candidate) (map place_in (placed_in ps))
 read_as b [] = refl

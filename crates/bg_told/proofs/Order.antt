@@ -5,10 +5,10 @@ use Rattle.std.specs.List.Sorted.{IsPermutation, IsNonDecreasingBy}
 use Rattle.std.proofs.lemmas.List.{get_or-map, length-map}
 use Rattle.std.proofs.lemmas.List.Sorted.{IsPermutation-map}
 use Rattle.bg_ast.specs.Resolved.{Program}
+use Rattle.bg_check.specs.Kept.{why_of}
 use Rattle.bg_rounds.specs.declared.keeper.Removal.{Removal}
 use Rattle.bg_houdini.specs.declared.reason.Reason.{Reason}
 use Rattle.bg_told.specs.History.{Gone, gone_of, number_of}
-use Rattle.bg_told.specs.Views.{why_of}
 
 abbrev pub entry : Program → Bor (Removal Reason) → Gone
 entry p d = gone_of why_of p d.now

@@ -97,6 +97,7 @@ module _ (budget : Budget) (p : Prog) (words : ℕ → Cause → t.Why) where
   reason_is : (set : ℕ → Bool) (at : Place) (u : Bool) (d : Reason) → u ≡ false → IsReason budget p set at u d → fate_for words d ≡ t.Dropped
   reason_is set at false (reason.Refuted cex) e h = refl
   reason_is set at false (reason.Unknown rounds cause) e h = absurd h
+  reason_is set at false (reason.Left kept) e h = absurd h
   reason_is set at true d e h = absurd (let bad : true ≡ false = e in cc)
 
   abbrev IsRight : Removal Reason → Type 0
@@ -148,7 +149,7 @@ parts o h =
     let b = and_parts o.is_greatest (are_settled o.implementations) a.1 in
     record { axioms = a.0; greatest = b.0; places = b.1 }
 
-module _ (budget other : Budget) (p : r.Program) (o q : Outcome) (words : ℕ → Cause → t.Why) where
+module _ (keeps keeping : Bool) (budget other : Budget) (p : r.Program) (o q : Outcome) (words : ℕ → Cause → t.Why) where
   abbrev P : Prog
   P = meaning_of p
 
@@ -161,7 +162,7 @@ module _ (budget other : Budget) (p : r.Program) (o q : Outcome) (words : ℕ �
   abbrev gone : Outcome → List (Removal Reason)
   gone u = u.judged.inferred.removals.items
 
-  fates_agree : IsTrueOutcome budget p o → IsTrueOutcome other p q → AreSettled (told o) → AreSettled (told q) → o.judged.inferred.retained ≡ q.judged.inferred.retained → (told o).fates ≡ (told q).fates
+  fates_agree : IsTrueOutcome keeps budget p o → IsTrueOutcome keeping other p q → AreSettled (told o) → AreSettled (told q) → o.judged.inferred.retained ≡ q.judged.inferred.retained → (told o).fates ≡ (told q).fates
   fates_agree x y m n same = ap (each_below P.candidates) (fun_ext each)
     where
       at : (b : ℕ) → fate_by words (first_of b (gone o)) ≡ fate_by words (first_of b (gone q))
@@ -174,7 +175,7 @@ module _ (budget other : Budget) (p : r.Program) (o q : Outcome) (words : ℕ �
           ap (λ (set : Numbers). if has set b then (if is_checked P b then t.Retained else t.Unchecked) else fate_by words (first_of b (gone o))) same
           ∙ ap (λ (f : t.Fate). if has q.judged.inferred.retained b then (if is_checked P b then t.Retained else t.Unchecked) else f) (at b)
 
-  told_agree : IsTrueOutcome budget p o → IsTrueOutcome other p q → IsSound p (told o) → IsSound p (told q) → AreSettled (told o) → AreSettled (told q) → o.judged.inferred.retained ≡ q.judged.inferred.retained → ((c : ℕ) → t.retained (told o) c ≡ t.retained (told q) c)
+  told_agree : IsTrueOutcome keeps budget p o → IsTrueOutcome keeping other p q → IsSound p (told o) → IsSound p (told q) → AreSettled (told o) → AreSettled (told q) → o.judged.inferred.retained ≡ q.judged.inferred.retained → ((c : ℕ) → t.retained (told o) c ≡ t.retained (told q) c)
       → without_counterexamples (told o) ≡ without_counterexamples (told q)
   told_agree x y f g m n same sets =
       let set : t.retained (told q) ≡ t.retained (told o) = sym (fun_ext sets) in
@@ -185,7 +186,7 @@ module _ (budget other : Budget) (p : r.Program) (o q : Outcome) (words : ℕ �
       ∙ ap (λ (greatest : Bool). record { axioms = (told q).axioms; fates = (told q).fates; is_greatest = greatest; implementations = map (map bare) (told o).implementations }) (m.greatest ∙ sym n.greatest)
       ∙ ap (λ (js : List (List Judged)). record { axioms = (told q).axioms; fates = (told q).fates; is_greatest = (told q).is_greatest; implementations = js }) places
 
-  pub lines_agree : IsTrueOutcome budget p o → IsTrueOutcome other p q → IsSound p (told o) → IsSound p (told q) → AreSettled (told o) → AreSettled (told q) → (NoneUnknown o.judged.inferred → NoneUnknown q.judged.inferred → o.judged.inferred.retained ≡ q.judged.inferred.retained)
+  pub lines_agree : IsTrueOutcome keeps budget p o → IsTrueOutcome keeping other p q → IsSound p (told o) → IsSound p (told q) → AreSettled (told o) → AreSettled (told q) → (NoneUnknown o.judged.inferred → NoneUnknown q.judged.inferred → o.judged.inferred.retained ≡ q.judged.inferred.retained)
       → ((told o).is_greatest ≡ true → (told q).is_greatest ≡ true → (c : ℕ) → t.retained (told o) c ≡ t.retained (told q) c) → verdict_lines p (told o) ≡ verdict_lines p (told q)
   lines_agree x y f g m n lists sets =
       ap (result_text p) (told_agree x y f g m n (lists (none_unknown (gone o) m.greatest) (none_unknown (gone q) n.greatest)) (sets m.greatest n.greatest))

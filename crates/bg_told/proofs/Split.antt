@@ -6,6 +6,7 @@ use Rattle.bg_ast.specs.Syntax.{Prog}
 use Rattle.bg_ast.specs.Values.{Ty}
 use Rattle.bg_ast.specs.Execution.{Interp, State, Choice}
 use Rattle.bg_sound.specs.Told.{Verdict, Proved, Refuted, Unknown, Judged, Word, is_refuted, is_unknown, has_refuted, has_unknown, word_of, SomeRefuted, SomeUnknown, AllProved}
+use Rattle.bg_check.specs.Kept.{why_of}
 use Rattle.bg_check.specs.declared.verdict.Judged as code
 use Rattle.bg_check.specs.Outcomes.{told}
 use Rattle.bg_opened.specs.Moments.{interp_in}
@@ -16,7 +17,6 @@ use Rattle.bg_told.specs.Places.{Names, constant_text, variable_text, choice_tex
 use Rattle.bg_told.specs.Sheets.{Head, Outer, names_of}
 use Rattle.bg_told.specs.Report.{is_word, count_text, implementation_text, head_text}
 use Rattle.bg_told.specs.History.{found_text, shown_text}
-use Rattle.bg_told.specs.Views.{why_of}
 use Rattle.bg_told.specs.Entries.{split_verdict, split_one, split_all}
 use Rattle.bg_told.proofs.Fitting.{Fits}
 

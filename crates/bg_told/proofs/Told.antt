@@ -1,8 +1,6 @@
 -- What the code finds is what is told.
 use Rattle.std.proofs.Common.{◌≡◌, ℕ, zero, suc, ◌+◌, Bool, true, false, ◌&&◌, ◌||◌, List, [], ◌∷◌, ◌++◌, map, take, drop, filter, cond, fold, flat_map, count_by, if◌then◌else◌, Option, Some, None, is_none, refl, sym, ap, ◌∙◌, append_assoc}
 use Rattle.std.specs.List.{list_any}
-use Rattle.std.specs.Prelude.{Vec}
-use Rattle.std.specs.declared.alloc.Global.{Global}
 use Rattle.std.proofs.lemmas.List.{map-append}
 use Rattle.bg_base.specs.declared.ids.CandId.{CandId}
 use Rattle.bg_text.specs.Views.{option_of}
@@ -18,21 +16,20 @@ use Rattle.bg_scalar.specs.Views.{vals_in, tables_in}
 use Rattle.bg_told.specs.ValueTexts.{value_text, part_text, key_text}
 use Rattle.bg_scalar.specs.declared.table.Table as code
 use Rattle.bg_sound.specs.Told as t
+use Rattle.bg_check.specs.Kept.{why_of}
 use Rattle.bg_check.specs.declared.verdict.Verdict.{Verdict}
 use Rattle.bg_check.specs.declared.verdict.Verdict.TheVariants as verdict
 use Rattle.bg_check.specs.declared.verdict.Judged.{Judged}
 use Rattle.bg_check.specs.Outcomes as c
 use Rattle.bg_check.specs.Outcomes.{verdict_of, told_one, told}
 use Rattle.bg_check.specs.Verdicts.{judged}
-use Rattle.bg_check.specs.declared.verdict.Cause.{Cause}
-use Rattle.bg_check.specs.declared.verdict.Round.{Round}
 use Rattle.bg_told.specs.declared.word.Word.{Word}
 use Rattle.bg_told.specs.declared.word.Word.TheVariants.{Verified, Refuted, Unknown}
 use Rattle.bg_told.specs.Lines.{texts}
 use Rattle.bg_told.specs.Places.{Variable, Named, Names, constant_text, function_text, variable_text, choice_text, judged_text}
 use Rattle.bg_told.specs.Report as r
-use Rattle.bg_told.specs.Views.{why_of, told_word, status_in}
-use Rattle.bg_told.specs.Words.{is_ordinary, word_in, is_word, has, word_of, word_for, with_axioms, count_of}
+use Rattle.bg_told.specs.Views.{told_word, status_in}
+use Rattle.bg_told.specs.Words.{is_ordinary, word_in, is_word, has, word_of, word_for, left_unknown, count_of}
 use Rattle.bg_told.specs.Entries.{entry_text, constant_line, function_line, choice_line, part_behind, split_one, split_all, shown_text}
 
 same_none : (o : Option CandId) → is_none (option_of candidate_of o) ≡ is_none o
@@ -57,14 +54,16 @@ has_by w f e (j ∷ js) =
     ∙ sym (any_in_front f (c.is_ordinary j) j (filter c.is_ordinary js))
 
 refuted_in : (v : Verdict) → is_word Refuted (word_in v) ≡ t.is_refuted (verdict_of why_of v)
-refuted_in (verdict.Proved lines cert) = refl
+refuted_in (verdict.Proved proof) = refl
 refuted_in (verdict.Refuted cex) = refl
-refuted_in (verdict.Unknown rounds why) = refl
+refuted_in (verdict.Unknown rounds cause) = refl
+refuted_in (verdict.Left kept) = refl
 
 unknown_in : (v : Verdict) → is_word Unknown (word_in v) ≡ t.is_unknown (verdict_of why_of v)
-unknown_in (verdict.Proved lines cert) = refl
+unknown_in (verdict.Proved proof) = refl
 unknown_in (verdict.Refuted cex) = refl
-unknown_in (verdict.Unknown rounds why) = refl
+unknown_in (verdict.Unknown rounds cause) = refl
+unknown_in (verdict.Left kept) = refl
 
 has_refuted : (js : List Judged) → has Refuted js ≡ t.has_refuted (told why_of js)
 has_refuted js = has_by Refuted t.is_refuted refuted_in js
@@ -125,14 +124,14 @@ places_told os =
     ∙ ap (λ (b : Bool). if list_any t.has_refuted (map (told why_of) os) then 1 else if b then 2 else 0) unknown
 
 -- where the axioms are unknown
-unknown_by : (rounds : Vec Round Global) (cause : Cause) (a b : Bool) → status_in (with_axioms (verdict.Unknown rounds cause) (if a then Refuted else (if b then Unknown else Verified))) ≡ (if a then 1 else 2)
-unknown_by rounds cause true b = refl
-unknown_by rounds cause false true = refl
-unknown_by rounds cause false false = refl
+unknown_by : (a b : Bool) → status_in (left_unknown (if a then Refuted else (if b then Unknown else Verified))) ≡ (if a then 1 else 2)
+unknown_by true b = refl
+unknown_by false true = refl
+unknown_by false false = refl
 
-pub unknown_told : (rounds : Vec Round Global) (cause : Cause) (os : List (List Judged)) → status_in (with_axioms (verdict.Unknown rounds cause) (word_for os)) ≡ (if list_any t.has_refuted (map (told why_of) os) then 1 else 2)
-unknown_told rounds cause os =
-    unknown_by rounds cause (list_any (has Refuted) os) (list_any (has Unknown) os)
+pub unknown_told : (os : List (List Judged)) → status_in (left_unknown (word_for os)) ≡ (if list_any t.has_refuted (map (told why_of) os) then 1 else 2)
+unknown_told os =
+    unknown_by (list_any (has Refuted) os) (list_any (has Unknown) os)
     ∙ ap (λ (a : Bool). if a then 1 else 2) (any_told (has Refuted) t.has_refuted has_refuted os)
 
 -- ---- texts

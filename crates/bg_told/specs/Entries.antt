@@ -22,6 +22,7 @@ use Rattle.bg_scalar.specs.declared.table.Table.{Table}
 use Rattle.bg_model.specs.Interps.{interp_of}
 use Rattle.bg_model.specs.declared.failure.Counterexample.{Counterexample}
 use Rattle.bg_check.specs.declared.verdict.Judged.{Judged}
+use Rattle.bg_check.specs.Kept.{why_of}
 use Rattle.bg_check.specs.Outcomes.{told_one, told}
 use Rattle.bg_kinds.specs.Views.{ref_in}
 use Rattle.bg_told.specs.declared.values.Values.{Values}
@@ -33,7 +34,6 @@ use Rattle.bg_sound.specs.Told as t
 use Rattle.bg_told.specs.ValueTexts.{index_types, front_text, index_text, value_text, part_text}
 use Rattle.bg_told.specs.Places.{Variable, Named, Names, constant_text, function_text, variable_text, choice_text, judged_text}
 use Rattle.bg_told.specs.Sheets.{Head, Outer, Sheet, head_of, type_name, variable_in, named_as, names_of}
-use Rattle.bg_told.specs.Views.{why_of}
 use Rattle.bg_told.specs.Words.{is_ordinary}
 
 -- the values of the globals, and behind them those of the frame

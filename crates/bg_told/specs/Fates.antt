@@ -7,11 +7,11 @@ use Rattle.bg_ast.specs.Views.{candidate_of}
 use Rattle.bg_places.specs.declared.place.Place.{Place}
 use Rattle.bg_rounds.specs.declared.keeper.Removal.{Removal}
 use Rattle.bg_sound.specs.Told as t
+use Rattle.bg_check.specs.Kept.{told_kept}
 use Rattle.bg_houdini.specs.declared.reason.Reason.{Reason}
 use Rattle.bg_houdini.specs.Told.{is_candidate, earlier}
 use Rattle.bg_told.specs.declared.fates.Fate.{Fate}
 use Rattle.bg_told.specs.declared.fates.Fate.TheVariants.{Retained, Unchecked, Dropped, DroppedFor}
-use Rattle.bg_told.specs.Views.{told_kept}
 
 abbrev pub told_fate : Fate → t.Fate
 told_fate Retained = t.Retained

@@ -47,6 +47,7 @@ guarded p = filter has_candidate (placed p)
 abbrev pub found_of : (ℕ → Cause → Why) → Reason → Verdict
 found_of words (reason.Refuted cex) = verdict_of words (verdict.Refuted cex)
 found_of words (reason.Unknown rounds cause) = verdict_of words (verdict.Unknown rounds cause)
+found_of words (reason.Left kept) = verdict_of words (verdict.Left kept)
 
 abbrev pub gone_of : (ℕ → Cause → Why) → Program → Removal Reason → Gone
 gone_of words p d =

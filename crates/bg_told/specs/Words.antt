@@ -14,9 +14,10 @@ is_ordinary p = is_none p.candidate
 
 -- what is known of a place, in a word
 abbrev pub word_in : Verdict → Word
-word_in (verdict.Proved lines cert) = Verified
+word_in (verdict.Proved proof) = Verified
 word_in (verdict.Refuted cex) = Refuted
-word_in (verdict.Unknown rounds why) = Unknown
+word_in (verdict.Unknown rounds cause) = Unknown
+word_in (verdict.Left kept) = Unknown
 
 abbrev pub is_word : Word → Word → Bool
 is_word Verified Verified = true
@@ -40,12 +41,17 @@ word_of js = if has Refuted js then Refuted else (if has Unknown js then Unknown
 abbrev pub word_for : List (List Judged) → Word
 word_for outcome = if list_any (has Refuted) outcome then Refuted else (if list_any (has Unknown) outcome then Unknown else Verified)
 
+-- the word of a program of whose axioms nothing is known, by the word of its places
+abbrev pub left_unknown : Word → Word
+left_unknown Refuted = Refuted
+left_unknown w = Unknown
+
 -- the word of a program by the verdict on its axioms' own program, and the word of its places
 abbrev pub with_axioms : Verdict → Word → Word
-with_axioms (verdict.Proved lines cert) w = Refuted
+with_axioms (verdict.Proved proof) w = Refuted
 with_axioms (verdict.Refuted cex) w = w
-with_axioms (verdict.Unknown rounds why) Refuted = Refuted
-with_axioms (verdict.Unknown rounds why) w = Unknown
+with_axioms (verdict.Unknown rounds cause) w = left_unknown w
+with_axioms (verdict.Left kept) w = left_unknown w
 
 -- how many implementations have the word
 abbrev pub count_of : Word → List (List Judged) → ℕ

@@ -2,14 +2,15 @@
 ghost use Rattle.std.specs.Prelude.{◌≡◌, ◌++◌, OnOk, map, codes};
 ghost use Rattle.bg_sound.specs.Told.{DroppedFor};
 ghost use Rattle.bg_text.specs.Views.{id_of};
+ghost use Rattle.bg_check.specs.Kept.{told_kept};
 ghost use Rattle.bg_told.specs.Fates.{told_fate};
 ghost use Rattle.bg_told.specs.Lines.{texts};
 ghost use Rattle.bg_lines.specs.Lines.{line};
-ghost use Rattle.bg_told.specs.Views.{told_kept};
 ghost use Rattle.bg_told.specs.Report.{fate_text, candidate_text, set_text, fates_text};
 
 use crate::fates::{Fate, count_where};
-use crate::kept::{Kept, put_cause_word};
+use crate::kept::put_cause_word;
+use bg_check::Kept;
 use bg_lines::put_number;
 use bg_text::Name;
 use std::alloc::AllocError;

@@ -4,13 +4,13 @@ ghost use Rattle.bg_ast.specs.Meaning.{meaning_of};
 ghost use Rattle.bg_ast.specs.Views.{program_of};
 ghost use Rattle.bg_words.specs.Sets.{has};
 ghost use Rattle.bg_sound.specs.Told as t;
+ghost use Rattle.bg_check.specs.Kept.{why_of};
 ghost use Rattle.bg_houdini.specs.Told.{is_checked, earlier, first_of, fate_by, are_known, outcome_of};
 ghost use Rattle.bg_told.specs.Fates.{told_fate, is_of, has_place, truth_at, removal_of, entry_at, with_earlier, is_asked, count_where};
-ghost use Rattle.bg_told.specs.Views.{why_of};
 
-use crate::kept::{Kept, kept_of};
 use bg_ast::resolved::Resolved;
 use bg_base::CandId;
+use bg_check::{Kept, kept_of};
 use bg_houdini::{Outcome, Reason};
 use bg_places::laws::placed_are_places;
 use bg_places::{Place, places};
@@ -119,6 +119,7 @@ fn dropped_by(first: Option<&Removal<Reason>>) -> Fate
         Some(removal) => match &removal.told {
             Reason::Refuted(_) => Fate::Dropped,
             Reason::Unknown(rounds, cause) => Fate::DroppedFor(kept_of(rounds, cause)),
+            Reason::Left(kept) => Fate::DroppedFor(*kept),
         },
     }
 }

@@ -4,24 +4,24 @@ ghost use Rattle.std.specs.List.Sorted.{IsPermutation, IsNonDecreasingBy};
 ghost use Rattle.bg_text.specs.Views.{id_of};
 ghost use Rattle.bg_ast.specs.Resolved.{Program};
 ghost use Rattle.bg_ast.specs.Views.{impl_of, program_of};
+ghost use Rattle.bg_check.specs.Kept.{why_of, told_kept};
 ghost use Rattle.bg_check.specs.Outcomes.{verdict_of};
 ghost use Rattle.bg_places.specs.Placed.{Placed};
 ghost use Rattle.bg_places.specs.Views.{placed_of, placed_in};
 ghost use Rattle.bg_told.specs.Lines.{texts};
 ghost use Rattle.bg_told.specs.Sheets.{head_of};
-ghost use Rattle.bg_told.specs.Views.{why_of, told_kept};
 ghost use Rattle.bg_told.specs.Entries.{outer_in, names_for, split_verdict, gone_by, told_gone, sheet_in, IsOf};
 ghost use Rattle.bg_sound.specs.Told.{Unknown};
 ghost use Rattle.bg_told.specs.History.{has_candidate, guarded, found_of, gone_of, name_text, member_text, found_text, shown_text, front_text, gone_line, snapshot_line, gone_in, gone_at, gone_text, interpretation_text, IsHistory};
 
 use crate::declared::{Declarations, declared_in};
 use crate::functions::put_functions;
-use crate::kept::{Kept, kept_of, put_cause_word, put_kept_line};
+use crate::kept::{put_cause_word, put_kept_line};
 use crate::places::put_counterexample;
 use crate::values::put_constants;
 use bg_ast::resolved::{Implementation, Resolved};
 use bg_base::CandId;
-use bg_check::Verdict;
+use bg_check::{Kept, Verdict, kept_of};
 use bg_houdini::Reason;
 use bg_inference::Outcome;
 use bg_lines::{put_number, put_place, put_position};
@@ -112,6 +112,7 @@ fn put_found(out: &mut Vec<u8>, told: &Reason) -> Result<(), AllocError>
     match told {
         Reason::Refuted(_) => out.extend_from_slice(b"refuted"),
         Reason::Unknown(rounds, cause) => put_unknown(out, kept_of(rounds, cause)),
+        Reason::Left(kept) => put_unknown(out, *kept),
     }
 }
 
@@ -127,6 +128,7 @@ fn put_shown(
     match told {
         Reason::Refuted(cex) => put_counterexample(out, declared, implementation, cex),
         Reason::Unknown(rounds, cause) => put_kept_line(out, kept_of(rounds, cause)),
+        Reason::Left(kept) => put_kept_line(out, *kept),
     }
 }
 

@@ -1,6 +1,6 @@
 //! Laws of what reports say.
 
-ghost use Rattle.std.specs.Prelude.{◌≡◌, ◌↔◌, ◌++◌, ℕ, List, Some, filter, length, map, true, All};
+ghost use Rattle.std.specs.Prelude.{◌≡◌, ◌↔◌, ◌++◌, ℕ, Bool, List, Some, filter, length, map, true, All};
 ghost use Rattle.std.specs.List.{list_all};
 ghost use Rattle.bg_ast.specs.Meaning.{meaning_of};
 ghost use Rattle.bg_ast.specs.Resolved.{Program};
@@ -64,10 +64,10 @@ pub fn verified_is_each_verified()
 {}
 
 /// The reports of two true outcomes of one program, in neither of which anything is unknown, are the same but for the lines of
-/// counterexamples, whatever the budgets, workers and schedules were.
+/// counterexamples, whatever the budgets, workers and schedules were, and whatever is kept.
 pub fn settled_reports_agree()
-    ensures { (budget other : Budget) (p : Program) (o q : inference.Outcome) (words : ℕ → Cause → Why) → IsOpenable most_bodies (meaning_of p) →
-        IsTrueOutcome budget p o → IsTrueOutcome other p q → is_settled (outcome_of words (meaning_of p) o) ≡ true → is_settled (outcome_of words (meaning_of p) q) ≡ true →
+    ensures { (keeps keeping : Bool) (budget other : Budget) (p : Program) (o q : inference.Outcome) (words : ℕ → Cause → Why) → IsOpenable most_bodies (meaning_of p) →
+        IsTrueOutcome keeps budget p o → IsTrueOutcome keeping other p q → is_settled (outcome_of words (meaning_of p) o) ≡ true → is_settled (outcome_of words (meaning_of p) q) ≡ true →
         verdict_lines p (outcome_of words (meaning_of p) o) ≡ verdict_lines p (outcome_of words (meaning_of p) q) }
 {
     greatest_sets_agree();

@@ -4,21 +4,21 @@ ghost use Rattle.bg_ast.specs.Views.{impl_of};
 ghost use Rattle.bg_places.specs.Views.{placed_of};
 ghost use Rattle.bg_kinds.specs.Views.{ref_in};
 ghost use Rattle.bg_scalar.specs.Choices.{choice_of};
+ghost use Rattle.bg_check.specs.Kept.{why_of, told_kept};
 ghost use Rattle.bg_check.specs.Outcomes.{verdict_of};
 ghost use Rattle.bg_told.specs.Places.{counterexample_text, refuted_text, unknown_text, verdict_text};
-ghost use Rattle.bg_told.specs.Views.{why_of, told_kept};
 ghost use Rattle.bg_told.specs.Sheets.{head_of};
 ghost use Rattle.bg_told.specs.Entries.{names_for, interp_by, entry_by, split_verdict, shown_text};
 
 use crate::choices::put_choices;
 use crate::declared::Declarations;
 use crate::functions::put_functions;
-use crate::kept::{Kept, kept_of, put_cause};
+use crate::kept::put_cause;
 use crate::place::put_told;
 use crate::values::{Values, behind, front, put_constants, put_entry};
 use crate::word::{Word, is_ordinary};
 use bg_ast::resolved::Implementation;
-use bg_check::{Judged, Verdict};
+use bg_check::{Judged, Kept, Verdict, kept_of};
 use bg_model::Counterexample;
 use bg_places::Place;
 use std::alloc::AllocError;
@@ -94,9 +94,10 @@ fn put_verdict(
     ensures { OnOk result (out.new.items ≡ out.old.items ++ verdict_text (names_for declared.entry (head_of (impl_of implementation.now))) (placed_of place.now) (split_verdict (length declared.entry.globals.now) (verdict_of why_of verdict.now))) }
 {
     match verdict {
-        Verdict::Proved(_, _) => Ok(()),
+        Verdict::Proved(_) => Ok(()),
         Verdict::Refuted(cex) => put_refuted(out, declared, implementation, place, cex),
         Verdict::Unknown(rounds, cause) => put_unknown(out, place, kept_of(rounds, cause)),
+        Verdict::Left(kept) => put_unknown(out, place, *kept),
     }
 }
 

@@ -4,6 +4,7 @@ ghost use Rattle.bg_ast.specs.Meaning.{meaning_of};
 ghost use Rattle.bg_ast.specs.Resolved.{Program};
 ghost use Rattle.bg_ast.specs.Views.{impl_of};
 ghost use Rattle.bg_carried.specs.Carried.{axioms_by};
+ghost use Rattle.bg_check.specs.Kept.{why_of, told_kept};
 ghost use Rattle.bg_check.specs.Verdicts.{judged};
 ghost use Rattle.bg_check.specs.Outcomes.{verdict_of, told};
 ghost use Rattle.bg_inference.specs.Told.{outcome_of};
@@ -14,17 +15,17 @@ ghost use Rattle.bg_told.specs.Fates.{told_fate};
 ghost use Rattle.bg_told.specs.Lines.{texts};
 ghost use Rattle.bg_told.specs.Report.{axioms_text, head_text, implementation_text, count_text, summary_text, result_text, bench_line, bench_text};
 ghost use Rattle.bg_told.specs.Sheets.{head_of, sheet_of};
-ghost use Rattle.bg_told.specs.Views.{why_of, told_kept, told_word};
+ghost use Rattle.bg_told.specs.Views.{told_word};
 
 use crate::candidates::{put_candidates, put_fates_count, put_set};
 use crate::declared::{Declarations, declared_in};
 use crate::fates::{Fate, fates_of, is_greatest};
-use crate::kept::{Kept, kept_of, put_cause_word};
+use crate::kept::put_cause_word;
 use crate::places::put_places;
 use crate::put::put_word;
 use crate::word::{Word, count_of, implementation_word};
 use bg_ast::resolved::Implementation;
-use bg_check::{Judged, Verdict};
+use bg_check::{Judged, Kept, Verdict, kept_of};
 use bg_inference::Outcome;
 use bg_lines::{put_number, put_position};
 use bg_opened::laws::{opened_programs_have_the_same_places, written_programs_are_opened};
@@ -118,9 +119,10 @@ fn put_axioms(out: &mut Vec<u8>, axioms: &Verdict) -> Result<(), AllocError>
     ensures { OnOk result (out.new.items ≡ out.old.items ++ axioms_text (axioms_by (verdict_of why_of axioms.now))) }
 {
     match axioms {
-        Verdict::Proved(_, _) => out.extend_from_slice(b"contradictory"),
+        Verdict::Proved(_) => out.extend_from_slice(b"contradictory"),
         Verdict::Refuted(_) => out.extend_from_slice(b"consistent"),
         Verdict::Unknown(rounds, cause) => put_undecided(out, kept_of(rounds, cause)),
+        Verdict::Left(kept) => put_undecided(out, *kept),
     }
 }
 

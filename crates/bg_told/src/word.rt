@@ -5,8 +5,9 @@ ghost use Rattle.bg_sound.specs.Told.{status_of};
 ghost use Rattle.bg_check.specs.Verdicts.{judged};
 ghost use Rattle.bg_ast.specs.Syntax.{Prog};
 ghost use Rattle.bg_inference.specs.Told.{outcome_of};
-ghost use Rattle.bg_told.specs.Views.{why_of, status_in};
-ghost use Rattle.bg_told.specs.Words.{is_ordinary, word_in, has_word, has, word_of, word_for, with_axioms, count_of};
+ghost use Rattle.bg_check.specs.Kept.{why_of};
+ghost use Rattle.bg_told.specs.Views.{status_in};
+ghost use Rattle.bg_told.specs.Words.{is_ordinary, word_in, has_word, has, word_of, word_for, left_unknown, with_axioms, count_of};
 
 use bg_check::{Judged, Verdict};
 use bg_inference::Outcome;
@@ -32,9 +33,10 @@ fn word_in(verdict: &Verdict) -> Word
     ensures { result ≡ word_in verdict.now }
 {
     match verdict {
-        Verdict::Proved(_, _) => Word::Verified,
+        Verdict::Proved(_) => Word::Verified,
         Verdict::Refuted(_) => Word::Refuted,
         Verdict::Unknown(_, _) => Word::Unknown,
+        Verdict::Left(_) => Word::Unknown,
     }
 }
 
@@ -96,17 +98,25 @@ fn program_word(outcome: &[Vec<Judged>]) -> Word
     }
 }
 
+/// The word of a program of whose axioms nothing is known, and whose implementations have this word.
+fn left_unknown(word: Word) -> Word
+    ensures { result ≡ left_unknown word }
+{
+    match word {
+        Word::Refuted => Word::Refuted,
+        _ => Word::Unknown,
+    }
+}
+
 /// The word of a program of whose axioms this is known, and whose implementations have this word.
 fn with_axioms(axioms: &Verdict, word: Word) -> Word
     ensures { result ≡ with_axioms axioms.now word }
 {
     match axioms {
-        Verdict::Proved(_, _) => Word::Refuted,
+        Verdict::Proved(_) => Word::Refuted,
         Verdict::Refuted(_) => word,
-        Verdict::Unknown(_, _) => match word {
-            Word::Refuted => Word::Refuted,
-            _ => Word::Unknown,
-        },
+        Verdict::Unknown(_, _) => left_unknown(word),
+        Verdict::Left(_) => left_unknown(word),
     }
 }
 

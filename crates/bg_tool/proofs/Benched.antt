@@ -1,6 +1,5 @@
 -- What is asked of a program that is made, and how it ends.
 use Rattle.std.proofs.Common.{◌≡◌, ◌∙◌, ℕ, Bool, List, Option, true, refl, sym}
-use Rattle.bg_tree.specs.declared.outcome.Budget.{Budget}
 use Rattle.bg_cli.specs.Cli.{IsTaken, nodes_in, most_rows_in, guess_in, history_in, job_in, seed_in, size_in}
 use Rattle.bg_cli.specs.declared.job.Job.{Job}
 use Rattle.bg_cli.specs.declared.job.Job.TheVariants as job

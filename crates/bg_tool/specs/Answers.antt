@@ -6,6 +6,7 @@ use Rattle.bg_ast.specs.Meaning.{meaning_of}
 use Rattle.bg_text.specs.Trees.{Decl}
 use Rattle.bg_front.specs.Programs.{IsProgramOf, IsProgramFrom, IsRefusedBy}
 use Rattle.bg_front.specs.Refusals.{Refusal}
+use Rattle.bg_check.specs.Kept.{why_of}
 use Rattle.bg_inference.specs.declared.outcome.Outcome as inference
 use Rattle.bg_inference.specs.Outcomes.{IsTrueOutcome}
 use Rattle.bg_inference.specs.Told.{outcome_of}
@@ -13,7 +14,6 @@ use Rattle.bg_keep.specs.Annotated.{annotated}
 use Rattle.bg_print.specs.Printed.{printed}
 use Rattle.bg_sound.specs.Sound.{IsSound}
 use Rattle.bg_sound.specs.Told.{Outcome, status_of}
-use Rattle.bg_told.specs.Views.{why_of}
 use Rattle.bg_told.specs.History.{IsHistory}
 use Rattle.bg_told.specs.Report.{result_text, bench_text}
 use Rattle.bg_tool.specs.declared.asked.Asked.{Asked}
@@ -42,6 +42,11 @@ guess_for job.Check guess = false
 guess_for job.Bench guess = false
 guess_for _ guess = guess
 
+-- whether certificates and causes of places are kept: where the certificate is asked for
+abbrev pub keeps_for : Job → Bool
+keeps_for job.Certify = true
+keeps_for _ = false
+
 -- what is asked, as the words say
 abbrev pub asked_in : List (List ℕ) → Asked
 asked_in words =
@@ -63,17 +68,18 @@ AreSome workers = (0 < workers) × (workers ≤ 16)
 -- cause within the budget; each dropped candidate has an entry in an ordered history, with a run that fails under the entry's snapshot or
 -- a cause within the budget; each place of a retained one a certificate under what is retained; and each ordinary place a right verdict
 -- under it: a certificate where it says proved, a counterexample where it says refuted, and where it says unknown a cause within the
--- budget, whose words it has
-pub record IsAccounted (budget : Budget) (p : Program) (o : Outcome) : Type 0 where
+-- budget, whose words it has. An outcome that keeps no certificates and no causes is true where there are such
+pub record IsAccounted (keeps : Bool) (budget : Budget) (p : Program) (o : Outcome) : Type 0 where
   pub inferred : inference.Outcome
-  pub right : IsTrueOutcome budget p inferred
+  pub right : IsTrueOutcome keeps budget p inferred
   pub told : o ≡ outcome_of why_of (meaning_of p) inferred
 
--- the outcome is true of the program that the bytes spell, with its guesses where these are asked for, and what is told of it is true too
+-- the outcome is true of the program that the bytes spell, with its guesses where these are asked for, and what is told of it is true too;
+-- certificates and causes are kept where the certificate is asked for
 pub record IsOutcomeOn (asked : Asked) (bytes : List ℕ) (o : inference.Outcome) : Type 0 where
   pub program : Program
   pub spelled : IsProgramOf asked.guess bytes program
-  pub right : IsTrueOutcome asked.budget program o
+  pub right : IsTrueOutcome (keeps_for asked.job) asked.budget program o
   pub sound : IsSound program (outcome_of why_of (meaning_of program) o)
 
 -- the report of an outcome, and behind it its history where this is asked for, else nothing
@@ -87,7 +93,7 @@ pub record IsTextFor (history : Bool) (p : Program) (o : inference.Outcome) (tex
 -- it is asked for, is the history of the same outcome
 pub record IsReport (asked : Asked) (bytes : List ℕ) (ends : Status) (text : List ℕ) : Type 0 where
   pub sound : IsTrueText (IsProgramOf asked.guess) asked.history bytes ends text
-  pub accounted : IsAccounted asked.budget sound.report.program sound.report.outcome
+  pub accounted : IsAccounted (keeps_for asked.job) asked.budget sound.report.program sound.report.outcome
   pub all : asked.history ≡ true → IsHistory why_of sound.report.program accounted.inferred sound.behind
 
 -- the text is, in the printed layout, the program that the bytes spell with its retained annotations, those of its guesses too where
@@ -98,18 +104,18 @@ pub record IsAnnotation (asked : Asked) (bytes : List ℕ) (ends : Status) (text
   pub program : Program
   pub spelled : IsProgramFrom asked.guess bytes decls program
   pub inferred : inference.Outcome
-  pub right : IsTrueOutcome asked.budget program inferred
+  pub right : IsTrueOutcome (keeps_for asked.job) asked.budget program inferred
   pub sound : IsSound program (outcome_of why_of (meaning_of program) inferred)
   pub is : text ≡ printed (annotated asked.guess inferred.judged.inferred.retained decls)
   pub gives : number_of ends ≡ status_of (outcome_of why_of (meaning_of program) inferred)
 
 -- the text is that of a certificate of the program that the bytes spell, for an outcome that is true of the program; what is told of this
--- one is true of it and has the status. Where this is 0, the program accepts the certificate
+-- one is true of it and has the status. Each certificate is kept, and where the status is 0 the program accepts that of the text
 pub record IsCertification (asked : Asked) (bytes : List ℕ) (ends : Status) (text : List ℕ) : Type 0 where
   pub program : Program
   pub spelled : IsProgramOf asked.guess bytes program
   pub inferred : inference.Outcome
-  pub right : IsTrueOutcome asked.budget program inferred
+  pub right : IsTrueOutcome true asked.budget program inferred
   pub sound : IsSound program (outcome_of why_of (meaning_of program) inferred)
   pub told : IsCertText program inferred text
   pub gives : number_of ends ≡ status_of (outcome_of why_of (meaning_of program) inferred)
@@ -121,7 +127,7 @@ pub record IsBenched (asked : Asked) (bytes : List ℕ) (ends : Status) (text : 
   pub program : Program
   pub spelled : IsProgramOf asked.guess bytes program
   pub inferred : inference.Outcome
-  pub right : IsTrueOutcome asked.budget program inferred
+  pub right : IsTrueOutcome (keeps_for asked.job) asked.budget program inferred
   pub sound : IsSound program (outcome_of why_of (meaning_of program) inferred)
   pub is : text ≡ bench_text asked.seed asked.size (outcome_of why_of (meaning_of program) inferred)
   pub gives : number_of ends ≡ status_of (outcome_of why_of (meaning_of program) inferred)

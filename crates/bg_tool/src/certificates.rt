@@ -2,6 +2,7 @@
 ghost use Rattle.std.specs.Prelude.{◌≡◌, false, IsTrue, IfOk, IfErr};
 ghost use Rattle.bg_front.specs.Programs.{IsRefused};
 ghost use Rattle.bg_ends.specs.Statuses.{is_report};
+ghost use Rattle.bg_cli.specs.declared.job.Job.TheVariants as job;
 ghost use Rattle.bg_tool.specs.Answers.{AreSome, IsCertification};
 
 use crate::manner::{Manner, status_of};
@@ -20,6 +21,7 @@ pub(crate) fn certificate_on<'t, R: Threads + Sync, G: Gate>(
     bytes: &'t [u8],
 ) -> Result<(Status, Vec<u8>), TextError<'t>>
     requires workers { AreSome how.now.workers }
+    requires certifies { how.now.asked.job ≡ job.Certify }
     requires plain { how.now.asked.guess ≡ false }
     ensures certificate { IfOk result (λ r. IsCertification how.now.asked bytes.now r.0 r.1.items) }
     ensures ends { IfOk result (λ r. IsTrue (is_report r.0)) }

@@ -1,9 +1,9 @@
 //! The text that is written of an outcome.
 ghost use Rattle.std.specs.Prelude.{◌≡◌, ◌++◌, ℕ, List, IfOk};
 ghost use Rattle.bg_ast.specs.Resolved.{Program};
+ghost use Rattle.bg_check.specs.Kept.{why_of};
 ghost use Rattle.bg_told.specs.Entries.{IsOf};
 ghost use Rattle.bg_told.specs.History.{IsHistory};
-ghost use Rattle.bg_told.specs.Views.{why_of};
 ghost use Rattle.bg_tool.specs.Answers.{IsTextFor};
 
 use bg_inference::Outcome;

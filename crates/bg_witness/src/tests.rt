@@ -10,19 +10,21 @@ ghost use Rattle.bg_blocks.specs.Callees.{IsModified};
 use crate::{are_there, judged_program};
 use bg_ast::resolved::{Resolved, Variable};
 use bg_blocks::callees_of;
-use bg_cert::{Cert, accepts};
-use bg_check::{Cause, Judged, Verdict, judge_ordinary};
+use bg_cert::accepts;
+use bg_check::{Cause, Effort, Judged, Proof, Verdict, judge_ordinary};
 use bg_model::Counterexample;
 use bg_replay::{Choice, Code, Ending, Start, replay};
 use bg_task::{Made, Prepared, Question, cut_down, place_clauses, prepare};
-use bg_term_table::Line;
 use bg_tree::Budget;
 use std::alloc::{AllocError, Global};
 use std::test::Fail;
 
-const BUDGET: Budget = Budget {
-    nodes: 1000,
-    rows: 1000,
+const EFFORT: Effort = Effort {
+    budget: Budget {
+        nodes: 1000,
+        rows: 1000,
+    },
+    keeps: true,
 };
 
 const LOOP: &str =
@@ -85,14 +87,13 @@ const MAPS: &str =
 const NESTS: &str =
     "type T; var n: [T,int][int]bool; procedure P(t: T, i: int) modifies n; { n[t,i][i] := true; assert n[t,i][i]; assert n[t,i] == old(n)[t,i]; }";
 
-/// Whether the certificate of a place is accepted behind these lines.
+/// Whether the certificate of a place is accepted behind its lines.
 fn is_accepted(
     alloc: Global,
     program: &Resolved,
     callees: &[Vec<Variable>],
     judged: &Judged,
-    lines: &[Line],
-    cert: &Cert,
+    proof: &Proof,
 ) -> Result<bool, AllocError>
     requires typed { IsTyped (meaning_of (program_of program.now)) }
     requires scalars { is_over_values (meaning_of (program_of program.now)) ≡ true }
@@ -103,10 +104,10 @@ fn is_accepted(
         return Ok(false);
     }
     let prepared = prepare(alloc, program, callees, number)?;
-    if !are_there(alloc, program, &prepared, lines)? {
+    if !are_there(alloc, program, &prepared, &proof.lines)? {
         return Ok(false);
     }
-    let cut = cut_down(alloc, program, &prepared, &judged.place, lines)?;
+    let cut = cut_down(alloc, program, &prepared, &judged.place, &proof.lines)?;
     let question = Question {
         program,
         prepared: &prepared,
@@ -115,7 +116,7 @@ fn is_accepted(
     };
     match place_clauses(alloc, question, &cut)? {
         Made::Outside(_) => Ok(false),
-        Made::Clauses(f) => accepts(alloc, &f, &[], cert),
+        Made::Clauses(f) => accepts(alloc, &f, &[], &proof.cert),
     }
 }
 
@@ -184,8 +185,9 @@ fn letter(
     requires modified { IsModified (program_of program.now) callees.now }
 {
     match &judged.verdict {
-        Verdict::Proved(lines, cert) => {
-            let is_right = is_accepted(alloc, program, callees, judged, lines, cert)?;
+        Verdict::Proved(None) => Ok("x"),
+        Verdict::Proved(Some(proof)) => {
+            let is_right = is_accepted(alloc, program, callees, judged, proof)?;
             Ok(if is_right { "p" } else { "x" })
         }
         Verdict::Refuted(cex) => {
@@ -200,6 +202,7 @@ fn letter(
         Verdict::Unknown(_, Cause::Argument(_, _)) => Ok("a"),
         Verdict::Unknown(_, Cause::Rounds) => Ok("x"),
         Verdict::Unknown(_, Cause::Search(_)) => Ok("x"),
+        Verdict::Left(_) => Ok("x"),
     }
 }
 
@@ -213,7 +216,7 @@ fn letters(alloc: Global, program: &Resolved) -> Result<String, Fail>
     let mut found = String::new(alloc);
     for number in 0..program.implementations.len() {
         let prepared = prepare(alloc, program, &callees, number)?;
-        let made = judge_ordinary(alloc, program, &prepared, number, &[], BUDGET)?;
+        let made = judge_ordinary(alloc, program, &prepared, number, &[], EFFORT)?;
         for judged in &made {
             found.push_str(letter(alloc, program, &callees, &prepared, judged)?)?;
         }

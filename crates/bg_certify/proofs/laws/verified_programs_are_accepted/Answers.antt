@@ -2,4 +2,4 @@ use Rattle.bg_certify.proofs.Verified.{accepted}
 use Rattle.bg_certify.proofs.laws.verified_programs_are_accepted.Goals as goal
 
 pub returns : goal.returns
-returns c = λ budget p o words cert is_true is_zero is_written. accepted budget p o words is_true is_zero cert is_written
+returns c = λ keeps budget p o words cert is_true is_zero is_written. accepted keeps budget p o words is_true is_zero cert is_written

@@ -2,7 +2,7 @@ use Rattle.std.proofs.Common.{◌≡◌, ◌++◌, [], ◌<◌, ◌≤◌, List,
 use Rattle.bg_text.specs.Views.{id_of, option_of}
 use Rattle.bg_text.specs.declared.expr.Name.{Name}
 use Rattle.bg_words.specs.Sets.{has}
-use Rattle.bg_houdini.specs.declared.proof.Proof.{Proof}
+use Rattle.bg_check.specs.declared.proof.Proof.{Proof}
 use Rattle.bg_certify.specs.Seen.{seen_as}
 use Rattle.bg_places.specs.Placed.{Placed}
 use Rattle.bg_places.specs.Views.{placed_in}
@@ -27,7 +27,7 @@ loop-i-preserved c =
     let inside : i < length ps = omega (arith, c.loop-i-test.true, c.len-i-end.ensures, c.in_ok-places.places.ok.0) in
     let item : x ≡ get_or ps i x = c.index-in-loop-i.ensures in
     let next : drop c.next_task-next.result kept ≡ kept_behind (its x) (drop c.loop-i.next kept) =
-    subst (λ (l : List (Option (Kept Proof))). drop c.next_task-next.result l ≡ kept_behind (its x) (drop c.loop-i.next l)) c.as_slice-in-loop-i.ensures.value c.next_task-next.ensures in
+    subst (λ (l : List (Option (Kept (Option Proof)))). drop c.next_task-next.result l ≡ kept_behind (its x) (drop c.loop-i.next l)) c.as_slice-in-loop-i.ensures.value c.next_task-next.ensures in
     let made : map section_of c.push_section.new.made.items ≡ map section_of c.loop-i.made.items ++ with_section (map id_of c.args.program.now.candidates.items) c.args.k i cert [] =
     subst (λ (l : List Name). map section_of c.push_section.new.made.items ≡ map section_of c.loop-i.made.items ++ with_section (map id_of l) c.args.k i cert []) c.as_slice.ensures.value c.in_ok-push_section.ensures in
     record {

@@ -21,31 +21,31 @@ pub search_place-requires-clause-there : goal.search_place-requires-clause-there
 search_place-requires-clause-there c =
     subst (λ xs. AreThere (program_of c.args.question.program.now) c.args.question.place.now.implementation c.args.question.prepared.now (lines_of xs)) (sym c.deref.ensures.value) c.loop-stand.invariant.there
 
-pub returns-in-Proved : goal.returns-in-Proved
-returns-in-Proved c =
+pub returns-in-Proved-clause-right : goal.returns-in-Proved-clause-right
+returns-in-Proved-clause-right c =
     let p = meaning_of (program_of c.args.question.program.now) in
     let set = has c.args.question.set.now in
     let t = (placed_of c.args.question.place.now).place in
     let found = subst (IsFound (record c.args.budget { nodes = c.loop-stand.stand.left }) p set t (lines_of c.deref.result.now)) c.in-Proved.is c.in_ok-cert.ensures in
     subst (λ xs. HasCertificate p set t (lines_of xs) c.in-Proved.cert) c.deref.ensures.value found
 
-pub returns-in-Refuted : goal.returns-in-Refuted
-returns-in-Refuted c =
+pub returns-in-Refuted-clause-right : goal.returns-in-Refuted-clause-right
+returns-in-Refuted-clause-right c =
     let p = meaning_of (program_of c.args.question.program.now) in
     let set = has c.args.question.set.now in
     let t = (placed_of c.args.question.place.now).place in
     subst (IsFound (record c.args.budget { nodes = c.loop-stand.stand.left }) p set t (lines_of c.deref.result.now)) c.in-Refuted.is c.in_ok-cert.ensures
 
-pub returns-in-Unknown : goal.returns-in-Unknown
-returns-in-Unknown c =
+pub returns-in-Unknown-clause-right : goal.returns-in-Unknown-clause-right
+returns-in-Unknown-clause-right c =
     let p = meaning_of (program_of c.args.question.program.now) in
     let set = has c.args.question.set.now in
     let t = (placed_of c.args.question.place.now).place in
     let found = subst (IsFound (record c.args.budget { nodes = c.loop-stand.stand.left }) p set t (lines_of c.deref.result.now)) c.in-Unknown.is c.in_ok-cert.ensures in
     unknown_right (program_of c.args.question.program.now) set t c.args.question.prepared.now c.args.budget c.loop-stand.stand c.in-Unknown.cause c.loop-stand.invariant (subst (λ xs. IsUnknown (record c.args.budget { nodes = c.loop-stand.stand.left }) p set t (lines_of xs) c.in-Unknown.cause) c.deref.ensures.value found)
 
-pub returns-then-stand-eq0 : goal.returns-then-stand-eq0
-returns-then-stand-eq0 c =
+pub returns-then-stand-eq0-clause-right : goal.returns-then-stand-eq0-clause-right
+returns-then-stand-eq0-clause-right c =
     let p = meaning_of (program_of c.args.question.program.now) in
     let set = has c.args.question.set.now in
     let t = (placed_of c.args.question.place.now).place in

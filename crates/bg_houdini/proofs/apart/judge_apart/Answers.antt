@@ -49,8 +49,8 @@ map_chunks-requires-clause-accepts g c κs within = λ start piece chunk.
       (its_chunk q w ps c.piece_size-size.result start piece.now its chunk, asked_chunk (meaning_in j) set ps c.piece_size-size.result start piece.now asked chunk),
     )
 
-pub returns : goal.returns
-returns g c =
+pub returns-clause-right : goal.returns-clause-right
+returns-clause-right g c =
     let j = c.args.judging.now in
     let q = program_in j in
     let set = has c.args.set.now in
@@ -63,13 +63,33 @@ returns g c =
     let enough : length ps ≤ length rs * size = subst (λ (n : ℕ). length ps ≤ n * size) (sym long) few in
     if_ok c.joined.result
     (λ made joins m there.
-    let all = all_known j.budget (meaning_in j) set size c.piece_size-size.ensures ps rs made.items
+    let all = all_known j.effort (meaning_in j) set size c.piece_size-size.ensures ps rs made.items
     (λ n d l.
     let h = (c.in_ok-pieces.ensures.each n d l).1 in
-    if_ok (get_or rs n d) (λ v right. subst (λ (qs : List Place). AreRightOn j.budget (meaning_in j) set qs v.items) h.argument_is.value right) h.call)
+    if_ok (get_or rs n d) (λ v right. subst (λ (qs : List Place). AreRightOn j.effort (meaning_in j) set qs v.items) h.argument_is.value right) h.call)
     enough joins in
     record {
       places = all.places ∙ (same ∙ c.in_ok-listed.ensures m there);
       right = all.right;
     })
+    c.joined.ensures
+
+pub returns-clause-whole : goal.returns-clause-whole
+returns-clause-whole g c =
+    let j = c.args.judging.now in
+    let set = has c.args.set.now in
+    let ps = c.as_slice-places.result.now in
+    let size = c.piece_size-size.result in
+    let rs = c.in_ok-pieces.pieces.items in
+    let long : length rs ≡ length ps / size + min 1 (length ps % size) = let ok = c.in_ok-pieces.pieces.ok.0 in let e = c.in_ok-pieces.ensures.len in cc in
+    let few = (div_ceil_times (length ps) size c.piece_size-size.ensures).0 in
+    let enough : length ps ≤ length rs * size = subst (λ (n : ℕ). length ps ≤ n * size) (sym long) few in
+    if_ok c.joined.result
+    (λ made joins keeps.
+    let all = all_known j.effort (meaning_in j) set size c.piece_size-size.ensures ps rs made.items
+    (λ n d l.
+    let h = (c.in_ok-pieces.ensures.each n d l).1 in
+    if_ok (get_or rs n d) (λ v right. subst (λ (qs : List Place). AreRightOn j.effort (meaning_in j) set qs v.items) h.argument_is.value right) h.call)
+    enough joins in
+    all.whole keeps)
     c.joined.ensures

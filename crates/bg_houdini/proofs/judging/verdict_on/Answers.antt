@@ -48,14 +48,14 @@ check_place-requires-clause-asked c =
     task_asked (meaning_in j) (has c.deref.result.now) ts c.args.t.0 c.index-place.result.now c.requires.stands.resolved c.requires.stands.tasks_are at
     (subst (λ (s : List Bool). has s (candidate_of (meaning_in j) c.args.t.0) ≡ true) (sym same) c.requires.inside)
 
-pub returns : goal.returns
-returns c =
+pub returns-clause-right : goal.returns-clause-right
+returns-clause-right c =
     let j = c.args.judging.now in
     let ts = j.tasks.items in
     let low = low_task ts (tasks_of (meaning_in j)) c.args.t.0 c.requires.stands.tasks_are c.requires.target in
     let at : slice_get ts c.args.t.0 ≡ Some c.index-place.result.now = slice_get_read ts (length ts) c.args.t.0 c.index-place.result.now refl low c.index-place.ensures in
     if_ok c.check_place.result
     (λ verdict right task there.
-    subst (λ (u : run.Place). IsRight j.budget (meaning_in j) (has c.args.set.now) u verdict) (task_is ts (tasks_of (meaning_in j)) c.args.t.0 c.index-place.result.now task c.requires.stands.tasks_are at there)
-    (subst (λ (s : List Bool). IsRight j.budget (meaning_in j) (has s) (place_in (placed_of c.index-place.result.now)) verdict) (c.deref.ensures.value ∙ c.in_ok-lay.ensures) right))
-    c.check_place.ensures
+    subst (λ (u : run.Place). IsRight j.effort.budget (meaning_in j) (has c.args.set.now) u verdict) (task_is ts (tasks_of (meaning_in j)) c.args.t.0 c.index-place.result.now task c.requires.stands.tasks_are at there)
+    (subst (λ (s : List Bool). IsRight j.effort.budget (meaning_in j) (has s) (place_in (placed_of c.index-place.result.now)) verdict) (c.deref.ensures.value ∙ c.in_ok-lay.ensures) right))
+    c.check_place.ensures.right

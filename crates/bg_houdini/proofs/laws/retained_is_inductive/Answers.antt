@@ -3,5 +3,5 @@ use Rattle.bg_houdini.proofs.Means.{places_inductive}
 use Rattle.bg_houdini.proofs.laws.retained_is_inductive.Goals as goal
 
 pub returns : goal.returns
-returns c = λ budget p o typed over truth.
-    places_inductive budget p o (λ set other t es cert h u. c.proved_places_do_not_fail.ensures (meaning_of p) set other t es cert typed over h u) truth
+returns c = λ keeps budget p o typed over truth.
+    places_inductive keeps budget p o (λ set other t es cert h u. c.proved_places_do_not_fail.ensures (meaning_of p) set other t es cert typed over h u) truth

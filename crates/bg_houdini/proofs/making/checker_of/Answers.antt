@@ -15,5 +15,5 @@ returns-clause-stands g c =
       tasks_are = c.in_ok-tasks.ensures;
       few = omega arith;
       candidates_are = c.in_ok-candidates.ensures;
-      owed = owed c.args.budget p c.requires.resolved (λ set other t es cert h u. c.proved_places_do_not_fail.ensures p set other t es cert c.requires.typed c.requires.scalars h u);
+      owed = owed c.args.effort.budget p c.requires.resolved (λ set other t es cert h u. c.proved_places_do_not_fail.ensures p set other t es cert c.requires.typed c.requires.scalars h u);
     }

@@ -4,7 +4,6 @@ use Rattle.std.proofs.Common.{◌≡◌, ℕ, ◌+◌, ◌*◌, ◌-◌, ◌/◌
 use Rattle.std.proofs.lemmas.Grind.{div_ceil_times}
 use Rattle.std.proofs.lemmas.List.{length-map}
 use Rattle.bg_ast.specs.Views.{program_of, impl_of}
-use Rattle.bg_task.specs.declared.prepared.Prepared.{Prepared}
 use Rattle.bg_task.specs.Prepared.{IsPrepared}
 use Rattle.bg_houdini.specs.Checkers.{IsPortion}
 use Rattle.bg_houdini.proofs.Once.{if_ok}

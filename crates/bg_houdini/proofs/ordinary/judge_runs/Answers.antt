@@ -1,14 +1,18 @@
 use denote.Exit.{no}
 use denote.Param.Send.{param_sync, arg_sync, sendable}
-use Rattle.std.proofs.Common.{◌≡◌, ℕ, ◌+◌, ◌*◌, ◌/◌, ◌%◌, ◌≤◌, min, List, length, take, drop, get_or, sym, ap, ◌∙◌, subst, arith}
+use Rattle.std.proofs.Common.{◌≡◌, ℕ, ◌+◌, ◌*◌, ◌/◌, ◌%◌, ◌≤◌, min, List, length, take, drop, get_or, true, Vec, refl, sym, ap, ◌∙◌, subst, arith}
+use Rattle.std.specs.declared.alloc.Global.{Global}
+use Rattle.std.specs.List.{list_all}
 use Rattle.std.proofs.lemmas.Grind.{div_ceil_times}
 use Rattle.bg_ast.specs.Resolved as r
 use Rattle.bg_words.specs.Sets.{has}
-use Rattle.bg_check.specs.Verdicts.{AreRightFrom, judged}
+use Rattle.bg_check.specs.Verdicts.{AreRightFrom, have_all, judged}
+use Rattle.bg_check.specs.declared.verdict.Judged.{Judged}
 use Rattle.bg_task.specs.declared.prepared.Prepared.{Prepared}
 use Rattle.bg_houdini.specs.Checkers.{ArePrepared, program_in}
+use Rattle.bg_houdini.specs.Known.{AreKnownFrom}
 use Rattle.bg_houdini.proofs.Once.{if_ok}
-use Rattle.bg_houdini.proofs.Pieces.{prepared_chunk, chunk_take, all_right}
+use Rattle.bg_houdini.proofs.Pieces.{prepared_chunk, chunk_take, all_right, all_joined, both_judged}
 use Rattle.bg_houdini.proofs.Shared.{leaving, captured_sync, judged_send, prepared_sync}
 use Rattle.bg_houdini.proofs.ordinary.judge_runs.Goals as goal
 
@@ -44,11 +48,19 @@ returns g c =
     let enough : length ms ≤ length rs * size = subst (λ (n : ℕ). n ≤ length rs * size) same (subst (λ (n : ℕ). length ws ≤ n * size) (sym long) few) in
     if_ok c.joined.result
     (λ made joins.
-    all_right j.budget q (has known) size c.piece_size-size.ensures 0 ms rs made.items
-    (λ n d l.
-    let h = (c.in_ok-pieces.ensures.each n d l).1 in
-    if_ok (get_or rs n d)
-    (λ v right. subst (λ (first : ℕ). AreRightFrom j.budget q (has known) first (take size (drop (n * size) ms)) (judged v.items)) (let z : n * size ≡ 0 + n * size = omega arith in z) (subst (λ (ns : List r.Impl). AreRightFrom j.budget q (has known) (n * size) ns (judged v.items)) (chunk_take ws ms size (n * size) (length h.argument.now) same h.argument_is.len) right))
-    h.call)
-    enough joins)
+    record {
+      right =
+          all_right j.effort.budget q (has known) size c.piece_size-size.ensures 0 ms rs made.items
+          (λ n d l.
+          let h = (c.in_ok-pieces.ensures.each n d l).1 in
+          if_ok {P = λ v. AreKnownFrom j.effort q (has known) (n * size) (take (length h.argument.now) (drop (n * size) ms)) (judged v.items)} (get_or rs n d)
+          (λ v h'. subst (λ (first : ℕ). AreRightFrom j.effort.budget q (has known) first (take size (drop (n * size) ms)) (judged v.items)) (let z : n * size ≡ 0 + n * size = omega arith in z) (subst (λ (ns : List r.Impl). AreRightFrom j.effort.budget q (has known) (n * size) ns (judged v.items)) (chunk_take ws ms size (n * size) (length h.argument.now) same h.argument_is.len) h'.right))
+          h.call)
+          enough joins;
+      whole = λ keeps.
+          all_joined (λ (vs : List (Vec Judged Global)). list_all have_all (judged vs) ≡ true) refl both_judged rs made.items
+          (λ n d l.
+          let h = (c.in_ok-pieces.ensures.each n d l).1 in
+          if_ok {P = λ v. AreKnownFrom j.effort q (has known) (n * size) (take (length h.argument.now) (drop (n * size) ms)) (judged v.items)} (get_or rs n d) (λ v h'. h'.whole keeps) h.call) joins;
+    })
     c.joined.ensures

@@ -36,5 +36,5 @@ returns g c =
       bodies = c.in_ok-bodies.ensures ∙ ap (λ fs. map has_body (map fun_of fs)) c.deref.ensures.value;
       set = c.in_ok-axioms.ensures.0;
       axioms = c.in_ok-axioms.ensures.1;
-      judged = subst (λ (q : r.Program). houdini.IsTrueOutcome c.args.budget q c.in_ok-judged.judged) c.in_ok-opened.ensures c.in_ok-judged.ensures;
+      judged = subst (λ (q : r.Program). houdini.IsTrueOutcome c.args.effort.keeps c.args.effort.budget q c.in_ok-judged.judged) c.in_ok-opened.ensures c.in_ok-judged.ensures;
     }

@@ -20,7 +20,7 @@ use Rattle.bg_inference.proofs.Telling.{true_at}
 use Rattle.bg_inference.proofs.laws.true_outcomes_are_sound.Goals as goal
 
 pub returns : goal.returns
-returns c = λ budget p o words openable truth.
+returns c = λ keeps budget p o words openable truth.
     let P = meaning_of p in
     let q = judged_program p in
     let means = sym (program_means most_bodies p) in
@@ -33,6 +33,6 @@ returns c = λ budget p o words openable truth.
     (true_at (axiom_program most_bodies P) truth.set budget words axiom_place
     (λ es cert h i s cs f. c.proved_places_do_not_fail.ensures (axiom_program most_bodies P) truth.set truth.set axiom_place es cert (over.typed most_bodies (of_axioms P) of_all) (over.scalars most_bodies (of_axioms P) of_all) h (λ b u. c.accepted_where_used.ensures.inside h.formula truth.set no_instance (cert_of cert) h.accepted b u) i s cs f)
     o.axioms truth.axioms) in
-    let sound : IsSound q (houdini.outcome_of words (meaning_of q) o.judged) = c.true_outcomes_are_sound.ensures budget q o.judged words typed scalars resolved truth.judged in
+    let sound : IsSound q (houdini.outcome_of words (meaning_of q) o.judged) = c.true_outcomes_are_sound.ensures keeps budget q o.judged words typed scalars resolved truth.judged in
     let carries : IsSound p (carried P (axioms_by (verdict_of words o.axioms)) (houdini.outcome_of words (meaning_of q) o.judged)) = c.reports_of_opened_programs_are_true.ensures most_bodies p (axioms_by (verdict_of words o.axioms)) (houdini.outcome_of words (meaning_of q) o.judged) openable axioms sound in
     subst (λ (x : t.Outcome). IsSound p (carried P (axioms_by (verdict_of words o.axioms)) x)) (same_told words o.judged p) carries

@@ -6,12 +6,12 @@ use Rattle.bg_places.specs.Placed.{Placed}
 use Rattle.bg_places.specs.Views.{placed_in}
 use Rattle.bg_rounds.specs.declared.keeper.Removal.{Removal}
 use Rattle.bg_houdini.specs.declared.reason.Reason.{Reason}
+use Rattle.bg_check.specs.Kept.{why_of}
 use Rattle.bg_check.specs.Outcomes.{verdict_of}
 use Rattle.bg_lines.specs.Lines.{line}
 use Rattle.bg_told.specs.Sheets.{Outer, Sheet, sheet_of}
 use Rattle.bg_told.specs.Entries.{told_gone, outer_in, sheet_in, split_verdict}
 use Rattle.bg_told.specs.History.{guarded, gone_text, interpretation_text, axioms_found}
-use Rattle.bg_told.specs.Views.{why_of}
 use Rattle.bg_told.proofs.Order.{entry, same_told, rising_told}
 use Rattle.bg_told.proofs.Sheet.{outer_same, sheet_same, guarded_same}
 use Rattle.bg_told.proofs.Fitting.{program_fits}

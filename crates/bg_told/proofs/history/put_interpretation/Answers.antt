@@ -3,13 +3,13 @@ use Rattle.std.proofs.lemmas.Result.{on_ok_weaker}
 use Rattle.bg_ast.specs.Views.{fun_of}
 use Rattle.bg_scalar.specs.Values.{value_of}
 use Rattle.bg_scalar.specs.Views.{tables_in}
+use Rattle.bg_check.specs.Kept.{why_of}
 use Rattle.bg_check.specs.declared.verdict.Verdict.{Verdict}
 use Rattle.bg_check.specs.Outcomes.{verdict_of}
 use Rattle.bg_lines.specs.Lines.{line}
 use Rattle.bg_told.specs.Lines.{texts}
 use Rattle.bg_told.specs.Places.{constant_text, function_text}
 use Rattle.bg_told.specs.History.{interpretation_text}
-use Rattle.bg_told.specs.Views.{why_of}
 use Rattle.bg_told.specs.Entries.{declared_types, types_in, variables_in, constant_line, function_line, all_named, outer_in, split_verdict}
 use Rattle.bg_told.proofs.Told.{constants_all, functions_told}
 use Rattle.bg_told.proofs.history.put_interpretation.Goals as goal

@@ -1,6 +1,7 @@
 use Rattle.std.proofs.Common.{◌≡◌, ◌++◌, codes, map, sym, ap, ◌∙◌, append_assoc}
 use Rattle.bg_ast.specs.Meaning.{meaning_of}
 use Rattle.bg_sound.specs.Told as t
+use Rattle.bg_check.specs.Kept.{why_of}
 use Rattle.bg_check.specs.Verdicts.{judged}
 use Rattle.bg_check.specs.Outcomes.{told}
 use Rattle.bg_houdini.specs.Told.{are_known}
@@ -8,7 +9,6 @@ use Rattle.bg_inference.specs.Told.{outcome_of}
 use Rattle.bg_told.specs.Fates.{told_fate}
 use Rattle.bg_lines.specs.Lines.{line}
 use Rattle.bg_told.specs.Report.{bench_line, set_text, summary_text}
-use Rattle.bg_told.specs.Views.{why_of}
 use Rattle.bg_told.proofs.Split.{words_carried}
 use Rattle.bg_told.proofs.report.bench_text.Goals as goal
 

@@ -4,7 +4,7 @@ use Rattle.bg_ast.specs.Resolved as r
 use Rattle.bg_houdini.specs.Told as houdini
 use Rattle.bg_inference.proofs.Same.{same_told}
 use Rattle.std.proofs.lemmas.Result.{IfOk-weaker}
-use Rattle.bg_told.specs.Views.{why_of}
+use Rattle.bg_check.specs.Kept.{why_of}
 use Rattle.bg_told.proofs.report.fates_in.Goals as goal
 
 pub returns : goal.returns

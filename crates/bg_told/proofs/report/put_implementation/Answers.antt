@@ -1,11 +1,12 @@
 use Rattle.std.proofs.Common.{◌≡◌, ◌++◌, List, ℕ, flat_map, length, sym, ap, ◌∙◌, append_assoc}
 use Rattle.bg_ast.specs.Views.{impl_of}
 use Rattle.bg_sound.specs.Told.{Word}
+use Rattle.bg_check.specs.Kept.{why_of}
 use Rattle.bg_check.specs.Outcomes.{told}
 use Rattle.bg_told.specs.Report.{head_text}
 use Rattle.bg_told.specs.Sheets.{head_of}
 use Rattle.bg_told.specs.Words.{word_of}
-use Rattle.bg_told.specs.Views.{why_of, told_word}
+use Rattle.bg_told.specs.Views.{told_word}
 use Rattle.bg_told.specs.Places.{judged_text}
 use Rattle.bg_told.specs.Entries.{names_for, split_all, shown_text}
 use Rattle.bg_told.proofs.Told.{word_told, shown_is}

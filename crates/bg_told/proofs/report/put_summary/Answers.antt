@@ -1,11 +1,11 @@
 use Rattle.std.proofs.Common.{◌≡◌, ◌++◌, List, ℕ, codes, map, sym, ap, ◌∙◌, append_assoc}
 use Rattle.bg_sound.specs.Told.{Fate, AllProved, SomeRefuted, SomeUnknown}
+use Rattle.bg_check.specs.Kept.{why_of}
 use Rattle.bg_check.specs.Verdicts.{judged}
 use Rattle.bg_check.specs.Outcomes.{told}
 use Rattle.bg_told.specs.Fates.{told_fate}
 use Rattle.bg_lines.specs.Lines.{line}
 use Rattle.bg_told.specs.Report.{count_text, fates_text}
-use Rattle.bg_told.specs.Views.{why_of}
 use Rattle.bg_told.proofs.Split.{count_same}
 use Rattle.bg_told.proofs.report.put_summary.Goals as goal
 

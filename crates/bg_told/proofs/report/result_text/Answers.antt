@@ -3,6 +3,7 @@ use Rattle.bg_ast.specs.Meaning.{meaning_of}
 use Rattle.bg_ast.specs.Resolved as r
 use Rattle.bg_ast.specs.Views.{program_of}
 use Rattle.bg_sound.specs.Told as t
+use Rattle.bg_check.specs.Kept.{why_of}
 use Rattle.bg_check.specs.Verdicts.{judged}
 use Rattle.bg_check.specs.Outcomes.{told}
 use Rattle.bg_houdini.specs.Told.{are_known}
@@ -12,7 +13,6 @@ use Rattle.bg_told.specs.Lines.{texts}
 use Rattle.bg_lines.specs.Lines.{line}
 use Rattle.bg_told.specs.Report.{axioms_text, candidate_text, set_text, implementation_text, summary_text}
 use Rattle.bg_told.specs.Sheets.{sheet_of}
-use Rattle.bg_told.specs.Views.{why_of}
 use Rattle.bg_told.proofs.Split.{words_carried}
 use Rattle.bg_told.proofs.report.result_text.Goals as goal
 

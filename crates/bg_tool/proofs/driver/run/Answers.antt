@@ -1,5 +1,5 @@
 use Rattle.std.proofs.Common.{rules, ◌≡◌, ℕ, List, ◌∙◌, ap, sym, subst}
-use Rattle.bg_cli.specs.Cli.{texts_of, files_in, cert_in, job_in, guess_in, history_in, seed_in}
+use Rattle.bg_cli.specs.Cli.{texts_of, files_in, cert_in, job_in, guess_in, seed_in}
 use Rattle.bg_cli.specs.declared.job.Job.{Job}
 use Rattle.bg_cli.specs.declared.job.Job.TheVariants as job
 use Rattle.bg_io.specs.Causes.{joined}

@@ -1,8 +1,8 @@
 use Rattle.std.proofs.Common.{refl, ◌∙◌}
 use Rattle.bg_ast.specs.Meaning.{meaning_of}
+use Rattle.bg_check.specs.Kept.{why_of}
 use Rattle.bg_inference.specs.Told.{outcome_of}
 use Rattle.bg_told.specs.Report.{result_text}
-use Rattle.bg_told.specs.Views.{why_of}
 use Rattle.bg_tool.proofs.reports.report_on.Goals as goal
 
 pub returns-in-Ok-clause-report : goal.returns-in-Ok-clause-report

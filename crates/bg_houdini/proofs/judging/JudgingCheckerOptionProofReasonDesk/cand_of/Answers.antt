@@ -4,7 +4,7 @@ use Rattle.std.proofs.lemmas.Option.{slice_get_read}
 use Rattle.bg_houdini.specs.Tasks.{tasks_of}
 use Rattle.bg_houdini.specs.Checkers.{meaning_in}
 use Rattle.bg_houdini.proofs.Listed.{low_task, task_has_one, candidate_at_task}
-use Rattle.bg_houdini.proofs.judging.JudgingCheckerProofReasonDesk.cand_of.Goals as goal
+use Rattle.bg_houdini.proofs.judging.JudgingCheckerOptionProofReasonDesk.cand_of.Goals as goal
 
 pub unreachable-requires : goal.unreachable-requires
 unreachable-requires c =

@@ -1,4 +1,4 @@
-//! Why a task passes.
+//! Why a place is proved.
 use bg_cert::Cert;
 use bg_term_table::Line;
 
