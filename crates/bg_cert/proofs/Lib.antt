@@ -12,3 +12,4 @@ pub mod Members
 pub mod Turns
 pub mod Tableless
 pub mod Wanted
+pub mod Seen

@@ -5,3 +5,4 @@ pub mod Walks
 pub mod Causes
 pub mod Tours
 pub mod Wanted
+pub mod Written

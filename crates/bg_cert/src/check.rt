@@ -1,5 +1,5 @@
 //! The checker: it walks once over the nodes, with the open path and the paths that wait.
-ghost use Rattle.std.specs.Prelude.{◌≡◌, ◌≤◌, ◌+◌, ◌++◌, ℕ, List, IfOk, OnOk, ◌∷◌, [], IsTrue, length, Some};
+ghost use Rattle.std.specs.Prelude.{◌≡◌, ◌≤◌, ◌<◌, ◌+◌, ◌++◌, ℕ, List, IfOk, OnOk, ◌∷◌, [], IsTrue, true, length, Some};
 ghost use Rattle.bg_formula.specs.Atoms.{at};
 ghost use Rattle.bg_formula.specs.Formulas.{formula_of};
 ghost use Rattle.bg_cert.specs.declared.cert.Decision.{Decision};
@@ -7,6 +7,7 @@ ghost use Rattle.bg_cert.specs.Counts.{Fits};
 ghost use Rattle.bg_cert.specs.Paths.{PathOf, denials};
 ghost use Rattle.bg_cert.specs.Certs.{node_of, cert_of, lemma_of, closes, accepts, root_with, is_accepted};
 ghost use Rattle.bg_cert.specs.Walks.{has, no_instance};
+ghost use Rattle.bg_cert.specs.Written.{KnowsBelow, is_lemma};
 ghost use Rattle.bg_cert.specs.Tours.{IsTour, path_in, decided_on, known_on, atoms_on, stack_of, others_of, Tells, TellsLeaf, all_below};
 
 use crate::cert::{Cert, Decision, Named, Node};
@@ -71,6 +72,7 @@ fn leaf(
     requires sized { atoms_on tour.old ≡ length f.now.atoms.items + length cert.now.table.items }
     ensures tours { IfOk result (λ yes. IsTrue yes → IsTour tour.new) }
     ensures sized { IfOk result (λ yes. IsTrue yes → atoms_on tour.new ≡ atoms_on tour.old) }
+    ensures known { IfOk result (λ yes. IsTrue yes → (m : ℕ) → KnowsBelow m tour.old → KnowsBelow m tour.new) }
     ensures told { IfOk result (λ yes. TellsLeaf (formula_of f.now) (has set.now) cert.now tour.old tour.new (node_of node.now) yes) }
 {
     if closes(alloc, f, set, cert, tour, node)? {
@@ -89,6 +91,7 @@ fn both_ways(tour: &mut Tour, first: Decision, second: Decision) -> Result<(), A
     requires fits_second { Fits (atoms_on tour.old) second }
     ensures tours { OnOk result (IsTour tour.new) }
     ensures sized { OnOk result (atoms_on tour.new ≡ atoms_on tour.old) }
+    ensures known { OnOk result ((m : ℕ) → KnowsBelow m tour.old → KnowsBelow m tour.new) }
     ensures stack { OnOk result ((path : List Decision → List ℕ → PathOf) → stack_of path tour.new ≡ path (decided_on tour.old ++ (first ∷ [])) (known_on tour.old) ∷ path (decided_on tour.old ++ (second ∷ [])) (known_on tour.old) ∷ others_of path tour.old) }
 {
     wait(tour, Turn::Decides(second))?;
@@ -104,6 +107,7 @@ fn learn(tour: &mut Tour, atoms: usize, lemma: &[Named], k: usize) -> Result<boo
     ensures there { IfOk result (λ yes. yes ≡ all_below (atoms_on tour.old) (lemma_of atoms lemma.now)) }
     ensures tours { IfOk result (λ yes. IsTrue yes → IsTour tour.new) }
     ensures sized { IfOk result (λ yes. IsTrue yes → atoms_on tour.new ≡ atoms_on tour.old) }
+    ensures known { IfOk result (λ yes. IsTrue yes → (m : ℕ) → k < m → KnowsBelow m tour.old → KnowsBelow m tour.new) }
     ensures stack { IfOk result (λ yes. IsTrue yes → (path : List Decision → List ℕ → PathOf) → stack_of path tour.new ≡ path (decided_on tour.old ++ denials (lemma_of atoms lemma.now)) (known_on tour.old) ∷ path (decided_on tour.old) (known_on tour.old ++ (k ∷ [])) ∷ others_of path tour.old) }
 {
     wait(tour, Turn::Learns(k))?;
@@ -112,13 +116,13 @@ fn learn(tour: &mut Tour, atoms: usize, lemma: &[Named], k: usize) -> Result<boo
 
 /// A node with its number.
 #[derive(Clone, Copy)]
-struct Numbered<'a> {
-    node: &'a Node,
-    k: usize,
+pub struct Numbered<'a> {
+    pub node: &'a Node,
+    pub k: usize,
 }
 
 /// One node: whether it may stand here, and which paths are open after it.
-fn step(
+pub fn step(
     alloc: Global,
     f: &Clauses,
     set: &[bool],
@@ -132,6 +136,7 @@ fn step(
     requires is_node { at cert.now.nodes.items here.k ≡ Some here.node.now }
     ensures tours { IfOk result (λ yes. IsTrue yes → IsTour tour.new) }
     ensures sized { IfOk result (λ yes. IsTrue yes → atoms_on tour.new ≡ atoms_on tour.old) }
+    ensures known { IfOk result (λ yes. IsTrue yes → (m : ℕ) → (is_lemma (node_of here.entry.node.now) ≡ true → here.entry.k < m) → KnowsBelow m tour.old → KnowsBelow m tour.new) }
     ensures told { IfOk result (λ yes. Tells (formula_of f.now) (has set.now) cert.now tour.old tour.new (node_of here.entry.node.now) yes) }
 {
     let node = here.node;

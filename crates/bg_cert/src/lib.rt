@@ -13,6 +13,7 @@ mod tour;
 mod trail;
 mod units;
 mod walk;
+mod written;
 
 pub use cert::{Cert, Decision, Named, Node, bare};
 pub use check::accepts;
@@ -24,3 +25,4 @@ pub use tour::{Later, Tour, Turn, end_path, first_tour, wait};
 pub use trail::{Trail, decide, decides, first_trail, undo_to};
 pub use units::used;
 pub use walk::{Waiting, Walk, close, first_walk, open_both};
+pub use written::{Nodes, accepts_written};

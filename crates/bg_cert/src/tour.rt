@@ -3,6 +3,7 @@
 ghost use Rattle.std.specs.Prelude.{◌≡◌, ℕ, IfOk, OnOk, List, ◌++◌, ◌∷◌, [], IsTrue, length};
 ghost use Rattle.bg_cert.specs.declared.cert.Decision.{Decision};
 ghost use Rattle.bg_cert.specs.Paths.{PathOf};
+ghost use Rattle.bg_cert.specs.Written.{KnowsBelow};
 ghost use Rattle.bg_cert.specs.Tours.{stack_of, others_of, IsTour, FitsTurn, decided_by, learned_by, decided_on, known_on, atoms_on};
 
 use crate::cert::Decision;
@@ -39,6 +40,7 @@ pub fn first_tour(alloc: Global, atoms: usize) -> Result<Tour, AllocError>
     ensures tours { IfOk result (λ tour. IsTour tour) }
     ensures sized { IfOk result (λ tour. atoms_on tour ≡ atoms) }
     ensures opens { IfOk result (λ tour. IsTrue tour.is_open) }
+    ensures known { IfOk result (λ tour. (m : ℕ) → KnowsBelow m tour) }
     ensures stack { IfOk result (λ tour. (path : List Decision → List ℕ → PathOf) → stack_of path tour ≡ path [] [] ∷ []) }
 {
     Ok(Tour {
@@ -89,6 +91,7 @@ pub fn end_path(tour: &mut Tour) -> Result<(), AllocError>
     requires is_open { IsTrue tour.old.is_open }
     ensures tours { OnOk result (IsTour tour.new) }
     ensures sized { OnOk result (atoms_on tour.new ≡ atoms_on tour.old) }
+    ensures known { OnOk result ((m : ℕ) → KnowsBelow m tour.old → KnowsBelow m tour.new) }
     ensures stack { OnOk result ((path : List Decision → List ℕ → PathOf) → stack_of path tour.new ≡ others_of path tour.old) }
 {
     match tour.waiting.pop() {

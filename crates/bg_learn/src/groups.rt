@@ -7,15 +7,18 @@ use std::collections::BTreeMap;
 /// How many needed reasons use the same rows; and the number under which the path knows the lemma that says so, if it does.
 #[derive(Clone, Copy)]
 struct Group {
-    count: usize,
-    known: Option<u128>,
+    count: u32,
+    known: Option<u32>,
 }
+
+/// In the place of a reason's group where it has none.
+const NO_GROUP: u32 = u32::MAX;
 
 /// Of each reason, by a number of the caller's, the group to which it belongs; the groups by what is mixed of the rows that they use;
 /// and the groups.
 #[derive(Drop)]
 pub struct Groups {
-    of: Vec<Option<u32>>,
+    of: Vec<u32>,
     ids: BTreeMap<u128, u32>,
     all: Vec<Group>,
 }
@@ -29,7 +32,7 @@ const MIX_MORE: u64 = 0xD1B5_4A32_D192_ED03;
 /// No groups, with room for so many reasons.
 pub fn new_groups(alloc: Global, reasons: usize) -> Result<Groups, AllocError> {
     Ok(Groups {
-        of: vec![in alloc; None; reasons]?,
+        of: vec![in alloc; NO_GROUP; reasons]?,
         ids: BTreeMap::new(alloc),
         all: Vec::new(alloc),
     })
@@ -75,7 +78,7 @@ pub fn note_uses(g: &mut Groups, reason: usize, uses: &[Lit]) -> Result<(), Allo
         group.count = group.count.saturating_add(1);
     }
     if let Some(of) = g.of.get_mut(reason) {
-        *of = Some(at);
+        *of = at;
     }
     Ok(())
 }
@@ -87,7 +90,7 @@ pub fn close_groups(alloc: Global, g: &mut Groups) {
 
 /// The group of a reason, if it has one.
 fn find(g: &Groups, reason: usize) -> Option<Group> {
-    let at = g.of.get(reason).copied().flatten()?;
+    let at = *g.of.get(reason)?;
     g.all.get(at as usize).copied()
 }
 
@@ -101,15 +104,15 @@ pub fn wants_lemma(g: &Groups, reason: usize) -> bool {
 
 /// The number under which the path knows the lemma of a reason's group, if it does.
 pub fn known_lemma(g: &Groups, reason: usize) -> Option<u128> {
-    find(g, reason)?.known
+    Some(u128::from(find(g, reason)?.known?))
 }
 
 /// Notes that the path knows the lemma of a reason's group by this number.
 pub fn put_known(g: &mut Groups, reason: usize, number: u128) {
-    let Some(at) = g.of.get(reason).copied().flatten() else {
+    let Some(at) = g.of.get(reason).copied() else {
         return;
     };
     if let Some(group) = g.all.get_mut(at as usize) {
-        group.known = Some(number);
+        group.known = u32::try_from(number).ok();
     }
 }

@@ -1,5 +1,6 @@
 //! An engine that proposes: a certificate that a formula has no valuation, or values with which it holds. It learns clauses over atoms
-//! that are bounds of columns, with a simplex below. Nothing is proved of what it proposes; proved is that each call ends, and is safe.
+//! that are bounds of columns, with a simplex below. Proved is that each call ends, and is safe; and that there is a certificate where it
+//! says so of one that isn't kept. Of what else it proposes nothing is proved.
 #![tactic(auto)]
 
 mod aim;
@@ -15,5 +16,5 @@ mod trim;
 mod uses;
 mod write;
 
-pub use answer::{Proposal, propose};
+pub use answer::{Aim, Proposal, propose};
 pub use bg_trail::Limits;

@@ -6,8 +6,8 @@ use crate::pairs::{root_pairs, solve_pairs};
 use bg_formula::{Atom, Literal};
 use bg_simplex::{Lit, Multiple};
 use bg_trail::{
-    Engine, Reason, Span, add_clause, assign, atom_of, is_false, is_met, is_open, literal, named,
-    negated, propagate, seat, units,
+    Engine, Reason, add_clause, assign, atom_of, is_false, is_met, is_open, literal, named,
+    negated, propagate, seat, span_of, units,
 };
 use std::alloc::AllocError;
 
@@ -161,7 +161,7 @@ fn know(e: &mut Engine<'_>, a: u32, value: bool) -> Result<Option<Reason>, Alloc
         lit: negated(p),
         times: 1,
     })?;
-    Ok(require(e, p, Reason::Rows(Span { from, len: 1 })))
+    Ok(require(e, p, Reason::Rows(span_of(from, 1))))
 }
 
 /// Seats an atom of the formula, if it has a row.

@@ -4,7 +4,8 @@ use crate::groups::{Groups, close_groups, new_groups, note_uses};
 use bg_simplex::Lit;
 use bg_solved::{Deriver, add_multiple, clear, reduced_row};
 use bg_trail::{
-    Engine, Link, Reason, clause_at, is_positive, items, negated, place_of, reduced_of,
+    Engine, Link, Reason, begin_of, clause_at, end_of, is_positive, items, negated, part_at,
+    place_of, reduced_of,
 };
 use std::alloc::AllocError;
 
@@ -62,8 +63,10 @@ pub fn derive(e: &Engine<'_>, d: &mut Deriver, r: Reason) -> Result<(), AllocErr
             sum = add_part(e, d, sum, b, 1)?;
         }
         Reason::Rows(span) => {
-            for part in items(&e.lemmas.parts, span) {
-                sum = add_part(e, d, sum, part.lit, part.times)?;
+            for at in begin_of(span)..end_of(span) {
+                if let Some(part) = part_at(&e.lemmas.parts, at) {
+                    sum = add_part(e, d, sum, part.lit, part.times)?;
+                }
             }
         }
         Reason::Clause(_) | Reason::Decision | Reason::Unit(_, _) => {}
@@ -162,7 +165,7 @@ fn need_proof(
     if times_named(n, k) == 0 {
         return Ok(());
     }
-    let mut number = link_number(facts, lemma.chain.from);
+    let mut number = link_number(facts, begin_of(lemma.chain));
     for link in items(&e.lemmas.chain, lemma.chain) {
         let site = Site {
             reason: link.reason,

@@ -10,14 +10,23 @@ use bg_cert::{Named, Node};
 use bg_rows::Step;
 use bg_simplex::Lit;
 use bg_solved::{Deriver, new_deriver};
-use bg_trail::{Engine, Lemma, Link, Reason, atom_of, clause_at, is_positive, items, negated};
+use bg_trail::{
+    Engine, Lemma, Link, Reason, atom_of, begin_of, clause_at, is_positive, items, negated,
+};
 use std::alloc::AllocError;
+use std::collections::VecDeque;
 
-/// What is to be written: what closes the path by a reason of this number; or a lemma's chain, from this link on.
+/// What is to be written.
 #[derive(Clone, Copy)]
 enum What {
+    /// What closes the path by a reason of this number.
     Close(Reason, usize),
+    /// A lemma's chain, from this link on.
     Chain(usize, usize),
+    /// Nothing: the proof of this lemma is written, and the path knows it.
+    Known(usize),
+    /// What is needed, in the order in which it was learned: from this lemma on, and from this literal of the root on.
+    Root(usize, usize),
 }
 
 /// What is to be written on the path of the first so many literals and one more, if one is given.
@@ -28,13 +37,15 @@ struct Task {
     what: What,
 }
 
-/// The literals of the root; what is needed; the nodes so far; what is to be written behind them, the next last; the path to the next
-/// node; the numbers under which the path knows lemmas, and how many it knows; and a list of steps for derivations.
+/// The literals of the root, and why they can't all hold; what is needed; the nodes that are written and not taken yet; what is to be
+/// written behind them, the next last; the path to the next node; the numbers under which the path knows lemmas, and how many it knows;
+/// and a list of steps for derivations.
 #[derive(Drop)]
-struct Writer<'a> {
-    facts: &'a [Link],
+pub struct Writer {
+    facts: Vec<Link>,
+    end: Reason,
     needs: Needs,
-    nodes: Vec<Node>,
+    nodes: VecDeque<Node>,
     later: Vec<Task>,
     path: Path,
     known: Vec<Option<u128>>,
@@ -60,7 +71,7 @@ fn decides(e: &Engine<'_>, l: Lit) -> Node {
 }
 
 /// The leaf of a false clause: one of the formula, or a lemma that the path knows.
-fn clause_leaf(e: &Engine<'_>, w: &Writer<'_>, c: u32) -> Node {
+fn clause_leaf(e: &Engine<'_>, w: &Writer, c: u32) -> Node {
     match (c as usize).checked_sub(e.formula.clauses.len()) {
         Some(k) => match w.known.get(k) {
             Some(Some(number)) => Node::Known(*number),
@@ -71,7 +82,7 @@ fn clause_leaf(e: &Engine<'_>, w: &Writer<'_>, c: u32) -> Node {
 }
 
 /// The derived steps, over the rows of the path.
-fn numbered(e: &Engine<'_>, w: &Writer<'_>) -> Result<Vec<Step>, AllocError> {
+fn numbered(e: &Engine<'_>, w: &Writer) -> Result<Vec<Step>, AllocError> {
     let mut made = Vec::with_capacity(e.alloc, w.deriver.steps.len())?;
     for step in &w.deriver.steps {
         let step = match *step {
@@ -84,7 +95,7 @@ fn numbered(e: &Engine<'_>, w: &Writer<'_>) -> Result<Vec<Step>, AllocError> {
 }
 
 /// The number on the path of the row that a derivation uses as its `j`-th.
-fn path_row(w: &Writer<'_>, j: u128) -> u128 {
+fn path_row(w: &Writer, j: u128) -> u128 {
     let Ok(j) = usize::try_from(j) else {
         return u128::MAX;
     };
@@ -95,7 +106,7 @@ fn path_row(w: &Writer<'_>, j: u128) -> u128 {
 }
 
 /// The leaf that closes the path by a reason of this number.
-fn leaf(e: &Engine<'_>, w: &mut Writer<'_>, r: Reason, number: usize) -> Result<Node, AllocError> {
+fn leaf(e: &Engine<'_>, w: &mut Writer, r: Reason, number: usize) -> Result<Node, AllocError> {
     match r {
         Reason::Clause(c) => Ok(clause_leaf(e, w, c)),
         Reason::Unit(c, _) => Ok(Node::Unit(c as u128)),
@@ -111,7 +122,7 @@ fn leaf(e: &Engine<'_>, w: &mut Writer<'_>, r: Reason, number: usize) -> Result<
 }
 
 /// The lemma whose proof stands in the place of a reason's leaf: no other reason names it.
-fn only_here(e: &Engine<'_>, w: &Writer<'_>, r: Reason) -> Option<usize> {
+fn only_here(e: &Engine<'_>, w: &Writer, r: Reason) -> Option<usize> {
     let Reason::Clause(c) = r else {
         return None;
     };
@@ -125,7 +136,7 @@ fn only_here(e: &Engine<'_>, w: &Writer<'_>, r: Reason) -> Option<usize> {
 
 /// Lets this be written next, on the path of the first so many literals and one more, if one is given.
 fn put_off(
-    w: &mut Writer<'_>,
+    w: &mut Writer,
     depth: usize,
     literal: Option<Lit>,
     what: What,
@@ -139,7 +150,7 @@ fn put_off(
 }
 
 /// Closes the path by a reason of this number.
-fn close(e: &Engine<'_>, w: &mut Writer<'_>, r: Reason, number: usize) -> Result<(), AllocError> {
+fn close(e: &Engine<'_>, w: &mut Writer, r: Reason, number: usize) -> Result<(), AllocError> {
     match only_here(e, w, r) {
         Some(k) => {
             let depth = w.path.literals.len();
@@ -147,7 +158,7 @@ fn close(e: &Engine<'_>, w: &mut Writer<'_>, r: Reason, number: usize) -> Result
         }
         None => {
             let made = leaf(e, w, r, number)?;
-            w.nodes.push(made)?;
+            w.nodes.push_back(made)?;
             Ok(())
         }
     }
@@ -156,7 +167,7 @@ fn close(e: &Engine<'_>, w: &mut Writer<'_>, r: Reason, number: usize) -> Result
 /// Decides a literal that follows by a reason of this number: that closes the other side, and on this side comes what is given.
 fn forced(
     e: &Engine<'_>,
-    w: &mut Writer<'_>,
+    w: &mut Writer,
     link: Link,
     number: usize,
     then: What,
@@ -164,7 +175,7 @@ fn forced(
     let depth = w.path.literals.len();
     let l = link.literal;
     let other = What::Close(link.reason, number);
-    w.nodes.push(decides(e, l))?;
+    w.nodes.push_back(decides(e, l))?;
     if is_positive(l) {
         put_off(w, depth, Some(negated(l)), other)?;
         put_off(w, depth, Some(l), then)
@@ -176,16 +187,16 @@ fn forced(
 
 /// Goes on with a lemma's chain from a link on. Where the path decides that link's literal it is left out, and where it denies the literal
 /// the link's reason closes the path.
-fn go_on(e: &Engine<'_>, w: &mut Writer<'_>, k: usize, at: usize) -> Result<(), AllocError> {
+fn go_on(e: &Engine<'_>, w: &mut Writer, k: usize, at: usize) -> Result<(), AllocError> {
     let Some(lemma) = e.lemmas.all.get(k) else {
         return Ok(());
     };
     let depth = w.path.literals.len();
     let Some(link) = items(&e.lemmas.chain, lemma.chain).get(at) else {
-        let end = What::Close(lemma.end, end_number(e, w.facts, k));
+        let end = What::Close(lemma.end, end_number(e, &w.facts, k));
         return put_off(w, depth, None, end);
     };
-    let number = link_number(w.facts, lemma.chain.from.saturating_add(at));
+    let number = link_number(&w.facts, begin_of(lemma.chain).saturating_add(at));
     let then = What::Chain(k, at.saturating_add(1));
     if is_decided(&w.path, link.literal) {
         put_off(w, depth, None, then)
@@ -197,7 +208,7 @@ fn go_on(e: &Engine<'_>, w: &mut Writer<'_>, k: usize, at: usize) -> Result<(), 
 }
 
 /// Writes what is to be written next.
-fn write_next(e: &Engine<'_>, w: &mut Writer<'_>, task: Task) -> Result<(), AllocError> {
+fn write_next(e: &Engine<'_>, w: &mut Writer, task: Task) -> Result<(), AllocError> {
     walk_back(e.formula, &mut w.path, task.depth);
     if let Some(l) = task.literal {
         walk(e.formula, &mut w.path, l)?;
@@ -205,32 +216,23 @@ fn write_next(e: &Engine<'_>, w: &mut Writer<'_>, task: Task) -> Result<(), Allo
     match task.what {
         What::Close(r, number) => close(e, w, r, number),
         What::Chain(k, at) => go_on(e, w, k, at),
-    }
-}
-
-/// Writes what is to be written, but for the first `from`: each link and each lemma's end is written once at the most.
-fn write_later(e: &Engine<'_>, w: &mut Writer<'_>, from: usize) -> Result<(), AllocError> {
-    let most = end_number(e, w.facts, e.lemmas.all.len()).saturating_add(1);
-    for _ in 0..most.saturating_mul(4) {
-        if w.later.len() <= from {
-            return Ok(());
+        What::Known(k) => {
+            know_lemma(w, k);
+            Ok(())
         }
-        if let Some(task) = w.later.pop() {
-            write_next(e, w, task)?;
-        }
+        What::Root(k, place) => root(e, w, k, place),
     }
-    Ok(())
 }
 
 /// The lemma is written: the path knows it. Answers its number.
-fn know(w: &mut Writer<'_>) -> u128 {
+fn know(w: &mut Writer) -> u128 {
     let number = w.count;
     w.count = number.saturating_add(1);
     number
 }
 
 /// The literals of a lemma that not all these hold, but for those that the path decides; the path decides them then.
-fn shared_names(e: &Engine<'_>, w: &mut Writer<'_>) -> Result<Vec<Named>, AllocError> {
+fn shared_names(e: &Engine<'_>, w: &mut Writer) -> Result<Vec<Named>, AllocError> {
     let mut names = Vec::new(e.alloc);
     for at in 0..w.deriver.uses.len() {
         if let Some(l) = w.deriver.uses.get(at).copied() {
@@ -247,7 +249,7 @@ fn shared_names(e: &Engine<'_>, w: &mut Writer<'_>) -> Result<Vec<Named>, AllocE
 /// Writes the lemma that the rows which a reason uses can't all hold, if others use them too and it isn't written yet.
 fn write_shared(
     e: &Engine<'_>,
-    w: &mut Writer<'_>,
+    w: &mut Writer,
     r: Reason,
     number: usize,
 ) -> Result<(), AllocError> {
@@ -257,9 +259,9 @@ fn write_shared(
     let depth = w.path.literals.len();
     derive(e, &mut w.deriver, r)?;
     let names = shared_names(e, w)?;
-    w.nodes.push(Node::Lemma(names))?;
+    w.nodes.push_back(Node::Lemma(names))?;
     let steps = numbered(e, w)?;
-    w.nodes.push(Node::Rows(steps))?;
+    w.nodes.push_back(Node::Rows(steps))?;
     walk_back(e.formula, &mut w.path, depth);
     let known = know(w);
     put_known(&mut w.needs.groups, number, known);
@@ -267,22 +269,18 @@ fn write_shared(
 }
 
 /// Writes the lemmas that reasons of a lemma's proof share with others.
-fn write_shares(
-    e: &Engine<'_>,
-    w: &mut Writer<'_>,
-    lemma: &Lemma,
-    k: usize,
-) -> Result<(), AllocError> {
-    let mut number = link_number(w.facts, lemma.chain.from);
+fn write_shares(e: &Engine<'_>, w: &mut Writer, lemma: &Lemma, k: usize) -> Result<(), AllocError> {
+    let mut number = link_number(&w.facts, begin_of(lemma.chain));
     for link in items(&e.lemmas.chain, lemma.chain) {
         write_shared(e, w, link.reason, number)?;
         number = number.saturating_add(1);
     }
-    write_shared(e, w, lemma.end, end_number(e, w.facts, k))
+    let number = end_number(e, &w.facts, k);
+    write_shared(e, w, lemma.end, number)
 }
 
 /// The node of a lemma; the path denies its literals.
-fn lemma_node(e: &Engine<'_>, w: &mut Writer<'_>, clause: u32) -> Result<Node, AllocError> {
+fn lemma_node(e: &Engine<'_>, w: &mut Writer, clause: u32) -> Result<Node, AllocError> {
     let clause = clause_at(&e.base, clause);
     let mut names = Vec::with_capacity(e.alloc, clause.len())?;
     for l in clause {
@@ -292,105 +290,125 @@ fn lemma_node(e: &Engine<'_>, w: &mut Writer<'_>, clause: u32) -> Result<Node, A
     Ok(Node::Lemma(names))
 }
 
-/// Writes a lemma with its proof.
-fn write_lemma(
-    e: &Engine<'_>,
-    w: &mut Writer<'_>,
-    lemma: &Lemma,
-    k: usize,
-) -> Result<(), AllocError> {
-    let depth = w.path.literals.len();
-    let from = w.later.len();
-    let node = lemma_node(e, w, lemma.clause)?;
-    w.nodes.push(node)?;
-    go_on(e, w, k, 0)?;
-    write_later(e, w, from)?;
-    walk_back(e.formula, &mut w.path, depth);
+/// The proof of a lemma is written: the path knows it.
+fn know_lemma(w: &mut Writer, k: usize) {
     let number = know(w);
     if let Some(known) = w.known.get_mut(k) {
         *known = Some(number);
     }
-    Ok(())
 }
 
-/// Writes a literal of the root; what comes behind it is on its side.
+/// Writes a lemma, and lets its proof come next.
+fn write_lemma(e: &Engine<'_>, w: &mut Writer, clause: u32, k: usize) -> Result<(), AllocError> {
+    let depth = w.path.literals.len();
+    put_off(w, depth, None, What::Known(k))?;
+    let node = lemma_node(e, w, clause)?;
+    w.nodes.push_back(node)?;
+    go_on(e, w, k, 0)
+}
+
+/// Writes a literal of the root: what is given comes on its side.
 fn write_fact(
     e: &Engine<'_>,
-    w: &mut Writer<'_>,
+    w: &mut Writer,
     fact: Link,
     place: usize,
+    then: What,
 ) -> Result<(), AllocError> {
     write_shared(e, w, fact.reason, place)?;
-    let depth = w.path.literals.len();
-    let from = w.later.len();
-    let other = What::Close(fact.reason, place);
-    w.nodes.push(decides(e, fact.literal))?;
-    put_off(w, depth, Some(negated(fact.literal)), other)?;
-    if !is_positive(fact.literal) {
-        write_later(e, w, from)?;
-        walk_back(e.formula, &mut w.path, depth);
-    }
-    walk(e.formula, &mut w.path, fact.literal)
+    forced(e, w, fact, place, then)
 }
 
-/// Writes the needed ones of these literals of the root.
-fn write_facts(
-    e: &Engine<'_>,
-    w: &mut Writer<'_>,
-    from: usize,
-    to: usize,
-) -> Result<(), AllocError> {
+/// The first needed one of the literals of the root from a place on, up to another place.
+fn next_fact(w: &Writer, from: usize, to: usize) -> Option<usize> {
     for place in from..to {
-        if let (Some(fact), Some(true)) = (w.facts.get(place), w.needs.facts.get(place)) {
-            let fact = *fact;
-            write_fact(e, w, fact, place)?;
+        if let Some(true) = w.needs.facts.get(place) {
+            return Some(place);
         }
+    }
+    None
+}
+
+/// Writes a lemma if it is needed, and lets what is given come behind it. Of a lemma that is named once, only what its proof shares is
+/// written here.
+fn write_needed(
+    e: &Engine<'_>,
+    w: &mut Writer,
+    lemma: &Lemma,
+    k: usize,
+    then: What,
+) -> Result<(), AllocError> {
+    let depth = w.path.literals.len();
+    put_off(w, depth, None, then)?;
+    let times = times_named(&w.needs, k);
+    if times > 0 {
+        write_shares(e, w, lemma, k)?;
+    }
+    if times > 1 {
+        write_lemma(e, w, lemma.clause, k)?;
     }
     Ok(())
 }
 
-/// Writes what is needed, in the order in which it was learned. Of a lemma that is named once, only what its proof shares is written here.
-fn write_all(e: &Engine<'_>, w: &mut Writer<'_>) -> Result<(), AllocError> {
-    let mut from = 0;
-    for (k, lemma) in e.lemmas.all.iter().enumerate() {
-        write_facts(e, w, from, lemma.facts)?;
-        from = lemma.facts;
-        let times = times_named(&w.needs, k);
-        if times > 0 {
-            write_shares(e, w, lemma, k)?;
-        }
-        if times > 1 {
-            write_lemma(e, w, lemma, k)?;
+/// Writes what is needed next, from this lemma on and from this literal of the root on: the literals that were true at the root before
+/// the lemma was learned come before it. Behind all comes the end.
+fn root(e: &Engine<'_>, w: &mut Writer, k: usize, place: usize) -> Result<(), AllocError> {
+    let lemma = e.lemmas.all.get(k);
+    let to = match lemma {
+        Some(lemma) => lemma.facts,
+        None => w.facts.len(),
+    };
+    if let Some(at) = next_fact(w, place, to) {
+        if let Some(fact) = w.facts.get(at).copied() {
+            return write_fact(e, w, fact, at, What::Root(k, at.saturating_add(1)));
         }
     }
-    write_facts(e, w, from, w.facts.len())
+    match lemma {
+        Some(lemma) => write_needed(e, w, lemma, k, What::Root(k.saturating_add(1), to)),
+        None => {
+            let number = end_number(e, &w.facts, k);
+            close(e, w, w.end, number)
+        }
+    }
 }
 
-/// A writer at the root.
-fn new_writer<'a>(
-    e: &Engine<'_>,
-    facts: &'a [Link],
-    end: Reason,
-) -> Result<Writer<'a>, AllocError> {
+/// A writer at the root, before the first node of a certificate: of the literals that are true at the root, of the lemmas, and of the
+/// conflict there, what is needed is written.
+pub fn new_writer(e: &Engine<'_>, facts: Vec<Link>, end: Reason) -> Result<Writer, AllocError> {
     let mut deriver = new_deriver(e.alloc, &e.solved)?;
-    Ok(Writer {
+    let mut w = Writer {
+        needs: needs_of(e, &mut deriver, &facts, end)?,
         facts,
-        needs: needs_of(e, &mut deriver, facts, end)?,
-        nodes: Vec::new(e.alloc),
+        end,
+        nodes: VecDeque::new(e.alloc),
         later: Vec::new(e.alloc),
         path: new_path(e.alloc, e.trail.atoms.len())?,
         known: vec![in e.alloc; None; e.lemmas.all.len()]?,
         count: 0,
         deriver,
-    })
+    };
+    put_off(&mut w, 0, None, What::Root(0, 0))?;
+    Ok(w)
 }
 
-/// The nodes of the certificate: of the literals that are true at the root, of the lemmas, and of the conflict there, what is needed.
-pub fn write(e: &Engine<'_>, facts: &[Link], end: Reason) -> Result<Vec<Node>, AllocError> {
-    let mut w = new_writer(e, facts, end)?;
-    write_all(e, &mut w)?;
-    close(e, &mut w, end, end_number(e, facts, e.lemmas.all.len()))?;
-    write_later(e, &mut w, 0)?;
-    w.nodes.shrink_to_fit();
-    Ok(w.nodes)
+/// How many nodes there are at the most, and how often something is taken from what is to be written: for each literal of the root, each
+/// link of a lemma's proof, and the end of each proof, four.
+pub fn most(e: &Engine<'_>, w: &Writer) -> usize {
+    end_number(e, &w.facts, e.lemmas.all.len())
+        .saturating_add(1)
+        .saturating_mul(4)
+}
+
+/// The next node, if there is one.
+pub fn next_node(e: &Engine<'_>, w: &mut Writer) -> Result<Option<Node>, AllocError> {
+    for _ in 0..most(e, w) {
+        if let Some(node) = w.nodes.pop_front() {
+            return Ok(Some(node));
+        }
+        let Some(task) = w.later.pop() else {
+            return Ok(None);
+        };
+        write_next(e, w, task)?;
+    }
+    Ok(None)
 }

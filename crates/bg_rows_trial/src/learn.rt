@@ -1,4 +1,4 @@
-//! What is proposed for formulas made by hand: certificates, which the checker accepts, and values, which meet the clauses.
+//! What is proposed for formulas made by hand: certificates, which the checker accepts, kept or not, and values, which meet the clauses.
 
 use crate::made::{Given, Signed, formula};
 use crate::whole::is_whole;
@@ -6,7 +6,7 @@ use bg_cert::accepts;
 use bg_formula::{Clauses, Literal};
 use bg_learn::{Limits, Proposal, propose};
 use bg_point::Spot;
-use bg_search::search;
+use bg_search::{Aim, Searched, search};
 use bg_tree::{Budget, Outcome, Values, follow};
 use std::alloc::{AllocError, Global};
 use std::test::Fail;
@@ -30,19 +30,30 @@ fn meets_all(values: &[bool], clauses: &[Vec<Literal>]) -> bool {
     true
 }
 
-/// What is proposed: 'p' for a certificate that is accepted, 'v' for values that meet the clauses, 'n' for nothing; 'x' for a
-/// certificate that isn't accepted, 'w' for values that don't meet a clause.
-fn proposed(alloc: Global, f: &Clauses, set: &[bool], budget: usize) -> Result<char, AllocError> {
-    let limits = Limits {
-        nodes: budget,
-        rows: 1000,
+/// What is proposed: 'p' for a certificate that is accepted, 's' for one that isn't kept, 'v' for values that meet the clauses, 'n' for
+/// nothing; 'x' for a certificate that isn't accepted, 'w' for values that don't meet a clause.
+fn proposal(
+    alloc: Global,
+    f: &Clauses,
+    set: &[bool],
+    budget: usize,
+    keeps: bool,
+) -> Result<char, AllocError> {
+    let aim = bg_learn::Aim {
+        targets: &[],
+        limits: Limits {
+            nodes: budget,
+            rows: 1000,
+        },
+        keeps,
     };
-    match propose(alloc, f, set, &[], limits)? {
+    match propose(alloc, f, set, aim)? {
         Proposal::Proof(cert) => Ok(if accepts(alloc, f, set, &cert)? {
             'p'
         } else {
             'x'
         }),
+        Proposal::Shown => Ok('s'),
         Proposal::Values(values) => Ok(if meets_all(&values, &f.clauses) {
             'v'
         } else {
@@ -52,8 +63,25 @@ fn proposed(alloc: Global, f: &Clauses, set: &[bool], budget: usize) -> Result<c
     }
 }
 
+/// What is proposed where certificates are kept, and where they aren't.
+fn proposed(
+    alloc: Global,
+    f: &Clauses,
+    set: &[bool],
+    budget: usize,
+) -> Result<(char, char), AllocError> {
+    let kept = proposal(alloc, f, set, budget, true)?;
+    let shown = proposal(alloc, f, set, budget, false)?;
+    Ok((kept, shown))
+}
+
 /// What is proposed for rows, so many truth variables behind them, and clauses.
-fn told(alloc: Global, rows: &[Given], truths: u32, clauses: &[Signed]) -> Result<char, Fail> {
+fn told(
+    alloc: Global,
+    rows: &[Given],
+    truths: u32,
+    clauses: &[Signed],
+) -> Result<(char, char), Fail> {
     let f = formula(alloc, rows, truths, clauses)?;
     Ok(proposed(alloc, &f, &[], 1000)?)
 }
@@ -101,14 +129,20 @@ const WHOLE: &[Given] = &[
 /// Each of four atoms.
 const EACH: &[Signed] = &[&[(0, true)], &[(1, true)], &[(2, true)], &[(3, true)]];
 
+const CERTIFICATE: (char, char) = ('p', 's');
+
+const VALUES: (char, char) = ('v', 'v');
+
+const NOTHING: (char, char) = ('n', 'n');
+
 #[test]
 fn certificates_are_accepted_and_values_meet_the_clauses(rt: HostRuntime) -> Result<(), Fail> {
     let alloc = rt.alloc();
-    assert_eq!(rt; told(alloc, &[], 2, EITHER)?, 'v');
-    assert_eq!(rt; told(alloc, &[], 2, FOUR)?, 'p');
-    assert_eq!(rt; told(alloc, &[], 6, PIGEONS)?, 'p');
-    assert_eq!(rt; told(alloc, EQUAL, 0, EACH)?, 'p');
-    assert_eq!(rt; told(alloc, WHOLE, 0, EACH)?, 'v');
+    assert_eq!(rt; told(alloc, &[], 2, EITHER)?, VALUES);
+    assert_eq!(rt; told(alloc, &[], 2, FOUR)?, CERTIFICATE);
+    assert_eq!(rt; told(alloc, &[], 6, PIGEONS)?, CERTIFICATE);
+    assert_eq!(rt; told(alloc, EQUAL, 0, EACH)?, CERTIFICATE);
+    assert_eq!(rt; told(alloc, WHOLE, 0, EACH)?, VALUES);
     Ok(())
 }
 
@@ -117,24 +151,14 @@ fn members_are_units_and_a_budget_ends_the_search(rt: HostRuntime) -> Result<(),
     let alloc = rt.alloc();
     let mut f = formula(alloc, &[], 2, &[&[(0, false), (1, true)], &[(1, false)]])?;
     f.candidates.push(Some(0))?;
-    assert_eq!(rt; proposed(alloc, &f, &[true], 1000)?, 'p');
-    assert_eq!(rt; proposed(alloc, &f, &[false], 1000)?, 'v');
+    assert_eq!(rt; proposed(alloc, &f, &[true], 1000)?, CERTIFICATE);
+    assert_eq!(rt; proposed(alloc, &f, &[false], 1000)?, VALUES);
     let four = formula(alloc, &[], 2, FOUR)?;
-    assert_eq!(rt; proposed(alloc, &four, &[], 0)?, 'n');
+    assert_eq!(rt; proposed(alloc, &four, &[], 0)?, NOTHING);
     Ok(())
 }
 
-/// 'c' for a certificate, 'l' for a complete leaf, 'u' for unknown, 'n' for no answer.
-fn letter(found: Option<Outcome>) -> char {
-    match found {
-        Some(Outcome::Closed(_)) => 'c',
-        Some(Outcome::Leaf(_)) => 'l',
-        Some(Outcome::Unknown(_)) => 'u',
-        None => 'n',
-    }
-}
-
-/// Where a walk along these values of two variables ends, one of which is true.
+/// Where a walk along these values of two variables ends, one of which is true: 'l' at a complete leaf, 'n' at none, 'x' else.
 fn walked(alloc: Global, atoms: &[bool]) -> Result<char, Fail> {
     let f = formula(alloc, &[], 2, EITHER)?;
     let budget = Budget { nodes: 9, rows: 9 };
@@ -142,23 +166,48 @@ fn walked(alloc: Global, atoms: &[bool]) -> Result<char, Fail> {
     if !is_whole(&f) {
         return Ok('x');
     }
-    Ok(letter(follow(alloc, &f, &[], &[], budget, values)?))
+    match follow(alloc, &f, &[], &[], budget, values)? {
+        Some(Outcome::Leaf(_)) => Ok('l'),
+        Some(_) => Ok('x'),
+        None => Ok('n'),
+    }
 }
 
-/// What is found for rows, so many truth variables behind them, and clauses, within so many nodes.
+/// 'c' for a certificate, 's' for one that isn't kept, 'l' for a complete leaf, 'u' for unknown.
+fn letter(found: Searched) -> char {
+    match found {
+        Searched::Closed(Some(_)) => 'c',
+        Searched::Closed(None) => 's',
+        Searched::Leaf(_) => 'l',
+        Searched::Unknown(_) => 'u',
+    }
+}
+
+/// Within so many nodes, near no targets.
+fn untargeted(nodes: u32, keeps: bool) -> Aim<'static> {
+    Aim {
+        targets: &[],
+        budget: Budget { nodes, rows: 9 },
+        keeps,
+    }
+}
+
+/// What is found for rows, so many truth variables behind them, and clauses, within so many nodes; where certificates are kept, and where
+/// they aren't.
 fn found(
     alloc: Global,
     rows: &[Given],
     truths: u32,
     clauses: &[Signed],
     nodes: u32,
-) -> Result<char, Fail> {
+) -> Result<(char, char), Fail> {
     let f = formula(alloc, rows, truths, clauses)?;
-    let budget = Budget { nodes, rows: 9 };
     if !is_whole(&f) {
-        return Ok('x');
+        return Ok(('x', 'x'));
     }
-    Ok(letter(Some(search(alloc, &f, &[], &[], budget)?)))
+    let kept = search(alloc, &f, &[], untargeted(nodes, true))?;
+    let shown = search(alloc, &f, &[], untargeted(nodes, false))?;
+    Ok((letter(kept), letter(shown)))
 }
 
 #[test]
@@ -166,10 +215,10 @@ fn what_is_proposed_counts_where_it_holds(rt: HostRuntime) -> Result<(), Fail> {
     let alloc = rt.alloc();
     assert_eq!(rt; walked(alloc, &[false, true])?, 'l');
     assert_eq!(rt; walked(alloc, &[false, false])?, 'n');
-    assert_eq!(rt; found(alloc, &[], 2, EITHER, 9)?, 'l');
-    assert_eq!(rt; found(alloc, &[], 2, FOUR, 9)?, 'c');
-    assert_eq!(rt; found(alloc, &[], 2, FOUR, 1)?, 'u');
-    assert_eq!(rt; found(alloc, WHOLE, 0, EACH, 9)?, 'l');
+    assert_eq!(rt; found(alloc, &[], 2, EITHER, 9)?, ('l', 'l'));
+    assert_eq!(rt; found(alloc, &[], 2, FOUR, 9)?, ('c', 's'));
+    assert_eq!(rt; found(alloc, &[], 2, FOUR, 1)?, ('u', 'u'));
+    assert_eq!(rt; found(alloc, WHOLE, 0, EACH, 9)?, ('l', 'l'));
     Ok(())
 }
 
@@ -188,12 +237,16 @@ fn value_of(spots: &[Spot], x: u32) -> i128 {
 /// The values of two terms at the leaf that is found where both rows hold, near these targets.
 fn placed(alloc: Global, targets: &[i128]) -> Result<(i128, i128), Fail> {
     let f = formula(alloc, BELOW, 0, &[&[(0, true)], &[(1, true)]])?;
-    let budget = Budget { nodes: 9, rows: 9 };
+    let aim = Aim {
+        targets,
+        budget: Budget { nodes: 9, rows: 9 },
+        keeps: true,
+    };
     if !is_whole(&f) {
         return Err("an atom isn't there".into());
     }
-    match search(alloc, &f, &[], targets, budget)? {
-        Outcome::Leaf(leaf) => Ok((value_of(&leaf.spots, 0), value_of(&leaf.spots, 1))),
+    match search(alloc, &f, &[], aim)? {
+        Searched::Leaf(leaf) => Ok((value_of(&leaf.spots, 0), value_of(&leaf.spots, 1))),
         _ => Err("no leaf".into()),
     }
 }

@@ -3,4 +3,4 @@
 
 mod checked;
 
-pub use checked::search;
+pub use checked::{Aim, Searched, search};

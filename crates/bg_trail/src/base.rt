@@ -2,7 +2,7 @@
 //! efficient SAT solver, 2001). The lists of those that watch a literal are chained through the clauses, so that a watch moves without
 //! taking memory.
 
-use crate::span::{Span, items};
+use crate::span::{Span, items, span_of};
 use bg_simplex::Lit;
 use std::alloc::{AllocError, Global};
 
@@ -83,10 +83,7 @@ pub fn add_clause(base: &mut Base, literals: &[Lit]) -> Result<u32, AllocError> 
     let c = base.spans.len();
     let from = base.literals.len();
     base.literals.extend_from_slice(literals)?;
-    base.spans.push(Span {
-        from,
-        len: literals.len(),
-    })?;
+    base.spans.push(span_of(from, literals.len()))?;
     base.next.push(None)?;
     base.next.push(None)?;
     let c = u32::try_from(c).unwrap_or(u32::MAX);

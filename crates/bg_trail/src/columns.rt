@@ -2,7 +2,7 @@
 //! is a bound of its column, and its denial the opposite bound, one further.
 
 use crate::literals::{atom_of, is_positive};
-use crate::span::{Span, items};
+use crate::span::{Span, items, span_of};
 use bg_rows::{Entry, Row};
 use bg_simplex::{Lit, Simplex, new_column, new_line};
 use bg_solved::Reduced;
@@ -115,10 +115,7 @@ pub fn form_of(columns: &Columns, column: u32) -> &[Entry] {
 fn push_form(alloc: Global, columns: &mut Columns, form: &[Entry]) -> Result<(), AllocError> {
     let from = columns.entries.len();
     columns.entries.extend_from_slice(form)?;
-    columns.forms.push(Span {
-        from,
-        len: form.len(),
-    })?;
+    columns.forms.push(span_of(from, form.len()))?;
     columns.atoms.push(Vec::new(alloc))?;
     columns.open.push(0)?;
     columns.behind.push(None)?;

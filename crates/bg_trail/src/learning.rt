@@ -7,7 +7,7 @@ use crate::engine::{Desk, Engine, assign, go_back};
 use crate::lemmas::{Lemma, keep, push_link};
 use crate::literals::{atom_of, negated};
 use crate::reason::{Reason, reason_of};
-use crate::span::{Span, items};
+use crate::span::{Span, items, span_of};
 use crate::trail::{Trail, at_place, level_of};
 use bg_simplex::{Lit, Multiple};
 use std::alloc::AllocError;
@@ -111,7 +111,7 @@ fn keep_chain(e: &mut Engine<'_>, point: usize) -> Result<Span, AllocError> {
         }
     }
     let len = e.lemmas.chain.len().saturating_sub(from);
-    Ok(Span { from, len })
+    Ok(span_of(from, len))
 }
 
 /// The lemma's literals: the denials of the point, and of the noted ones below it, the last first.

@@ -26,13 +26,13 @@ pub use engine::{
     Counts, Desk, Engine, Limits, assign, decide, go_back, has_room, is_spent, new_engine,
 };
 pub use learning::learn;
-pub use lemmas::{Lemma, Lemmas, Link, keep};
+pub use lemmas::{Lemma, Lemmas, Link, Parts, keep, part_at};
 pub use literals::{atom_of, is_positive, literal, named, negated, numbered};
 pub use order::{Front, Searched, is_met, is_opening, is_reached, next_literal};
 pub use propagation::propagate;
 pub use reason::{Reason, Reasons, needed, reason_of, size_of, top_level};
 pub use seats::{reduced_of, row_atom, seat};
-pub use span::{Span, items};
+pub use span::{Span, begin_of, end_of, items, span_of};
 pub use table::Table;
 pub use trail::{Trail, at_place, is_false, is_open, is_true, place_of, start_of, truth};
 pub use unit::units;

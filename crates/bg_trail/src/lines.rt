@@ -4,7 +4,7 @@ use crate::columns::{Mark, count_marks, implied, mark_at, open_on};
 use crate::engine::{Engine, assign};
 use crate::literals::{literal, negated};
 use crate::reason::Reason;
-use crate::span::Span;
+use crate::span::span_of;
 use crate::trail::is_open;
 use bg_simplex::{Told, check, explain, tell};
 use std::alloc::AllocError;
@@ -17,7 +17,7 @@ pub fn clash(e: &mut Engine<'_>) -> Result<Option<Reason>, AllocError> {
     let from = e.reasons.parts.len();
     if check(e.alloc, &mut e.simplex, &mut e.reasons.parts)? {
         let len = e.reasons.parts.len().saturating_sub(from);
-        return Ok(Some(Reason::Rows(Span { from, len })));
+        return Ok(Some(Reason::Rows(span_of(from, len))));
     }
     Ok(None)
 }
@@ -32,7 +32,7 @@ fn spread_to(e: &mut Engine<'_>, told: Told, mark: Mark) -> Result<(), AllocErro
         let from = e.reasons.parts.len();
         if explain(&e.simplex, told, negated(p), &mut e.reasons.parts)? {
             let len = e.reasons.parts.len().saturating_sub(from);
-            assign(e, p, Reason::Rows(Span { from, len }));
+            assign(e, p, Reason::Rows(span_of(from, len)));
         }
     }
     Ok(())

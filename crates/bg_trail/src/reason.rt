@@ -2,7 +2,7 @@
 
 use crate::base::{Base, clause_at};
 use crate::literals::{atom_of, negated};
-use crate::span::{Span, items};
+use crate::span::{Span, count_of, items};
 use crate::trail::{Trail, level_of};
 use bg_simplex::{Lit, Multiple};
 use std::alloc::{AllocError, Global};
@@ -49,7 +49,7 @@ pub fn reason_of(reasons: &Reasons, l: Lit) -> Reason {
 pub fn size_of(base: &Base, r: Reason) -> usize {
     match r {
         Reason::Clause(c) => clause_at(base, c).len(),
-        Reason::Rows(span) => span.len,
+        Reason::Rows(span) => count_of(span),
         Reason::Both(_, _) => 2,
         Reason::Unit(_, _) => 1,
         Reason::Decision => 0,

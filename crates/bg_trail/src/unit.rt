@@ -5,7 +5,7 @@ use crate::base::{Base, link, unlink};
 use crate::engine::{Engine, assign};
 use crate::literals::negated;
 use crate::reason::Reason;
-use crate::span::{Span, end_of};
+use crate::span::{Span, begin_of, end_of};
 use crate::trail::{Trail, at_place, is_false, is_true};
 use bg_simplex::Lit;
 
@@ -31,7 +31,7 @@ fn exchange(literals: &mut [Lit], i: usize, j: usize) {
 
 /// A place of the clause, behind those of its watches, whose literal isn't false.
 fn another(base: &Base, trail: &Trail, span: Span) -> Option<usize> {
-    for j in span.from.saturating_add(2)..end_of(span) {
+    for j in begin_of(span).saturating_add(2)..end_of(span) {
         if let Some(l) = base.literals.get(j) {
             if !is_false(trail, *l) {
                 return Some(j);
@@ -47,11 +47,12 @@ fn look(base: &mut Base, trail: &Trail, watch: u32) -> Watched {
         return Watched::Stays;
     };
     let span = *span;
-    let second = span.from.saturating_add(1);
+    let first = begin_of(span);
+    let second = first.saturating_add(1);
     let (mine, other) = if watch & 1 == 0 {
-        (span.from, second)
+        (first, second)
     } else {
-        (second, span.from)
+        (second, first)
     };
     let Some(rest) = base.literals.get(other).copied() else {
         return Watched::Stays;
