@@ -125,6 +125,7 @@ module _ (placed_law : PlacedLaw) (inside_law : InsideLaw) (above_law : AboveLaw
         formula = h.formula;
         is = h.is;
         there = h.there;
+        agree = h.agree;
         accepted =
             above_law h.formula (has used) (has o.inferred.retained) (cert_of c) h.accepted
             (λ b u. sub b (inside_law h.formula (has used) (cert_of c) h.accepted b u));

@@ -12,6 +12,7 @@ pub mod Firsts
 pub mod Fronting
 pub mod Refutes
 pub mod Finishing
+pub mod Closing
 pub mod Placing
 pub mod Standing
 pub mod Over

@@ -13,7 +13,6 @@ use Rattle.bg_sense.specs.Clauses.{is_kept}
 use Rattle.bg_sense.proofs.Bools.{and_left, and_right}
 use Rattle.bg_sense.proofs.Members.{In, member}
 use Rattle.bg_places.specs.Placed.{Placed, place_in, placed_impl}
-use Rattle.bg_cert.specs.Certs.{cert_of}
 use Rattle.bg_cert.specs.Walks.{no_instance}
 use Rattle.bg_fits.specs.Valued.{is_over_values}
 use Rattle.bg_tree.specs.declared.outcome.Budget.{Budget}
@@ -66,7 +65,7 @@ module _ (functions : FunctionLaw) (bodies : BodyLaw) (safe : SafeLaw) (place : 
       let inside_it = subst (λ x. In (map place_in (placed_impl p.procedures k x)) u) is (subst (λ x. In (map place_in (placed_impl p.procedures x h.implementation)) u) number h.member) in
       let ordinary : u.candidate ≡ None → ⊥ = λ bare.
       let x = judged_place budget (meaning_of p) set js u right.right proved (subst (λ l. In (map place_in l) u) (sym right.places) (among_ordinary (placed_impl p.procedures k m) u bare inside_it)) in
-      no_failure functions bodies runs fits denies met (meaning_of p) t o certs used units named set set u x.lines x.cert x.certificate (λ n g. inside x.certificate.formula set no_instance (cert_of x.cert) x.certificate.accepted n g) i s choices fails in
+      no_failure functions bodies runs fits denies met (meaning_of p) t o certs used units named set set u x.lines x.cert x.certificate (λ n g. inside x.certificate.formula set no_instance x.cert x.certificate.accepted n g) i s choices fails in
       by_candidate u.candidate ordinary (λ b e. inductive u b c e (ap (is_kept set) (sym e) ∙ kept) i s choices fails))
     where
       there : (ms : List r.Impl) (j : ℕ) → slice_get ms j ≡ Some m → j < length ms

@@ -3,6 +3,7 @@ use Rattle.std.proofs.Common.{◌≡◌, ℕ, Bool, true, List, [], ◌∷◌, �
 use Rattle.bg_ast.specs.Syntax.{Prog}
 use Rattle.bg_ast.specs.Execution.{Place}
 use Rattle.bg_sense.proofs.Bools.{and_left, and_right}
+use Rattle.bg_cert.specs.Certs.{cert_of}
 use Rattle.bg_term_table.specs.Lines.{lines_of}
 use Rattle.bg_check.specs.declared.proof.Proof.{Proof}
 use Rattle.bg_check.specs.declared.verdict.Judged.{Judged}
@@ -11,7 +12,7 @@ use Rattle.bg_check.specs.Verdicts.{IsCertified, IsShown, has_all, have_all}
 -- what is shown is certified
 pub certified : (p : Prog) (set : ℕ → Bool) (t : Place) (o : Option Proof) → IsShown p set t o → IsCertified p set t
 certified p set t (Some proof) h =
-    record { lines = lines_of proof.lines.items; cert = proof.cert; certificate = h }
+    record { lines = lines_of proof.lines.items; cert = cert_of proof.cert; certificate = h }
 certified p set t None h = h
 
 -- one more verdict that has its certificate or its cause

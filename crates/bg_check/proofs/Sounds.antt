@@ -9,7 +9,7 @@ use Rattle.bg_ast.specs.Execution.{Interp, State, Choice, Place}
 use Rattle.bg_sense.specs.Claims.{Fails}
 use Rattle.bg_sense.proofs.Bools.{and_left, and_right}
 use Rattle.bg_places.specs.Placed.{placed_impl}
-use Rattle.bg_cert.specs.declared.cert.Cert.{Cert}
+use Rattle.bg_cert.specs.Certs.{CertOf}
 use Rattle.bg_tree.specs.declared.outcome.Budget.{Budget}
 use Rattle.bg_sound.specs.Told as t
 use Rattle.bg_sound.specs.Sound.{IsTrueAt, AreTrueAt, AreTrueFrom}
@@ -19,14 +19,14 @@ use Rattle.bg_check.specs.declared.verdict.Verdict.TheVariants.{Proved, Refuted,
 use Rattle.bg_check.specs.declared.verdict.Judged.{Judged}
 use Rattle.bg_check.specs.Verdicts.{IsRight, placed_at, AreRightAt, AreRightFrom, is_proved, are_proved, ProvedAreSafe}
 use Rattle.bg_numbered.specs.Lines.{Line}
-use Rattle.bg_task.specs.Certified.{HasCertificate}
+use Rattle.bg_task.specs.Certified.{HasCertificateOf}
 use Rattle.bg_check.specs.Outcomes.{verdict_of, told_one, is_ordinary, told}
 use Rattle.bg_check.proofs.Shown.{certified}
 
 -- what certificates give
 abbrev pub NoFailures : Prog → (ℕ → Bool) → Type 0
 NoFailures p set =
-    (t : Place) (lines : List Line) (cert : Cert) → HasCertificate p set t lines cert → (i : Interp) (s : State) (cs : List Choice) → Fails p set t i s cs → ⊥
+    (t : Place) (lines : List Line) (cert : CertOf) → HasCertificateOf p set t lines cert → (i : Interp) (s : State) (cs : List Choice) → Fails p set t i s cs → ⊥
 
 same_placed : (words : ℕ → Cause → t.Why) (js : List Judged) → map t.placed_at (map (told_one words) js) ≡ map placed_at js
 same_placed words [] = refl

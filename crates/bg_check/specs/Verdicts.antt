@@ -8,7 +8,7 @@ use Rattle.bg_ast.specs.Meaning.{meaning_of}
 use Rattle.bg_ast.specs.Execution.{Place}
 use Rattle.bg_sense.specs.Claims.{Safe, Fails}
 use Rattle.bg_sense.specs.Flow.{Failed}
-use Rattle.bg_cert.specs.declared.cert.Cert.{Cert}
+use Rattle.bg_cert.specs.Certs.{CertOf}
 use Rattle.bg_formula.specs.Formulas.{Formula}
 use Rattle.bg_tree.specs.declared.outcome.Budget.{Budget}
 use Rattle.bg_tree.specs.declared.outcome.Leaf.{Leaf}
@@ -31,7 +31,7 @@ use Rattle.bg_numbered.specs.Lines.{Line}
 use Rattle.bg_term_table.specs.Lines.{lines_of}
 use Rattle.bg_termed.specs.Lined.{lined_terms}
 use Rattle.bg_task.specs.Cuts.{HasOwnClauses}
-use Rattle.bg_task.specs.Certified.{HasCertificate, HasOutside}
+use Rattle.bg_task.specs.Certified.{HasCertificateOf, HasCertificate, HasOutside}
 use Rattle.bg_check.specs.LeafRuns.{targets_for, numbers_in, HasLeaf}
 use Rattle.bg_check.specs.Rounds.{brought, AreRounds}
 use Rattle.bg_check.specs.declared.proof.Proof.{Proof}
@@ -94,8 +94,8 @@ IsRefuted p set t cex =
 -- some certificate of the place's clauses behind lines
 pub record IsCertified (p : Prog) (set : ℕ → Bool) (t : Place) : Type 0 where
   pub lines : List Line
-  pub cert : Cert
-  pub certificate : HasCertificate p set t lines cert
+  pub cert : CertOf
+  pub certificate : HasCertificateOf p set t lines cert
 
 -- the kept certificate is one of the place's clauses behind its lines; where none is kept there is one
 abbrev pub IsShown : Prog → (ℕ → Bool) → Place → Option Proof → Type 0

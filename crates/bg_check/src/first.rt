@@ -14,11 +14,12 @@ ghost use Rattle.bg_task.specs.Prepared.{IsPrepared};
 ghost use Rattle.bg_check.specs.Verdicts.{IsRight, has_all};
 
 use crate::easy::easy_numbers;
+use crate::effort::Effort;
 use crate::found::Found;
 use crate::heeded::heed;
 use crate::leaf::scalars_of;
 use crate::place::search_place;
-use crate::proof::Proof;
+use crate::proof::proof_of;
 use crate::spoken::{claim_behind, hints_of, speaks_of_terms};
 use crate::verdict::Verdict;
 use bg_finish::{Finish, finish};
@@ -28,7 +29,6 @@ use bg_termed::laws::{
     blocks_behind_lines_stay_flat, built_values_are_typed, passive_blocks_have_terms,
     programs_over_values_are_tabled, types_over_values_are_indexed,
 };
-use bg_tree::Budget;
 use std::alloc::{AllocError, Global};
 
 /// How often lines are looked for, one behind the other, before anything is searched.
@@ -225,7 +225,7 @@ pub fn lines_first(
 pub fn first_try(
     alloc: Global,
     question: Question<'_, '_>,
-    budget: Budget,
+    effort: Effort,
     lines: Vec<Line>,
 ) -> Result<Option<Verdict>, AllocError>
     requires typed { IsTyped (meaning_of (program_of question.program.now)) }
@@ -233,13 +233,13 @@ pub fn first_try(
     requires prepared { IsPrepared (program_of question.program.now) question.place.now.implementation question.prepared.now }
     requires asked { IsAsked (meaning_of (program_of question.program.now)) (has question.set.now) (placed_of question.place.now).place }
     requires there { AreThere (program_of question.program.now) question.place.now.implementation question.prepared.now (lines_of lines.items) }
-    ensures whole { IfOk result (λ o. IfSome o (λ verdict. has_all verdict ≡ true)) }
-    ensures right { IfOk result (λ o. IfSome o (λ verdict. IsRight budget (meaning_of (program_of question.entry.program.now)) (has question.entry.set.now) (placed_of question.entry.place.now).place verdict)) }
+    ensures whole { IfOk result (λ o. IfSome o (λ verdict. effort.keeps ≡ true → has_all verdict ≡ true)) }
+    ensures right { IfOk result (λ o. IfSome o (λ verdict. IsRight effort.budget (meaning_of (program_of question.entry.program.now)) (has question.entry.set.now) (placed_of question.entry.place.now).place verdict)) }
 {
     let mut lines = lines;
     for _ in 0..MOST_SEARCHES {
-        match search_place(alloc, question, budget, &lines)? {
-            Found::Proved(cert) => return Ok(Some(Verdict::Proved(Some(Proof { lines, cert })))),
+        match search_place(alloc, question, effort, &lines)? {
+            Found::Proved(cert) => return Ok(Some(Verdict::Proved(proof_of(lines, cert)))),
             Found::Refuted(cex) => return Ok(Some(Verdict::Refuted(cex))),
             Found::Unknown(_) => return Ok(None),
             Found::Wanted(round) => push_all(&mut lines, &round.lines)?,

@@ -40,7 +40,7 @@ fn judge(
     ensures right { IfOk result (λ j. IsRight effort.budget (meaning_of (program_of question.entry.program.now)) (has question.entry.set.now) (placed_at j).place j.verdict) }
     ensures whole { IfOk result (λ j. effort.keeps ≡ true → has_all j.verdict ≡ true) }
 {
-    let verdict = check_place(alloc, question, effort.budget, tries)?;
+    let verdict = check_place(alloc, question, effort, tries)?;
     Ok(Judged {
         place: *question.place,
         verdict: kept_if(effort.keeps, verdict),

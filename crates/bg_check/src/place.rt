@@ -16,9 +16,10 @@ ghost use Rattle.bg_task.specs.Asked.{IsAsked};
 ghost use Rattle.bg_task.specs.Prepared.{IsPrepared};
 ghost use Rattle.bg_task.specs.Slices.{IsSliceFor};
 ghost use Rattle.bg_task.specs.Made.{ClausesOf};
-ghost use Rattle.bg_check.specs.Found.{IsFound};
+ghost use Rattle.bg_check.specs.Found.{IsFound, has_cert};
 
 use crate::attempt::attempt;
+use crate::effort::Effort;
 use crate::failing::{Met, failing};
 use crate::found::Found;
 use crate::leaf::{leaf_scalars, leaf_truths};
@@ -28,14 +29,14 @@ use crate::verdict::{Cause, Round};
 use bg_faithful::laws::clauses_of_encodings_are_whole;
 use bg_finish::{Finish, finish};
 use bg_formula::Clauses;
-use bg_search::search;
+use bg_search::{Aim, Searched, search};
 use bg_task::{Cut, Made, Question, cut_down, place_clauses, with_lines};
 use bg_term_table::{Around, Line};
 use bg_termed::laws::{
     blocks_behind_lines_stay_flat, built_values_are_typed, passive_blocks_have_terms,
     programs_over_values_are_tabled, types_over_values_are_indexed,
 };
-use bg_tree::{Budget, Leaf, Outcome};
+use bg_tree::Leaf;
 use std::alloc::{AllocError, Global};
 
 /// What a complete leaf of a place's clauses behind lines comes to.
@@ -55,7 +56,8 @@ fn leaf_found(
     requires there { AreThere (program_of question.program.now) question.place.now.implementation question.prepared.now (lines_of lines.now) }
     requires clauses { ClausesOf cut.now (placed_of question.place.now).place (formula_of f.now) }
     requires leaf { IsLeaf (target_of question.prepared.now.targets.items) (formula_of f.now) (has question.set.now) leaf }
-    ensures { IfOk result (λ found. (left : Budget) → IsFound left (meaning_of (program_of question.entry.program.now)) (has question.entry.set.now) (placed_of question.entry.place.now).place (lines_of lines.now) found) }
+    ensures kept { IfOk result (λ found. has_cert found ≡ true) }
+    ensures found { IfOk result (λ found. (left : Budget) → IsFound left (meaning_of (program_of question.entry.program.now)) (has question.entry.set.now) (placed_of question.entry.place.now).place (lines_of lines.now) found) }
 {
     programs_over_values_are_tabled();
     passive_blocks_have_terms();
@@ -106,11 +108,12 @@ fn leaf_found(
     }
 }
 
-/// What a search for a place finds that has these clauses behind lines, which name what is there, where so much of the budget is left.
+/// What a search for a place finds that has these clauses behind lines, which name what is there, where so much of the budget is left. What
+/// is proved has its certificate, where such are kept.
 fn clauses_found(
     alloc: Global,
     question: Question<'_, '_>,
-    left: Budget,
+    left: Effort,
     lines: &[Line],
     cut: &Cut<'_>,
     f: &Clauses,
@@ -122,22 +125,29 @@ fn clauses_found(
     requires there { AreThere (program_of question.program.now) question.place.now.implementation question.prepared.now (lines_of lines.now) }
     requires slice { IsSliceFor (program_of question.program.now) question.place.now.implementation question.prepared.now (lines_of lines.now) (spot_of question.place.now.spot) cut.now }
     requires clauses { ClausesOf cut.now (placed_of question.place.now).place (formula_of f.now) }
-    ensures { IfOk result (λ found. IsFound left (meaning_of (program_of question.entry.program.now)) (has question.entry.set.now) (placed_of question.entry.place.now).place (lines_of lines.now) found) }
+    ensures kept { IfOk result (λ found. left.keeps ≡ true → has_cert found ≡ true) }
+    ensures found { IfOk result (λ found. IsFound left.budget (meaning_of (program_of question.entry.program.now)) (has question.entry.set.now) (placed_of question.entry.place.now).place (lines_of lines.now) found) }
 {
     clauses_of_encodings_are_whole();
     let targets = &question.prepared.targets;
-    match search(alloc, f, question.set, targets, left)? {
-        Outcome::Closed(cert) => Ok(Found::Proved(cert)),
-        Outcome::Unknown(why) => Ok(Found::Unknown(Cause::Search(why))),
-        Outcome::Leaf(leaf) => leaf_found(alloc, question, cut, lines, f, leaf),
+    let aim = Aim {
+        targets,
+        budget: left.budget,
+        keeps: left.keeps,
+    };
+    match search(alloc, f, question.set, aim)? {
+        Searched::Closed(cert) => Ok(Found::Proved(cert)),
+        Searched::Unknown(why) => Ok(Found::Unknown(Cause::Search(why))),
+        Searched::Leaf(leaf) => leaf_found(alloc, question, cut, lines, f, leaf),
     }
 }
 
-/// What a search for a place finds behind lines that name what is there, where so much of the budget is left.
+/// What a search for a place finds behind lines that name what is there, where so much of the budget is left. What is proved has its
+/// certificate, where such are kept.
 pub fn search_place(
     alloc: Global,
     question: Question<'_, '_>,
-    left: Budget,
+    left: Effort,
     lines: &[Line],
 ) -> Result<Found, AllocError>
     requires typed { IsTyped (meaning_of (program_of question.program.now)) }
@@ -145,7 +155,8 @@ pub fn search_place(
     requires prepared { IsPrepared (program_of question.program.now) question.place.now.implementation question.prepared.now }
     requires asked { IsAsked (meaning_of (program_of question.program.now)) (has question.set.now) (placed_of question.place.now).place }
     requires there { AreThere (program_of question.program.now) question.place.now.implementation question.prepared.now (lines_of lines.now) }
-    ensures { IfOk result (λ found. IsFound left (meaning_of (program_of question.entry.program.now)) (has question.entry.set.now) (placed_of question.entry.place.now).place (lines_of lines.now) found) }
+    ensures kept { IfOk result (λ found. left.keeps ≡ true → has_cert found ≡ true) }
+    ensures found { IfOk result (λ found. IsFound left.budget (meaning_of (program_of question.entry.program.now)) (has question.entry.set.now) (placed_of question.entry.place.now).place (lines_of lines.now) found) }
 {
     let cut = cut_down(
         alloc,

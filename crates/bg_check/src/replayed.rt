@@ -11,7 +11,7 @@ ghost use Rattle.bg_check.specs.LeafRuns.{HasLeaf};
 ghost use Rattle.bg_task.specs.Prepared.{IsPrepared};
 ghost use Rattle.bg_numbered.specs.Lines.{Line};
 ghost use Rattle.bg_check.specs.Verdicts.{IsFailure, HasTypes};
-ghost use Rattle.bg_check.specs.Found.{IsFound};
+ghost use Rattle.bg_check.specs.Found.{IsFound, has_cert};
 
 use crate::dropping::used_up;
 use crate::found::Found;
@@ -35,7 +35,8 @@ pub fn replayed(
     requires prepared { IsPrepared (program_of question.program.now) question.place.now.implementation question.prepared.now }
     requires fails { IsFailure (meaning_of (program_of question.program.now)) (has question.set.now) (placed_of question.place.now).place cex }
     requires types { HasTypes cex }
-    ensures { IfOk result (λ found. (left : Budget) (lines : List Line) → HasLeaf (meaning_of (program_of question.entry.program.now)) (has question.entry.set.now) (placed_of question.entry.place.now).place lines cex → IsFound left (meaning_of (program_of question.entry.program.now)) (has question.entry.set.now) (placed_of question.entry.place.now).place lines found) }
+    ensures kept { IfOk result (λ found. has_cert found ≡ true) }
+    ensures found { IfOk result (λ found. (left : Budget) (lines : List Line) → HasLeaf (meaning_of (program_of question.entry.program.now)) (has question.entry.set.now) (placed_of question.entry.place.now).place lines cex → IsFound left (meaning_of (program_of question.entry.program.now)) (has question.entry.set.now) (placed_of question.entry.place.now).place lines found) }
 {
     blocks_are_typed();
     replays_are_induction_runs();

@@ -14,10 +14,11 @@ ghost use Rattle.bg_check.specs.Rounds.{IsRound};
 ghost use Rattle.bg_check.specs.Verdicts.{IsRight, has_all};
 ghost use Rattle.bg_check.specs.Stands.{IsMore};
 
+use crate::effort::Effort;
 use crate::first::{claim_speaks, first_try, lines_first, push_all};
 use crate::found::Found;
 use crate::place::search_place;
-use crate::proof::Proof;
+use crate::proof::proof_of;
 use crate::tries::{Tries, after, no_tries};
 use crate::verdict::{Cause, Round, Verdict};
 use bg_task::Question;
@@ -49,7 +50,7 @@ fn add(stand: &mut Stand, round: Round) -> Result<(), AllocError>
 fn tried(
     alloc: Global,
     question: Question<'_, '_>,
-    budget: Budget,
+    effort: Effort,
     lines: Vec<Line>,
     tries: &mut Tries,
 ) -> Result<Option<Verdict>, AllocError>
@@ -58,15 +59,15 @@ fn tried(
     requires prepared { IsPrepared (program_of question.program.now) question.place.now.implementation question.prepared.now }
     requires asked { IsAsked (meaning_of (program_of question.program.now)) (has question.set.now) (placed_of question.place.now).place }
     requires there { AreThere (program_of question.program.now) question.place.now.implementation question.prepared.now (lines_of lines.items) }
-    ensures whole { IfOk result (λ o. IfSome o (λ verdict. has_all verdict ≡ true)) }
-    ensures right { IfOk result (λ o. IfSome o (λ verdict. IsRight budget (meaning_of (program_of question.entry.program.now)) (has question.entry.set.now) (placed_of question.entry.place.now).place verdict)) }
+    ensures whole { IfOk result (λ o. IfSome o (λ verdict. effort.keeps ≡ true → has_all verdict ≡ true)) }
+    ensures right { IfOk result (λ o. IfSome o (λ verdict. IsRight effort.budget (meaning_of (program_of question.entry.program.now)) (has question.entry.set.now) (placed_of question.entry.place.now).place verdict)) }
 {
     let count = lines.len();
     let lines = lines_first(alloc, question, lines)?;
     if lines.len() <= count {
         return Ok(None);
     }
-    let made = first_try(alloc, question, budget, lines)?;
+    let made = first_try(alloc, question, effort, lines)?;
     *tries = after(*tries, made.is_some());
     Ok(made)
 }
@@ -75,7 +76,7 @@ fn tried(
 fn tried_behind(
     alloc: Global,
     question: Question<'_, '_>,
-    budget: Budget,
+    effort: Effort,
     round: &Round,
     tries: &mut Tries,
 ) -> Result<Option<Verdict>, AllocError>
@@ -84,12 +85,12 @@ fn tried_behind(
     requires prepared { IsPrepared (program_of question.program.now) question.place.now.implementation question.prepared.now }
     requires asked { IsAsked (meaning_of (program_of question.program.now)) (has question.set.now) (placed_of question.place.now).place }
     requires round { IsRound (meaning_of (program_of question.program.now)) (has question.set.now) (placed_of question.place.now).place [] round.now }
-    ensures whole { IfOk result (λ o. IfSome o (λ verdict. has_all verdict ≡ true)) }
-    ensures right { IfOk result (λ o. IfSome o (λ verdict. IsRight budget (meaning_of (program_of question.entry.program.now)) (has question.entry.set.now) (placed_of question.entry.place.now).place verdict)) }
+    ensures whole { IfOk result (λ o. IfSome o (λ verdict. effort.keeps ≡ true → has_all verdict ≡ true)) }
+    ensures right { IfOk result (λ o. IfSome o (λ verdict. IsRight effort.budget (meaning_of (program_of question.entry.program.now)) (has question.entry.set.now) (placed_of question.entry.place.now).place verdict)) }
 {
     let mut lines = Vec::new(alloc);
     push_all(&mut lines, &round.lines)?;
-    tried(alloc, question, budget, lines, tries)
+    tried(alloc, question, effort, lines, tries)
 }
 
 /// What is known of a place after rounds. At each complete leaf that isn't finished lines come in that are wanted there, and the search
@@ -98,30 +99,33 @@ fn tried_behind(
 fn in_rounds(
     alloc: Global,
     question: Question<'_, '_>,
-    budget: Budget,
+    effort: Effort,
     tries: &mut Tries,
 ) -> Result<Verdict, AllocError>
     requires typed { IsTyped (meaning_of (program_of question.program.now)) }
     requires scalars { is_over_values (meaning_of (program_of question.program.now)) ≡ true }
     requires prepared { IsPrepared (program_of question.program.now) question.place.now.implementation question.prepared.now }
     requires asked { IsAsked (meaning_of (program_of question.program.now)) (has question.set.now) (placed_of question.place.now).place }
-    ensures whole { IfOk result (λ verdict. has_all verdict ≡ true) }
-    ensures right { IfOk result (λ verdict. IsRight budget (meaning_of (program_of question.entry.program.now)) (has question.entry.set.now) (placed_of question.entry.place.now).place verdict) }
+    ensures whole { IfOk result (λ verdict. effort.keeps ≡ true → has_all verdict ≡ true) }
+    ensures right { IfOk result (λ verdict. IsRight effort.budget (meaning_of (program_of question.entry.program.now)) (has question.entry.set.now) (placed_of question.entry.place.now).place verdict) }
 {
     let mut stand = Stand {
         rounds: Vec::new(alloc),
         lines: Vec::new(alloc),
-        left: budget.nodes,
+        left: effort.budget.nodes,
     };
     loop {
-        let left = Budget {
-            nodes: stand.left,
-            rows: budget.rows,
+        let left = Effort {
+            budget: Budget {
+                nodes: stand.left,
+                rows: effort.budget.rows,
+            },
+            keeps: effort.keeps,
         };
         match search_place(alloc, question, left, &stand.lines)? {
             Found::Proved(cert) => {
                 let lines = stand.lines;
-                return Ok(Verdict::Proved(Some(Proof { lines, cert })));
+                return Ok(Verdict::Proved(proof_of(lines, cert)));
             }
             Found::Refuted(cex) => return Ok(Verdict::Refuted(cex)),
             Found::Unknown(cause) => return Ok(Verdict::Unknown(stand.rounds, cause)),
@@ -130,7 +134,7 @@ fn in_rounds(
                     return Ok(Verdict::Unknown(stand.rounds, Cause::Rounds));
                 }
                 if stand.lines.is_empty() && tries.left > 0 {
-                    if let Some(verdict) = tried_behind(alloc, question, budget, &round, tries)? {
+                    if let Some(verdict) = tried_behind(alloc, question, effort, &round, tries)? {
                         return Ok(verdict);
                     }
                 }
@@ -142,27 +146,28 @@ fn in_rounds(
 
 /// What is known of a place of a typed program over values, under a set of candidates that has the place's own, if it has one. Where first
 /// tries are worth while one is made, behind lines that may be wanted: at once, where the place's claim speaks of terms, or else where its
-/// first search wants lines. Where it tells nothing the place has its rounds. The verdict has its certificate or its cause.
+/// first search wants lines. Where it tells nothing the place has its rounds. The verdict has its certificate or its cause where such are
+/// kept.
 ///
 /// Only want of memory is an error; 2^32 atoms count as such.
 pub fn check_place(
     alloc: Global,
     question: Question<'_, '_>,
-    budget: Budget,
+    effort: Effort,
     tries: &mut Tries,
 ) -> Result<Verdict, AllocError>
     requires typed { IsTyped (meaning_of (program_of question.program.now)) }
     requires scalars { is_over_values (meaning_of (program_of question.program.now)) ≡ true }
     requires prepared { IsPrepared (program_of question.program.now) question.place.now.implementation question.prepared.now }
     requires asked { IsAsked (meaning_of (program_of question.program.now)) (has question.set.now) (placed_of question.place.now).place }
-    ensures whole { IfOk result (λ verdict. has_all verdict ≡ true) }
-    ensures right { IfOk result (λ verdict. IsRight budget (meaning_of (program_of question.entry.program.now)) (has question.entry.set.now) (placed_of question.entry.place.now).place verdict) }
+    ensures whole { IfOk result (λ verdict. effort.keeps ≡ true → has_all verdict ≡ true) }
+    ensures right { IfOk result (λ verdict. IsRight effort.budget (meaning_of (program_of question.entry.program.now)) (has question.entry.set.now) (placed_of question.entry.place.now).place verdict) }
 {
     if tries.left > 0 && claim_speaks(alloc, question)? {
-        if let Some(verdict) = tried(alloc, question, budget, Vec::new(alloc), tries)? {
+        if let Some(verdict) = tried(alloc, question, effort, Vec::new(alloc), tries)? {
             return Ok(verdict);
         }
-        return in_rounds(alloc, question, budget, &mut no_tries());
+        return in_rounds(alloc, question, effort, &mut no_tries());
     }
-    in_rounds(alloc, question, budget, tries)
+    in_rounds(alloc, question, effort, tries)
 }

@@ -36,6 +36,7 @@ passes_by keeps p k t set used proof kept there h shown whole exact =
                 formula = h.formula;
                 is = h.is;
                 there = h.there;
+                agree = h.agree;
                 accepted = certificate_above h.formula (has set) (has used) no_instance (cert_of proof.cert) h.accepted marked;
               });
         },

@@ -11,8 +11,7 @@ use Rattle.bg_sense.specs.Places.{places}
 use Rattle.bg_sense.proofs.Members.{contained}
 use Rattle.bg_words.specs.Sets.{Numbers, has, IsSubset}
 use Rattle.bg_core.specs.Inductive.{Candidates, Inductive}
-use Rattle.bg_cert.specs.declared.cert.Cert.{Cert}
-use Rattle.bg_cert.specs.Certs.{cert_of}
+use Rattle.bg_cert.specs.Certs.{CertOf, cert_of}
 use Rattle.bg_cert.specs.Walks.{no_instance}
 use Rattle.bg_cert.proofs.Uses.{certificate_lies_in, certificate_above}
 use Rattle.bg_tree.specs.declared.outcome.Budget.{Budget}
@@ -22,7 +21,7 @@ use Rattle.bg_rounds.proofs.Laws.{inductive, greatest, both_ways}
 use Rattle.bg_rounds.proofs.Lists.{has_below}
 use Rattle.bg_numbered.specs.Lines.{Line}
 use Rattle.bg_term_table.specs.Lines.{lines_of}
-use Rattle.bg_task.specs.Certified.{HasCertificate}
+use Rattle.bg_task.specs.Certified.{HasCertificateOf, HasCertificate}
 use Rattle.bg_check.specs.declared.proof.Proof.{Proof}
 use Rattle.bg_check.specs.Verdicts.{IsCertified, IsShown}
 use Rattle.bg_check.proofs.Shown.{certified}
@@ -80,14 +79,15 @@ module _ (keeps : Bool) (budget : Budget) (p : r.Program) (o : Outcome) (hold : 
 -- ---- each place of a retained candidate has a certificate under what is retained
 
 -- a certificate that uses members of a part is one under the whole
-under : (p : Prog) (used set : Numbers) (t : Place) (lines : List Line) (cert : Cert) → IsSubset used set → HasCertificate p (has used) t lines cert → HasCertificate p (has set) t lines cert
+under : (p : Prog) (used set : Numbers) (t : Place) (lines : List Line) (cert : CertOf) → IsSubset used set → HasCertificateOf p (has used) t lines cert → HasCertificateOf p (has set) t lines cert
 under p used set t lines cert sub h = record {
   formula = h.formula;
   is = h.is;
   there = h.there;
+  agree = h.agree;
   accepted =
-      certificate_above h.formula (has used) (has set) no_instance (cert_of cert) h.accepted
-      (λ x u. sub x (certificate_lies_in h.formula (has used) no_instance (cert_of cert) h.accepted x u));
+      certificate_above h.formula (has used) (has set) no_instance cert h.accepted
+      (λ x u. sub x (certificate_lies_in h.formula (has used) no_instance cert h.accepted x u));
 }
 
 -- what the outcome keeps of the task of the place
@@ -142,7 +142,7 @@ place_kept budget p o truth t b there is here = by w.kept.proof refl (w.whole re
     by (Some proof) e h = (
       proof,
       (w.number, w.kept, w.there, e),
-      under q w.kept.used o.inferred.retained t (lines_of proof.lines.items) proof.cert w.sub (subst (IsShown q (has w.kept.used) t) e w.shown),
+      under q w.kept.used o.inferred.retained t (lines_of proof.lines.items) (cert_of proof.cert) w.sub (subst (IsShown q (has w.kept.used) t) e w.shown),
     )
 
 -- the greatest set is one list

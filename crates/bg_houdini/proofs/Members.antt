@@ -10,8 +10,7 @@ use Rattle.bg_sense.specs.Places.{places}
 use Rattle.bg_sense.proofs.Members.{contained}
 use Rattle.bg_sense.proofs.Unions.{under_part}
 use Rattle.bg_core.specs.Inductive.{Candidates, Subset}
-use Rattle.bg_cert.specs.declared.cert.Cert.{Cert}
-use Rattle.bg_cert.specs.Certs.{cert_of, uses}
+use Rattle.bg_cert.specs.Certs.{CertOf, uses}
 use Rattle.bg_cert.specs.Walks.{no_instance}
 use Rattle.bg_cert.proofs.Uses.{certificate_lies_in}
 use Rattle.bg_tree.specs.declared.outcome.Budget.{Budget}
@@ -19,7 +18,7 @@ use Rattle.bg_numbered.specs.Lines.{Line}
 use Rattle.bg_model.specs.Interps.{interp_of}
 use Rattle.bg_scalar.specs.Choices.{choice_of, state_of}
 use Rattle.bg_scalar.specs.Views.{vals_in}
-use Rattle.bg_task.specs.Certified.{HasCertificate}
+use Rattle.bg_task.specs.Certified.{HasCertificateOf}
 use Rattle.bg_check.specs.declared.proof.Proof.{Proof}
 use Rattle.bg_check.proofs.Shown.{certified}
 use Rattle.bg_houdini.specs.declared.reason.Reason.{Reason}
@@ -33,7 +32,7 @@ use Rattle.bg_houdini.proofs.Tasks.{get_there, task_place, task_candidate}
 -- no induction run fails at a place under a set that has what a certificate of its clauses uses
 abbrev pub CertificatesHold : Prog → Type 0
 CertificatesHold p =
-    (set other : ℕ → Bool) (t : Place) (lines : List Line) (cert : Cert) → HasCertificate p set t lines cert → ((c : ℕ) → uses (cert_of cert).nodes c ≡ true → other c ≡ true) →
+    (set other : ℕ → Bool) (t : Place) (lines : List Line) (cert : CertOf) → HasCertificateOf p set t lines cert → ((c : ℕ) → uses cert.nodes c ≡ true → other c ≡ true) →
     (i : Interp) (s : State) (choices : List Choice) → Fails p other t i s choices → ⊥
 
 pub task_below : (p : Prog) → IsResolved p → (k : ℕ) → k < length (tasks_of p) → candidate_of p k < p.candidates
@@ -64,7 +63,7 @@ task_passing p hold k used set proof h within f =
     let same : f.task ≡ h.task = same_task p k f.task h.task f.is_there h.is_there in
     let run = subst (FailsAt p set) same f.so in
     let x = certified p used h.task proof h.so in
-    hold used set h.task x.lines x.cert x.certificate (λ c u. within c (certificate_lies_in x.certificate.formula used no_instance (cert_of x.cert) x.certificate.accepted c u)) run.interp run.state run.choices run.run
+    hold used set h.task x.lines x.cert x.certificate (λ c u. within c (certificate_lies_in x.certificate.formula used no_instance x.cert x.certificate.accepted c u)) run.interp run.state run.choices run.run
 
 pub task_failing : (budget : Budget) (p : Prog) (k : ℕ) (set : Candidates) (reason : Reason) → TaskFinds budget p k set false reason → TaskFails p k set
 task_failing budget p k set (Refuted cex) h =

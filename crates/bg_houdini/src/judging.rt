@@ -55,7 +55,11 @@ fn verdict_on(
         place,
         set: &desk.truths,
     };
-    check_place(alloc, question, judging.effort.budget, &mut no_tries())
+    let effort = Effort {
+        budget: judging.effort.budget,
+        keeps: true,
+    };
+    check_place(alloc, question, effort, &mut no_tries())
 }
 
 impl<'p> Checker<Option<Proof>, Reason, Desk> for Judging<'p> {

@@ -12,16 +12,14 @@ use Rattle.bg_passive.specs.Incarnations.{passive_scope}
 use Rattle.bg_block_types.specs.Typed.{arrivals_in, passives_in}
 use Rattle.bg_formula.specs.Formulas.{Formula}
 use Rattle.bg_formula.specs.Meaning.{Valuation, clauses_true, AtomsAgree}
-use Rattle.bg_cert.specs.declared.cert.Cert.{Cert}
-use Rattle.bg_cert.specs.Certs.{CertOf, Accepts, cert_of, uses}
-use Rattle.bg_cert.proofs.Sound.{table_agrees}
+use Rattle.bg_cert.specs.Certs.{CertOf, Accepts, uses}
 use Rattle.bg_cert.specs.Walks.{no_instance}
 use Rattle.bg_fits.specs.Valued.{is_over_values}
 use Rattle.bg_forms.specs.Worth.{bools_at}
 use Rattle.bg_clause.specs.Tables.{there_in}
 use Rattle.bg_numbered.specs.Lines.{Line}
 use Rattle.bg_termed.specs.Clauses.{HasClauses}
-use Rattle.bg_task.specs.Certified.{HasCertificate}
+use Rattle.bg_task.specs.Certified.{HasCertificateOf}
 use Rattle.bg_task.proofs.LawTypes.{FunctionLaw, BodyLaw, PassiveLaw, FitLaw, DenyLaw, MetLaw, CertLaw, UsedLaw, UnitAtomLaw, NamedUnitLaw}
 use Rattle.bg_task.proofs.Formulas.{plain_formula, plain_agree, meets_units}
 
@@ -50,6 +48,6 @@ module _ (functions : FunctionLaw) (bodies : BodyLaw) (runs : PassiveLaw) (fits 
         certs f set no_instance cert (plain_agree a.first a.rows f h.is_encoding.denials plain) agree (λ j cs g. absurd (let bad : ⊥ = cc in bad)) accepted
         v.0 v.1.0 met (λ j cs g. absurd (let bad : ⊥ = cc in bad))
 
-    pub no_failure : (set other : ℕ → Bool) (u : Place) (es : List Line) (cert : Cert) → HasCertificate p set u es cert → ((c : ℕ) → uses (cert_of cert).nodes c ≡ true → other c ≡ true) → (i : Interp) (s : State) (choices : List Choice) → Fails p other u i s choices → ⊥
+    pub no_failure : (set other : ℕ → Bool) (u : Place) (es : List Line) (cert : CertOf) → HasCertificateOf p set u es cert → ((c : ℕ) → uses cert.nodes c ≡ true → other c ≡ true) → (i : Interp) (s : State) (choices : List Choice) → Fails p other u i s choices → ⊥
     no_failure set other u es cert c us =
-        no_failure_of other u es c.formula c.is.clauses (cert_of cert) (table_agrees cert.table.items) (used c.formula set other no_instance (cert_of cert) c.accepted us)
+        no_failure_of other u es c.formula c.is.clauses cert c.agree (used c.formula set other no_instance cert c.accepted us)

@@ -5,8 +5,9 @@ use Rattle.bg_ast.specs.Syntax.{Proc, Impl, Prog}
 use Rattle.bg_ast.specs.Execution.{Place}
 use Rattle.bg_sense.specs.Variables.{procedure_of}
 use Rattle.bg_formula.specs.Formulas.{Formula}
+use Rattle.bg_formula.specs.Meaning.{AtomsAgree}
 use Rattle.bg_cert.specs.declared.cert.Cert.{Cert}
-use Rattle.bg_cert.specs.Certs.{Accepts, cert_of}
+use Rattle.bg_cert.specs.Certs.{CertOf, Accepts, cert_of}
 use Rattle.bg_cert.specs.Walks.{no_instance}
 use Rattle.bg_formed.specs.Used.{refused}
 use Rattle.bg_faithful.specs.Encoded.{Encoding}
@@ -15,13 +16,18 @@ use Rattle.bg_numbered.specs.Lines.{Line, are_there}
 use Rattle.bg_termed.specs.Termed.{terms_in}
 use Rattle.bg_task.specs.Cuts.{IsOwn, HasOwnClauses}
 
--- the place's clauses behind lines, which name what is there, have this certificate under a set of candidates
-pub record HasCertificate (p : Prog) (set : ℕ → Bool) (t : Place) (lines : List Line) (cert : Cert) : Type 0 where
+-- the place's clauses behind lines, which name what is there, have this certificate under a set of candidates; in its table each row
+-- stands with its denial
+pub record HasCertificateOf (p : Prog) (set : ℕ → Bool) (t : Place) (lines : List Line) (cert : CertOf) : Type 0 where
   pub formula : Formula
   pub is : HasOwnClauses p t lines formula
   pub there :
       are_there (incarnations_in p t.implementation is.clauses.implementation is.clauses.procedure) (terms_in p t.implementation is.clauses.implementation is.clauses.procedure) lines ≡ true
-  pub accepted : Accepts formula set no_instance (cert_of cert)
+  pub agree : AtomsAgree cert.table
+  pub accepted : Accepts formula set no_instance cert
+
+abbrev pub HasCertificate : Prog → (ℕ → Bool) → Place → List Line → Cert → Type 0
+HasCertificate p set t lines cert = HasCertificateOf p set t lines (cert_of cert)
 
 -- the place has no clauses behind these lines: an operation of a relation's linear form leaves the range, the first of those that
 -- count for the place

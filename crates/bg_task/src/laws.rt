@@ -5,9 +5,8 @@ ghost use Rattle.bg_ast.specs.Syntax.{Prog};
 ghost use Rattle.bg_ast.specs.Execution.{Interp, State, Choice, Place};
 ghost use Rattle.bg_sense.specs.Typed.{IsTyped};
 ghost use Rattle.bg_sense.specs.Claims.{Fails};
-ghost use Rattle.bg_cert.specs.declared.cert.Cert.{Cert};
 ghost use Rattle.bg_formula.specs.Meaning.{AtomsAgree};
-ghost use Rattle.bg_cert.specs.Certs.{CertOf, Accepts, cert_of, uses};
+ghost use Rattle.bg_cert.specs.Certs.{CertOf, Accepts, uses};
 ghost use Rattle.bg_cert.specs.Walks.{has, no_instance};
 ghost use Rattle.bg_fits.specs.Valued.{is_over_values};
 ghost use Rattle.bg_ast.specs.Values.{Ty};
@@ -18,7 +17,7 @@ ghost use Rattle.bg_formula.specs.Formulas.{Formula};
 ghost use Rattle.bg_task.specs.Cuts.{HasOwnClauses};
 ghost use Rattle.bg_task.specs.Ways.{LiesOnWay};
 ghost use Rattle.bg_task.specs.Targets.{targets_of};
-ghost use Rattle.bg_task.specs.Certified.{HasCertificate, HasOutside};
+ghost use Rattle.bg_task.specs.Certified.{HasCertificateOf, HasOutside};
 
 use bg_cert::laws::{accepted_has_no_valuation, accepted_where_used};
 use bg_clause::laws::atoms_of_clauses;
@@ -33,8 +32,8 @@ use bg_termed::laws::{
 
 /// A place whose clauses, behind whatever lines, have a certificate has no failing run, under any set that has what the certificate uses.
 pub fn proved_places_do_not_fail()
-    ensures { (p : Prog) (set other : ℕ → Bool) (t : Place) (lines : List Line) (cert : Cert) → IsTyped p → is_over_values p ≡ true →
-        HasCertificate p set t lines cert → ((c : ℕ) → uses (cert_of cert).nodes c ≡ true → other c ≡ true) →
+    ensures { (p : Prog) (set other : ℕ → Bool) (t : Place) (lines : List Line) (cert : CertOf) → IsTyped p → is_over_values p ≡ true →
+        HasCertificateOf p set t lines cert → ((c : ℕ) → uses cert.nodes c ≡ true → other c ≡ true) →
         (i : Interp) (s : State) (choices : List Choice) → Fails p other t i s choices → ⊥ }
 {
     typed_programs_have_typed_bodies();

@@ -71,12 +71,12 @@ replayed-requires-clause-fails c = c.in_ok-cex-in-Tables.ensures.1.0
 pub replayed-requires-clause-types : goal.replayed-requires-clause-types
 replayed-requires-clause-types c = c.in_ok-cex-in-Tables.ensures.1.1
 
-pub returns-in_ok-cex-in-Tables : goal.returns-in_ok-cex-in-Tables
-returns-in_ok-cex-in-Tables c =
-    IfOk-weaker c.replayed.result _ _ (λ x is. λ left. is left (lines_of c.args.lines.now) c.in_ok-cex-in-Tables.ensures.0) c.replayed.ensures
+pub returns-in_ok-cex-in-Tables-clause-found : goal.returns-in_ok-cex-in-Tables-clause-found
+returns-in_ok-cex-in-Tables-clause-found c =
+    IfOk-weaker c.replayed.result _ _ (λ x is. λ left. is left (lines_of c.args.lines.now) c.in_ok-cex-in-Tables.ensures.0) c.replayed.ensures.found
 
-pub returns-in-None : goal.returns-in-None
-returns-in-None c left =
+pub returns-in-None-clause-found : goal.returns-in-None-clause-found
+returns-in-None-clause-found c left =
     let p = program_of c.args.question.program.now in
     let n = c.args.question.place.now.implementation in
     let w = c.args.question.prepared.now in
@@ -93,8 +93,8 @@ returns-in-None c left =
     let is = clauses_here p n w h ls (spot_of c.args.question.place.now.spot) (option_of candidate_of c.args.question.place.now.candidate) c.args.cut.now f c.requires.slice c.requires.clauses in
     record { formula = f; is = is; is_leaf = subst (λ (zs : List ℤ). IsLeaf (target_of zs) f (has c.args.question.set.now) c.args.leaf) c.requires.prepared.targets c.requires.leaf; wanting = came }
 
-pub returns-in-Leaves : goal.returns-in-Leaves
-returns-in-Leaves c left =
+pub returns-in-Leaves-clause-found : goal.returns-in-Leaves-clause-found
+returns-in-Leaves-clause-found c left =
     let p = program_of c.args.question.program.now in
     let n = c.args.question.place.now.implementation in
     let w = c.args.question.prepared.now in
@@ -111,6 +111,6 @@ returns-in-Leaves c left =
     let is = clauses_here p n w h ls (spot_of c.args.question.place.now.spot) (option_of candidate_of c.args.question.place.now.candidate) c.args.cut.now f c.requires.slice c.requires.clauses in
     record { formula = f; is = is; is_leaf = subst (λ (zs : List ℤ). IsLeaf (target_of zs) f (has c.args.question.set.now) c.args.leaf) c.requires.prepared.targets c.requires.leaf; leaves = came }
 
-pub returns-in-Some : goal.returns-in-Some
-returns-in-Some c left =
+pub returns-in-Some-clause-found : goal.returns-in-Some-clause-found
+returns-in-Some-clause-found c left =
     subst (MayRefute (meaning_of (program_of c.args.question.program.now)) (has c.args.question.set.now) (placed_of c.args.question.place.now).place) c.in-Some.is c.in_ok-found-in-Lines.ensures

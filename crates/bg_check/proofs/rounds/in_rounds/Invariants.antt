@@ -6,7 +6,7 @@ use Rattle.bg_check.proofs.rounds.in_rounds.Given as goal
 
 abbrev pub invariant-loop-stand : goal.invariant-loop-stand
 invariant-loop-stand l =
-    StandsAt (program_of l.question.program.now) (has l.question.set.now) (placed_of l.question.place.now).place l.question.prepared.now l.budget l.stand
+    StandsAt (program_of l.question.program.now) (has l.question.set.now) (placed_of l.question.place.now).place l.question.prepared.now l.effort.budget l.stand
 
 abbrev pub decreases-loop-stand : goal.decreases-loop-stand
 decreases-loop-stand l = l.stand.left

@@ -48,6 +48,10 @@ check_place-requires-clause-asked c =
     task_asked (meaning_in j) (has c.deref.result.now) ts c.args.t.0 c.index-place.result.now c.requires.stands.resolved c.requires.stands.tasks_are at
     (subst (λ (s : List Bool). has s (candidate_of (meaning_in j) c.args.t.0) ≡ true) (sym same) c.requires.inside)
 
+pub returns-clause-whole : goal.returns-clause-whole
+returns-clause-whole c =
+    if_ok c.check_place.result (λ verdict whole. whole refl) c.check_place.ensures.whole
+
 pub returns-clause-right : goal.returns-clause-right
 returns-clause-right c =
     let j = c.args.judging.now in

@@ -3,7 +3,6 @@ use Rattle.bg_ast.specs.Syntax.{Prog}
 use Rattle.bg_ast.specs.Meaning.{meaning_of}
 use Rattle.bg_sense.specs.Typed.{IsTyped}
 use Rattle.bg_sense.specs.Resolved.{IsResolved}
-use Rattle.bg_cert.specs.Certs.{cert_of}
 use Rattle.bg_cert.specs.Walks.{no_instance}
 use Rattle.bg_fits.specs.Valued.{is_over_values}
 use Rattle.bg_sound.specs.Told as t
@@ -31,7 +30,7 @@ returns c = λ keeps budget p o words openable truth.
     let of_all = c.axioms_have_a_program.ensures.openable most_bodies P openable in
     let axioms = c.axioms_are_told.ensures most_bodies P truth.set (verdict_of words o.axioms) openable
     (true_at (axiom_program most_bodies P) truth.set budget words axiom_place
-    (λ es cert h i s cs f. c.proved_places_do_not_fail.ensures (axiom_program most_bodies P) truth.set truth.set axiom_place es cert (over.typed most_bodies (of_axioms P) of_all) (over.scalars most_bodies (of_axioms P) of_all) h (λ b u. c.accepted_where_used.ensures.inside h.formula truth.set no_instance (cert_of cert) h.accepted b u) i s cs f)
+    (λ es cert h i s cs f. c.proved_places_do_not_fail.ensures (axiom_program most_bodies P) truth.set truth.set axiom_place es cert (over.typed most_bodies (of_axioms P) of_all) (over.scalars most_bodies (of_axioms P) of_all) h (λ b u. c.accepted_where_used.ensures.inside h.formula truth.set no_instance cert h.accepted b u) i s cs f)
     o.axioms truth.axioms) in
     let sound : IsSound q (houdini.outcome_of words (meaning_of q) o.judged) = c.true_outcomes_are_sound.ensures keeps budget q o.judged words typed scalars resolved truth.judged in
     let carries : IsSound p (carried P (axioms_by (verdict_of words o.axioms)) (houdini.outcome_of words (meaning_of q) o.judged)) = c.reports_of_opened_programs_are_true.ensures most_bodies p (axioms_by (verdict_of words o.axioms)) (houdini.outcome_of words (meaning_of q) o.judged) openable axioms sound in
