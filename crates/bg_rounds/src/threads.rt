@@ -6,7 +6,7 @@ use crate::Checker;
 use crate::visiting::work;
 use crate::worker::{Round, Worker};
 use bg_claims::Gate;
-use std::thread;
+use bg_turns::for_each_mut;
 use std::thread::Threads;
 
 /// Each worker works in a thread of its own; all are joined.
@@ -25,10 +25,8 @@ pub fn work_all<
     requires works { All (Works (C.cands checker.now) (C.targets checker.now) (C.cand checker.now) (C.passes checker.now) (C.finds checker.now) round.now.claims.now round.now.shared.now) workers.old }
     ensures { All (Works (C.cands checker.now) (C.targets checker.now) (C.cand checker.now) (C.passes checker.now) (C.finds checker.now) round.now.claims.now round.now.shared.now) workers.new }
 {
-    thread::for_each_mut(
+    for_each_mut(
         rt,
-        workers,
-        16,
         &|_, w: &mut Worker<P, V, D>|
             requires stands { C.stands checker.now }
             requires cands { round.now.shared.now.cands ≡ C.cands checker.now }
@@ -38,5 +36,6 @@ pub fn work_all<
             ensures { Works (C.cands checker.entry.now) (C.targets checker.entry.now) (C.cand checker.entry.now) (C.passes checker.entry.now) (C.finds checker.entry.now)
                 round.entry.now.claims.now round.entry.now.shared.now w.exit.now }
         { work(checker, round, w) },
+        workers,
     );
 }
