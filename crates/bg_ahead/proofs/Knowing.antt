@@ -10,7 +10,8 @@ use Rattle.bg_formula.specs.declared.atom.Literal.{Literal}
 use Rattle.bg_formula.specs.declared.atom.Linear.{Linear}
 use Rattle.bg_formula.specs.Atoms.{AtomOf, IsTruth, IsRow, view_linear, row_eq}
 use Rattle.bg_atoms.specs.Literals.{literal_of}
-use Rattle.bg_atoms.specs.Tables.{literal_by, or_else, only_at}
+use Rattle.bg_atoms.specs.Tables.{literal_by, or_else, only_at, key_eq}
+use Rattle.bg_atoms.proofs.Keys.{key_eq_is}
 use Rattle.bg_ahead.proofs.Denials.{same_rows, row_itself}
 
 -- ---- keys tell rows
@@ -60,8 +61,8 @@ put_there k q l known h = by_test (is_eq (key_cmp q k)) refl
 turned : (k q : KeyOf) → is_eq (key_cmp k q) ≡ true → is_eq (key_cmp q k) ≡ true
 turned k q h = subst (λ z. is_eq (key_cmp z k) ≡ true) (key_is k q h) (key_same k)
 
-pub put_new : (k q : KeyOf) (l : Literal) (known : KeyOf → Option Literal) (new : Option Literal) → is_some (known k) ≡ false → new ≡ cond (is_eq (key_cmp k q)) (Some l) (known q) → new ≡ or_else (known q) (only_at k l q)
-put_new k q l known new h is = is ∙ by_test (is_eq (key_cmp k q)) refl (is_eq (key_cmp q k)) refl
+pub put_new : (k q : KeyOf) (l : Literal) (known : KeyOf → Option Literal) (new : Option Literal) → is_some (known k) ≡ false → new ≡ cond (key_eq k q) (Some l) (known q) → new ≡ or_else (known q) (only_at k l q)
+put_new k q l known new h is = is ∙ ap (λ b. cond b (Some l) (known q)) (key_eq_is k q) ∙ by_test (is_eq (key_cmp k q)) refl (is_eq (key_cmp q k)) refl
   where
     by_test : (b : Bool) → is_eq (key_cmp k q) ≡ b → (c : Bool) → is_eq (key_cmp q k) ≡ c → cond b (Some l) (known q) ≡ or_else (known q) (cond c (Some l) None)
     by_test true e true f = none_or (known q) (Some l) (subst (λ z. is_some (known z) ≡ false) (key_is k q e) h)

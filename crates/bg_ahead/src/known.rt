@@ -9,10 +9,10 @@ ghost use Rattle.bg_atoms.specs.Tables.{known_at, literal_by, IsPut};
 use bg_formula::{Linear, Literal};
 use bg_rows::{Key, key};
 use std::alloc::{AllocError, Global};
-use std::collections::BTreeMap;
+use std::collections::HashMap;
 
 /// Keeps a literal at a key, unless there is one.
-fn put(known: &mut BTreeMap<Key, Literal>, at: Key, l: Literal) -> Result<(), AllocError>
+fn put(known: &mut HashMap<Key, Literal>, at: Key, l: Literal) -> Result<(), AllocError>
     ensures { OnOk result (IsPut (at.0.items, at.1) l known.old known.new) }
 {
     if known.get(&at).is_some() {
@@ -38,10 +38,10 @@ pub fn known(
     alloc: Global,
     first: u32,
     rows: &[Linear],
-) -> Result<BTreeMap<Key, Literal>, AllocError>
+) -> Result<HashMap<Key, Literal>, AllocError>
     ensures { IfOk result (λ made. (k : Vec (ℕ × ℤ) Global × ℤ) → known_at made (k.0.items, k.1) ≡ literal_by (k.0.items, k.1) first (map view_linear rows.now)) }
 {
-    let mut made = BTreeMap::new(alloc);
+    let mut made = HashMap::new(alloc);
     let mut atom = first;
     for a in rows {
         put(&mut made, key(alloc, &a.row)?, Literal { atom, sign: true })?;
@@ -58,7 +58,7 @@ pub fn known(
 /// The literal of a row that is known.
 pub fn found(
     alloc: Global,
-    known: &BTreeMap<Key, Literal>,
+    known: &HashMap<Key, Literal>,
     a: &Linear,
 ) -> Result<Option<Literal>, AllocError>
     ensures { (n : ℕ) (rows : List AtomOf) → ((k : Vec (ℕ × ℤ) Global × ℤ) → known_at known.now (k.0.items, k.1) ≡ literal_by (k.0.items, k.1) n rows) → IfOk result (λ l. l ≡ literal_of (row_of a.now.row) n rows) }

@@ -1,4 +1,5 @@
 mod Equal
+pub mod Keys
 mod Lists
 mod Adding
 mod Tabled

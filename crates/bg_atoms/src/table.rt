@@ -13,17 +13,17 @@ use crate::named::sum;
 use bg_formula::{Linear, Literal};
 use bg_rows::{Key, key};
 use std::alloc::{AllocError, Global};
-use std::collections::BTreeMap;
+use std::collections::HashMap;
 
 /// Rows, of which row i is the atom so far behind the first one, and the literals of rows by their keys.
 #[derive(Drop)]
 pub struct Table {
     pub rows: Vec<Linear>,
-    pub known: BTreeMap<Key, Literal>,
+    pub known: HashMap<Key, Literal>,
 }
 
 /// Keeps a literal at a key, unless there is one.
-fn put(known: &mut BTreeMap<Key, Literal>, at: Key, l: Literal) -> Result<(), AllocError>
+fn put(known: &mut HashMap<Key, Literal>, at: Key, l: Literal) -> Result<(), AllocError>
     ensures { OnOk result (IsPut (at.0.items, at.1) l known.old known.new) }
 {
     if known.get(&at).is_some() {
@@ -34,7 +34,7 @@ fn put(known: &mut BTreeMap<Key, Literal>, at: Key, l: Literal) -> Result<(), Al
 }
 
 /// Keeps a literal at a key at which there is none.
-fn put_first(known: &mut BTreeMap<Key, Literal>, at: Key, l: Literal) -> Result<(), AllocError>
+fn put_first(known: &mut HashMap<Key, Literal>, at: Key, l: Literal) -> Result<(), AllocError>
     requires { known_at known.old (at.0.items, at.1) ≡ None }
     ensures { OnOk result (IsPut (at.0.items, at.1) l known.old known.new) }
 {
@@ -50,7 +50,7 @@ impl Table {
     {
         Table {
             rows: Vec::new(alloc),
-            known: BTreeMap::new(alloc),
+            known: HashMap::new(alloc),
         }
     }
 
