@@ -1,23 +1,23 @@
 -- Sets of candidates as lists of truth values.
-use Rattle.std.proofs.Common.{◌≡◌, ℕ, suc, ◌+◌, ◌<◌, ◌≤◌, Bool, true, false, if◌then◌else◌, ltb, [], ◌∷◌, ◌++◌, length, take, refl, sym, ap, ◌∙◌, subst, arith}
+use Rattle.std.proofs.Common.{◌*◌, ◌-◌, ◌%◌, ◌^◌, ◌⊎◌, inl, inr, min, drop, nat_eq, ◌≡◌, ℕ, suc, ◌+◌, ◌<◌, ◌≤◌, Bool, true, false, if◌then◌else◌, ltb, [], ◌∷◌, ◌++◌, length, take, refl, sym, ap, ◌∙◌, subst, arith}
 use Rattle.std.specs.Prelude.{slice_set}
-use Rattle.std.proofs.lemmas.Bool.{ltb-true, ltb-false}
-use Rattle.std.proofs.lemmas.List.{length-set, get_or-set_same, get_or-set_other}
+use Rattle.std.proofs.lemmas.Bool.{ltb-true, ltb-false, cases_lt}
+use Rattle.std.proofs.Math.Nat.{zero-div}
+use Rattle.std.proofs.lemmas.List.{length-take, length-drop, get_or-take, get_or-drop, length-set, get_or-set_same, get_or-set_other}
 use Rattle.std.proofs.Math.Seq.{take-suc}
-use Rattle.bg_words.specs.Sets.{Numbers, has, IsSubset}
-use Rattle.bg_words.proofs.Words.{same_set}
+use Rattle.bg_words.specs.Sets.{Numbers, has, IsSubset, bit, with_word}
+use Rattle.bg_words.proofs.Words.{same_set, length-with_word, with_word-here, with_word-other}
+use Rattle.bg_houdini.specs.Begun.{IsBegun}
+
+-- a word with no bits
+no_bit : (k : ℕ) → bit 0 k ≡ false
+no_bit k = ap (λ (x : ℕ). nat_eq (x % 2) 1) (zero-div (2 ^ k))
 
 -- one truth value more
 pub one_truth : (made set : Numbers) (c : ℕ) → made ≡ take c set → c < length set → made ++ (has set c ∷ []) ≡ take (c + 1) set
 one_truth made set c h l =
     let s : c + 1 ≡ suc c = omega arith in
     ap (λ xs. xs ++ (has set c ∷ [])) h ∙ (sym (take-suc set c false l) ∙ ap (λ (k : ℕ). take k set) (sym s))
-
--- the first c of n candidates are as the truth values say, and the others are there
-pub record IsBegun (n c : ℕ) (truths made : Numbers) : Type 0 where
-  pub count : length made ≡ n
-  pub done : (d : ℕ) → d < c → has made d ≡ has truths d
-  pub left : (d : ℕ) → c ≤ d → d < n → has made d ≡ true
 
 pub begun : (n : ℕ) (truths made : Numbers) → length made ≡ n → ((d : ℕ) → d < n → has made d ≡ true) → IsBegun n 0 truths made
 begun n truths made count full = record {
@@ -65,3 +65,29 @@ both_ways s t long f g = same_set s t long (λ d l. same_value (has s d) (has t 
 
 pub inside_same : (s t : Numbers) → s ≡ t → IsSubset s t
 inside_same s t e c h = subst (λ (x : Numbers). has x c ≡ true) e h
+
+-- where no truth value of a word is true, the word is put as a whole
+pub none_there : (n i from to : ℕ) (truths made new : Numbers) → from ≡ i * 64 → to ≡ min (i * 64 + 64) n → length truths ≡ n → IsBegun n (i * 64) truths made → new ≡ with_word made i 0 →
+    ((c : ℕ) → c < length (take (to - from) (drop from truths)) → has (take (to - from) (drop from truths)) c ≡ false) → IsBegun n (min (i * 64 + 64) n) truths new
+none_there n i from to truths made new at end long h is none = subst (IsBegun n (min (i * 64 + 64) n) truths) (sym is) (record {
+  count = length-with_word made i 0 ∙ h.count;
+  done = λ d l. by d l (cases_lt d (i * 64));
+  left = λ d l m. let k = h.count in with_word-other made i 0 d (omega (arith, k, m)) (λ e. omega (arith, e, l, m)) ∙ h.left d (omega (arith, l, m)) m;
+})
+  where
+    gone : (d : ℕ) → i * 64 ≤ d → d < to → has truths d ≡ false
+    gone d low l =
+        let j : ℕ = d - from in
+        let s : from + j ≡ d = omega (arith, at, low) in
+        let i1 : j < to - from = omega (arith, at, low, l) in
+        let a = length-take (to - from) (drop from truths) in
+        let b = length-drop from truths in
+        let t : to ≤ length truths = omega (arith, end, long) in
+        let inside : j < length (take (to - from) (drop from truths)) = omega (arith, a, b, i1, t) in
+        sym (get_or-take (to - from) (drop from truths) j false i1 ∙ (get_or-drop from truths j false ∙ ap (λ (k : ℕ). has truths k) s)) ∙ none j inside
+
+    by : (d : ℕ) → d < min (i * 64 + 64) n → (d < i * 64) ⊎ (i * 64 ≤ d) → has (with_word made i 0) d ≡ has truths d
+    by d l (inl low) = let k = h.count in with_word-other made i 0 d (omega (arith, k, l)) (λ e. omega (arith, e, low)) ∙ h.done d low
+    by d l (inr high) =
+        let k = h.count in
+        with_word-here made i 0 d (omega (arith, k, l)) (omega (arith, high, l)) ∙ (no_bit (d % 64) ∙ sym (gone d high (omega (arith, end, l))))

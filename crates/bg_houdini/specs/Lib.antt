@@ -5,3 +5,4 @@ pub mod Pieces
 pub mod Outcomes
 pub mod Told
 pub mod Known
+pub mod Begun

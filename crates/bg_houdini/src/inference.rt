@@ -16,13 +16,15 @@ use bg_check::Effort;
 use bg_claims::Gate;
 use bg_faithful::laws::tables_meet_programs_over_values;
 use std::alloc::{AllocError, Global};
+use std::mem::forget;
 use std::thread::Threads;
 
 /// The candidates of a typed program over truth values, whole numbers, elements of user types and functions on them without a body that
 /// hold together, inferred with `workers` workers in threads (C. Flanagan and K. R. M. Leino, Houdini, an annotation assistant for
 /// ESC/Java, FME 2001): checks of places with a candidate drop what isn't proved, until what is left proves itself. Then each ordinary
 /// place is checked under what is retained, in at most as many pieces as workers. In a search at most the budget's nodes count, and it
-/// keeps at most its rows. Where certificates and causes aren't kept each place's are dropped as soon as the place is done.
+/// keeps at most its rows. Where certificates and causes aren't kept each place's are dropped as soon as the place is done. What is made
+/// for the checks is left to the end of the process.
 ///
 /// Only want of memory is an error; 2^32 places with a candidate count as such, and so do 2^32 incarnations, atoms or branches of an
 /// implementation.
@@ -45,5 +47,6 @@ pub fn infer<R: Threads + Sync, G: Gate>(
     let checker = checker_of(rt, alloc, program, &callees, effort, workers)?;
     let inferred = bg_rounds::infer(rt, alloc, &checker, gate, workers)?;
     let verdicts = judge_all(rt, alloc, &checker, &inferred.retained, workers)?;
+    forget(checker);
     Ok(Outcome { inferred, verdicts })
 }

@@ -1,5 +1,7 @@
 //! Sets of candidates as lists of truth values, and back.
-ghost use Rattle.std.specs.Prelude.{◌≡◌, ◌<◌, false, if◌then◌else◌, length, slice_set, IfOk};
+ghost use Rattle.std.specs.Prelude.{◌≡◌, ◌<◌, ◌+◌, ◌*◌, ℕ, min, false, if◌then◌else◌, length, slice_set, IfOk, IsTrue};
+ghost use Rattle.bg_words.specs.Sets.{has, words_for};
+ghost use Rattle.bg_houdini.specs.Begun.{IsBegun};
 
 use bg_base::CandId;
 use bg_words::CandSet;
@@ -26,14 +28,45 @@ fn keep_where(set: &mut CandSet, c: CandId, keep: bool)
     }
 }
 
+/// Whether none of these truth values is true.
+fn none_of(truths: &[bool]) -> bool
+    ensures { IsTrue result → (c : ℕ) → c < length truths.now → has truths.now c ≡ false }
+{
+    for t in truths {
+        if *t {
+            return false;
+        }
+    }
+    true
+}
+
+/// The candidates of word `i` of a set are from now on as the truth values say; so far they are all there, and so are those behind them.
+/// Most sets have few candidates, and a word that has none is put as a whole.
+fn keep_word(set: &mut CandSet, truths: &[bool], i: u32)
+    requires long { length truths.now ≡ length set.old }
+    requires inside { i < words_for (length set.old) }
+    requires begun { IsBegun (length set.old) (i * 64) truths.now set.old }
+    ensures { IsBegun (length set.old) (min (i * 64 + 64) (length set.old)) truths.now set.new }
+{
+    let from = i as usize * 64;
+    let to = (set.declared() as usize).min(from + 64);
+    if none_of(&truths[from..to]) {
+        set.set_word(i, 0);
+        return;
+    }
+    for c in from..to {
+        keep_where(set, CandId(c as u32), truths[c]);
+    }
+}
+
 /// The set of the candidates whose truth value is true.
 pub fn set_of(alloc: Global, truths: &[bool], candidates: u32) -> Result<CandSet, AllocError>
     requires { length truths.now ≡ candidates }
     ensures { IfOk result (λ made. made ≡ truths.now) }
 {
     let mut made = CandSet::new(alloc, candidates, true)?;
-    for c in 0..candidates {
-        keep_where(&mut made, CandId(c), truths[c as usize]);
+    for i in 0..made.word_count() {
+        keep_word(&mut made, truths, i);
     }
     Ok(made)
 }
