@@ -5,7 +5,7 @@ use bg_simplex::Lit;
 use bg_solved::{Deriver, add_multiple, clear, reduced_row};
 use bg_trail::{
     Engine, Link, Reason, begin_of, clause_at, end_of, is_positive, items, negated, part_at,
-    place_of, reduced_of,
+    place_of, reduced_of, unpack,
 };
 use std::alloc::AllocError;
 
@@ -168,7 +168,7 @@ fn need_proof(
     let mut number = link_number(facts, begin_of(lemma.chain));
     for link in items(&e.lemmas.chain, lemma.chain) {
         let site = Site {
-            reason: link.reason,
+            reason: unpack(*link).reason,
             number,
             before: lemma.facts,
         };

@@ -11,7 +11,7 @@ use bg_rows::Step;
 use bg_simplex::Lit;
 use bg_solved::{Deriver, new_deriver};
 use bg_trail::{
-    Engine, Lemma, Link, Reason, atom_of, begin_of, clause_at, is_positive, items, negated,
+    Engine, Lemma, Link, Reason, atom_of, begin_of, clause_at, is_positive, items, negated, unpack,
 };
 use std::alloc::AllocError;
 use std::collections::VecDeque;
@@ -192,18 +192,19 @@ fn go_on(e: &Engine<'_>, w: &mut Writer, k: usize, at: usize) -> Result<(), Allo
         return Ok(());
     };
     let depth = w.path.literals.len();
-    let Some(link) = items(&e.lemmas.chain, lemma.chain).get(at) else {
+    let Some(link) = items(&e.lemmas.chain, lemma.chain).get(at).copied() else {
         let end = What::Close(lemma.end, end_number(e, &w.facts, k));
         return put_off(w, depth, None, end);
     };
     let number = link_number(&w.facts, begin_of(lemma.chain).saturating_add(at));
+    let link = unpack(link);
     let then = What::Chain(k, at.saturating_add(1));
     if is_decided(&w.path, link.literal) {
         put_off(w, depth, None, then)
     } else if is_decided(&w.path, negated(link.literal)) {
         put_off(w, depth, None, What::Close(link.reason, number))
     } else {
-        forced(e, w, *link, number, then)
+        forced(e, w, link, number, then)
     }
 }
 
@@ -272,7 +273,7 @@ fn write_shared(
 fn write_shares(e: &Engine<'_>, w: &mut Writer, lemma: &Lemma, k: usize) -> Result<(), AllocError> {
     let mut number = link_number(&w.facts, begin_of(lemma.chain));
     for link in items(&e.lemmas.chain, lemma.chain) {
-        write_shared(e, w, link.reason, number)?;
+        write_shared(e, w, unpack(*link).reason, number)?;
         number = number.saturating_add(1);
     }
     let number = end_number(e, &w.facts, k);

@@ -1,5 +1,6 @@
 //! What was learned, with its proofs: the events of which a certificate is written.
 
+use crate::packed::{Packed, pack};
 use crate::reason::Reason;
 use crate::span::{Span, items, span_of};
 use bg_simplex::{Lit, Multiple};
@@ -23,12 +24,12 @@ pub struct Lemma {
     pub end: Reason,
 }
 
-/// The rows that kept reasons add up: their literals; beside each how many times it is added, where 32 bits hold that; and the others by
+/// The rows that kept reasons add up: their literals; beside each how many times it is added, where 8 bits hold that; and the others by
 /// their places, where 0 stands for them.
 #[derive(Drop)]
 pub struct Parts {
     lits: Vec<Lit>,
-    times: Vec<i32>,
+    times: Vec<i8>,
     far: BTreeMap<usize, i128>,
 }
 
@@ -47,7 +48,7 @@ pub fn part_at(parts: &Parts, at: usize) -> Option<Multiple> {
 fn push_part(parts: &mut Parts, m: Multiple) -> Result<(), AllocError> {
     let at = parts.lits.len();
     parts.lits.push(m.lit)?;
-    match i32::try_from(m.times) {
+    match i8::try_from(m.times) {
         Ok(times) => parts.times.push(times)?,
         Err(_) => {
             parts.far.insert(at, m.times)?;
@@ -61,7 +62,7 @@ fn push_part(parts: &mut Parts, m: Multiple) -> Result<(), AllocError> {
 #[derive(Drop)]
 pub struct Lemmas {
     pub all: Vec<Lemma>,
-    pub chain: Vec<Link>,
+    pub chain: Vec<Packed>,
     pub parts: Parts,
 }
 
@@ -101,6 +102,6 @@ pub fn push_link(
     r: Reason,
 ) -> Result<(), AllocError> {
     let reason = keep(lemmas, parts, r)?;
-    lemmas.chain.push(Link { literal: l, reason })?;
+    lemmas.chain.push(pack(Link { literal: l, reason }))?;
     Ok(())
 }

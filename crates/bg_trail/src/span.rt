@@ -18,6 +18,16 @@ pub fn span_of(from: usize, len: usize) -> Span {
     }
 }
 
+/// The two numbers of a span: the place and how many.
+pub fn numbers_of(span: Span) -> (u32, u32) {
+    (span.from, span.len)
+}
+
+/// The span of these two numbers.
+pub fn span_from(from: u32, len: u32) -> Span {
+    Span { from, len }
+}
+
 /// The place of the first item.
 pub fn begin_of(span: Span) -> usize {
     span.from as usize
